@@ -1,0 +1,12 @@
+pub mod Comparing
+pub mod Complete
+pub mod Distinct
+pub mod Entries
+pub mod Faulting
+pub mod Finding
+pub mod Placing
+pub mod Putting
+pub mod Reading
+pub mod Sound
+pub mod Spots
+pub mod Walks

@@ -1,0 +1,9 @@
+pub mod Encodings
+pub mod Buckets
+pub mod Objects
+pub mod Formats
+pub mod Faults
+pub mod EncodingLaws
+pub mod Laws
+pub mod Decoded
+pub mod Spots

@@ -1,0 +1,104 @@
+//! A new object from an old one, with a pair put or taken away. Each is one allocation of the
+//! exact size, and every byte is copied once.
+ghost use Rattle.std.specs.Prelude.{◌≡◌, ◌-◌, ◌<◌, ◌≤◌, ◌++◌, length, take, drop, IfOk};
+ghost use Rattle.std.specs.Int.{w32, to_be_bytes};
+ghost use Rattle.std.specs.BTreeMap.{insert_entry};
+ghost use Rattle.far_object.specs.Buckets.{key_cmp};
+ghost use Rattle.far_object.specs.Objects.{cut, most_pairs};
+
+use crate::fault::Memory;
+use crate::keys::size;
+use crate::object::Object;
+use crate::object::locate::Spot;
+use crate::traits::FarObject;
+use std::alloc::Global;
+
+impl<K: FarObject, V: FarObject> Object<K, V> {
+    /// The object with this value at this key, in place of the value that was there. The object
+    /// must not be full (1,048,576 pairs). `Memory` comes where the new bytes are refused.
+    pub fn with(&self, alloc: Global, key: &K, value: &V) -> Result<Object<K, V>, Memory>
+        requires { length self.now < most_pairs }
+        ensures { IfOk result (λ o. o ≡ insert_entry (key_cmp K.enc) self.now key.now value.now) }
+    {
+        key.admitted();
+        value.admitted();
+        let bytes = self.as_bytes();
+        let count = self.count();
+        match self.locate(key) {
+            Spot::Gap(at) => {
+                let with = spliced(alloc, bytes, count + 1, at, at, key, value)?;
+                Ok(Object::behind(with, 0))
+            }
+            Spot::Here(start, _, end) => {
+                let with = spliced(alloc, bytes, count, start, end, key, value)?;
+                Ok(Object::behind(with, 0))
+            }
+        }
+    }
+
+    /// The object without this key; the same pairs where the key is not there. `Memory` comes where
+    /// the new bytes are refused.
+    pub fn without(&self, alloc: Global, key: &K) -> Result<Object<K, V>, Memory>
+        ensures { IfOk result (λ o. o ≡ cut (key_cmp K.enc) key.now self.now) }
+    {
+        let bytes = self.as_bytes();
+        let count = self.count();
+        match self.locate(key) {
+            Spot::Gap(_) => {
+                let same = Vec::from_slice(alloc, bytes)?;
+                Ok(Object::behind(same, 0))
+            }
+            Spot::Here(start, _, end) => {
+                let rest = without_part(alloc, bytes, count - 1, start, end)?;
+                Ok(Object::behind(rest, 0))
+            }
+        }
+    }
+}
+
+/// An object's bytes with this count, and with the pair in place of those from `start` to `end`.
+#[tactic(auto, using(std::proofs::lemmas::List::take_rest))]
+fn spliced<K: FarObject, V: FarObject>(
+    alloc: Global,
+    bytes: &[u8],
+    count: u32,
+    start: usize,
+    end: usize,
+    key: &K,
+    value: &V,
+) -> Result<Vec<u8>, Memory>
+    requires head { 4 ≤ start }
+    requires order { start ≤ end }
+    requires within { end ≤ length bytes.now }
+    ensures { IfOk result (λ v. v.items ≡ to_be_bytes w32 count ++ (take (start - 4) (drop 4 bytes.now) ++ (K.enc key.now ++ (V.enc value.now ++ drop end bytes.now)))) }
+{
+    let total = start + (bytes.len() - end) + size(key) + size(value);
+    let mut out = Vec::with_capacity(alloc, total)?;
+    out.extend_from_slice(&count.to_be_bytes())?;
+    out.extend_from_slice(&bytes[4..start])?;
+    key.encode(&mut out)?;
+    value.encode(&mut out)?;
+    out.extend_from_slice(&bytes[end..])?;
+    Ok(out)
+}
+
+/// An object's bytes with this count, and without those from `start` to `end`.
+#[tactic(auto, using(std::proofs::lemmas::List::take_rest))]
+fn without_part(
+    alloc: Global,
+    bytes: &[u8],
+    count: u32,
+    start: usize,
+    end: usize,
+) -> Result<Vec<u8>, Memory>
+    requires head { 4 ≤ start }
+    requires order { start ≤ end }
+    requires within { end ≤ length bytes.now }
+    ensures { IfOk result (λ v. v.items ≡ to_be_bytes w32 count ++ (take (start - 4) (drop 4 bytes.now) ++ drop end bytes.now)) }
+{
+    let mut out = Vec::with_capacity(alloc, start + (bytes.len() - end))?;
+    out.extend_from_slice(&count.to_be_bytes())?;
+    out.extend_from_slice(&bytes[4..start])?;
+    out.extend_from_slice(&bytes[end..])?;
+    Ok(out)
+}

@@ -1,0 +1,42 @@
+//! The pairs of an object as values.
+ghost use Rattle.std.specs.Prelude.{◌≡◌, ◌+◌, ◌≤◌, length, IfOk};
+ghost use Rattle.far_object.specs.Decoded.{BeginsWith};
+
+use crate::fault::Memory;
+use crate::object::Object;
+use crate::traits::FarObject;
+use std::alloc::Global;
+
+impl<K: FarObject, V: FarObject> Object<K, V> {
+    /// The pair that the bytes begin with, and how many bytes it takes.
+    fn decode_pair(alloc: Global, bytes: &[u8]) -> Result<((K, V), usize), Memory>
+        requires { (e : K × V) × BeginsWith K.enc V.enc K.admits V.admits bytes.now e }
+        ensures pair { IfOk result (λ p. (e : K × V) → BeginsWith K.enc V.enc K.admits V.admits bytes.now e → (p.0 ≡ e) × (p.1 ≡ length (K.enc e.0) + length (V.enc e.1))) }
+        ensures within { IfOk result (λ p. p.1 ≤ length bytes.now) }
+    {
+        match K::decode(alloc, bytes) {
+            Err(_) => Err(Memory),
+            Ok((key, own)) => match V::decode(alloc, &bytes[own..]) {
+                Err(_) => Err(Memory),
+                Ok((value, size)) => Ok(((key, value), own + size)),
+            },
+        }
+    }
+
+    /// The pairs, in rising order of their keys' encoded bytes. `Memory` comes where the list, a
+    /// key or a value is refused.
+    pub fn entries(&self, alloc: Global) -> Result<Vec<(K, V)>, Memory>
+        ensures { IfOk result (λ v. v.items ≡ self.now) }
+    {
+        let bytes = self.as_bytes();
+        let count = self.count();
+        let mut entries = Vec::with_capacity(alloc, count as usize)?;
+        let mut rest = &bytes[4..];
+        for _i in 0..count {
+            let (pair, size) = Object::<K, V>::decode_pair(alloc, rest)?;
+            entries.push(pair)?;
+            rest = &rest[size..];
+        }
+        Ok(entries)
+    }
+}
