@@ -1,0 +1,13 @@
+pub mod Maps
+pub mod Keys
+pub mod Logs
+pub mod Histories
+pub mod Comparing
+pub mod Places
+pub mod Belonging
+pub mod Standing
+pub mod Gathering
+pub mod Changing
+pub mod Judging
+pub mod Replaying
+pub mod Installing

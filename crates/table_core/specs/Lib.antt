@@ -1,0 +1,10 @@
+pub mod BucketWords
+pub mod Maps
+pub mod Logs
+pub mod Lawful
+pub mod Laws
+pub mod Machines
+pub mod Changes
+pub use Rattle.far_object.specs.Encodings
+pub use Rattle.far_object.specs.Buckets
+pub use Rattle.far_object.specs.Objects
