@@ -1,0 +1,7 @@
+pub mod Lines
+pub mod Spelling
+pub mod Parsing
+pub mod Looks
+pub mod Progress
+pub mod Unique
+pub mod Written

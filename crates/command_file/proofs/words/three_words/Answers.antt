@@ -1,0 +1,4 @@
+use Rattle.command_file.proofs.words.three_words.Goals as goal
+
+pub returns-in_err-first : goal.returns-in_err-first
+returns-in_err-first c = rw c.from_residual.ensures (c.in_err-first.ensures 1)

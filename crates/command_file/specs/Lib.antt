@@ -1,0 +1,6 @@
+pub mod Lines
+pub mod Grammar
+pub mod Files
+pub mod Laws
+pub mod Words
+pub mod Reading

@@ -1,0 +1,41 @@
+-- How a line is cut into words, and what the parts of the parser give.
+use Rattle.std.specs.Prelude.{◌≡◌, ℕ, ◌==◌, List, ◌∷◌, length, Result, Ok, Err}
+use Rattle.std.specs.List.{AllByRecursion, slice_split}
+use Rattle.command_file.specs.declared.command.Command.{Command}
+use Rattle.command_file.specs.declared.fault.LineFault.{LineFault}
+use Rattle.command_file.specs.declared.fault.LineFault.TheVariants.{Bad, Memory}
+use Rattle.command_file.specs.Grammar.{IsWord, name_of, arguments_of, Says}
+
+-- the parts between spaces
+abbrev pub words_in : List ℕ → List (List ℕ)
+words_in bytes = slice_split (λ byte. byte == 32) bytes
+
+-- they are n words
+pub record AreWords (n : ℕ) (words : List (List ℕ)) : Type 0 where
+  pub count : length words ≡ n
+  pub each : AllByRecursion IsWord words
+
+-- there are not n words; or there are, and there was no memory for them
+abbrev pub IsArgumentFault : ℕ → List (List ℕ) → LineFault → Type 0
+IsArgumentFault n words Bad = ¬ (AreWords n words)
+IsArgumentFault n words Memory = AreWords n words
+
+-- the texts are the words, of which there are to be n
+abbrev pub AreTextsOrFault : {T : Type 0} → ℕ → List (List ℕ) → Result T LineFault → (T → List (List ℕ)) → Type 0
+AreTextsOrFault n words (Ok texts) list = (words ≡ list texts) × AreWords n words
+AreTextsOrFault n words (Err fault) list = IsArgumentFault n words fault
+
+-- the words are those of the command
+pub record Reads (words : List (List ℕ)) (command : Command) : Type 0 where
+  pub same : words ≡ name_of command ∷ arguments_of command
+  pub each : AllByRecursion IsWord (arguments_of command)
+
+abbrev pub ParsesWords : List (List ℕ) → Result Command LineFault → Type 0
+ParsesWords words (Ok command) = Reads words command
+ParsesWords words (Err Bad) = (command : Command) → ¬ (Reads words command)
+ParsesWords words (Err Memory) = (command : Command) × Reads words command
+
+abbrev pub ParsesLine : List ℕ → Result Command LineFault → Type 0
+ParsesLine line (Ok command) = Says line command
+ParsesLine line (Err Bad) = (command : Command) → ¬ (Says line command)
+ParsesLine line (Err Memory) = (command : Command) × Says line command

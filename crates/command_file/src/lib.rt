@@ -1,0 +1,19 @@
+//! Files of commands on a table of texts: their grammar, a parser of lines, and a bounded reader of whole files.
+#![tactic(auto)]
+
+mod command;
+mod fault;
+mod file;
+mod laws;
+mod line;
+mod parse;
+mod words;
+
+pub use command::Command;
+pub use fault::{FileFault, LineFault};
+pub use file::read_file;
+pub use laws::{one_command, one_meaning, one_outcome, written_is_said};
+pub use parse::parse_line;
+
+#[cfg(test)]
+mod tests;
