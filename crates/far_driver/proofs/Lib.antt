@@ -1,0 +1,5 @@
+pub mod Going
+pub mod Running
+pub mod Writing
+pub mod Ending
+pub mod Numbers

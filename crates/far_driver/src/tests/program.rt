@@ -1,0 +1,174 @@
+//! The program's words, the texts of its faults, and its statuses.
+use super::inputs::FailingWriter;
+use super::runtime::InputAlone;
+use crate::program::run_program;
+use std::alloc::{AllocError, Global};
+use std::fs;
+use std::process::Abort;
+use std::rt::Files;
+use std::test::Fail;
+
+fn owned_words(alloc: Global, words: &[&str]) -> Result<Vec<String>, AllocError> {
+    let mut owned = Vec::new(alloc);
+    for word in words {
+        owned.push(String::from_str(alloc, word)?)?;
+    }
+    Ok(owned)
+}
+
+/// Runs the program on the words, and checks its status and what it writes.
+fn assert_ends<R>(
+    handle: &impl Abort,
+    rt: &R,
+    words: &[&str],
+    status: u8,
+    out_wanted: &str,
+    err_wanted: &str,
+) -> Result<(), Fail>
+where
+    R: Files + Input + AllocGlobal,
+{
+    let words = owned_words(rt.alloc(), words)?;
+    let mut out = Vec::new(rt.alloc());
+    let mut err = Vec::new(rt.alloc());
+    let ended = run_program(rt, words.as_slice(), &mut out, &mut err);
+    assert_eq!(handle; ended, status);
+    assert!(handle; out.as_slice() == out_wanted.as_bytes());
+    assert!(handle; err.as_slice() == err_wanted.as_bytes());
+    Ok(())
+}
+
+#[test]
+fn wrong_words(rt: HostRuntime) -> Result<(), Fail> {
+    let rows: [&[&str]; 8] = [
+        &[],
+        &["4", "2", "4096"],
+        &["4", "2", "4096", "-", "-"],
+        &["00000004", "2", "4096", "-"],
+        &["4", "2", "x", "-"],
+        &["+4", "2", "4096", "-"],
+        &["", "2", "4096", "-"],
+        &["4", "2", "", "-"],
+    ];
+    for words in &rows {
+        let usage = "usage: fartable BUCKETS FRAMES LIMIT FILE...\n";
+        assert_ends(&rt, &rt, words, 2, "", usage)?;
+    }
+    Ok(())
+}
+
+#[test]
+fn wrong_settings(rt: HostRuntime) -> Result<(), Fail> {
+    fs::write(&rt, "settings", "get a")?;
+    assert_ends(
+        &rt,
+        &rt,
+        &["0", "2", "4096", "settings"],
+        2,
+        "",
+        "bad config 1\n",
+    )?;
+    assert_ends(
+        &rt,
+        &rt,
+        &["4", "0", "4096", "settings"],
+        2,
+        "",
+        "bad config 2\n",
+    )?;
+    assert_ends(
+        &rt,
+        &rt,
+        &["4", "2", "3", "settings"],
+        2,
+        "",
+        "bad config 3\n",
+    )?;
+    Ok(())
+}
+
+#[test]
+fn absent_files(rt: HostRuntime) -> Result<(), Fail> {
+    assert_ends(
+        &rt,
+        &rt,
+        &["4", "2", "4096", "absent"],
+        1,
+        "",
+        "file 1: cannot open\n",
+    )?;
+    assert_ends(
+        &rt,
+        &rt,
+        &["0", "2", "4096", "absent"],
+        1,
+        "",
+        "file 1: cannot open\n",
+    )?;
+    assert_ends(
+        &rt,
+        &rt,
+        &["4", "2", "4096", ""],
+        1,
+        "",
+        "file 1: cannot open\n",
+    )?;
+    Ok(())
+}
+
+#[test]
+fn files(rt: HostRuntime) -> Result<(), Fail> {
+    fs::write(&rt, "good", "put a 1\nget a\n")?;
+    fs::write(&rt, "bad", "put a 1\nput a\n")?;
+    let out = "file 1\nnone\n1\ncontents\na 1\n";
+    assert_ends(&rt, &rt, &["4", "2", "4096", "good"], 0, out, "")?;
+    assert_ends(&rt, &rt, &["0000004", "02", "4096", "good"], 0, out, "")?;
+    assert_ends(
+        &rt,
+        &rt,
+        &["4", "2", "4096", "bad"],
+        2,
+        "",
+        "file 1 line 2: bad command\n",
+    )?;
+    Ok(())
+}
+
+#[test]
+fn failing_writers(rt: HostRuntime) -> Result<(), Fail> {
+    fs::write(&rt, "written", "put a 1\n")?;
+    let words = owned_words(rt.alloc(), &["4", "2", "4096", "written"])?;
+    let mut err = Vec::new(rt.alloc());
+    let mut out = FailingWriter::at_write(2);
+    let ended = run_program(&rt, words.as_slice(), &mut out, &mut err);
+    assert_eq!(&rt; ended, 1);
+    assert!(&rt; err.as_slice() == b"write failed\n".as_slice());
+    let mut silent = FailingWriter::at_write(1);
+    let ended = run_program(&rt, &[], &mut out, &mut silent);
+    assert_eq!(&rt; ended, 2);
+    assert!(&rt; silent.has_failed());
+    Ok(())
+}
+
+#[test]
+fn standard_input(rt: HostRuntime) -> Result<(), Fail> {
+    let alone = InputAlone {
+        alloc: rt.alloc(),
+        bytes: b"put a 1\nget a",
+        failing: 255,
+    };
+    let out = "file 1\nnone\n1\ncontents\na 1\n";
+    assert_ends(&rt, &alone, &["4", "2", "4096", "-"], 0, out, "")?;
+    for failing in 0..3 {
+        let alone = InputAlone { failing, ..alone };
+        assert_ends(
+            &rt,
+            &alone,
+            &["4", "2", "4096", "-"],
+            1,
+            "",
+            "file 1: read failed\n",
+        )?;
+    }
+    Ok(())
+}

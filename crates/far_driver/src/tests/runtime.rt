@@ -1,0 +1,89 @@
+//! A runtime without files, whose standard input is in memory and may fail.
+use super::inputs::Faltering;
+use std::alloc::{Alloc, Allocator, Global};
+use std::fs::{File, Metadata, OpenOptions};
+use std::io;
+use std::io::{BufRead, ErrorKind, Lines};
+use std::rt::Files;
+
+/// Standard input has these bytes, and the look at it with the number `failing`, counted from 0, fails.
+#[derive(Clone, Copy)]
+pub struct InputAlone {
+    pub alloc: Global,
+    pub bytes: &'static [u8],
+    pub failing: u8,
+}
+
+fn unsupported() -> io::Error {
+    io::Error::from(ErrorKind::Unsupported)
+}
+
+impl Alloc for InputAlone {
+    type A = Global;
+
+    fn alloc(&self) -> Global {
+        self.alloc
+    }
+}
+
+impl Input for InputAlone {
+    type Reader = Faltering<'static>;
+
+    fn read_line<A: Allocator + Clone>(&self, buf: &mut String<A>) -> io::Result<usize> {
+        self.reader().read_line(buf)
+    }
+
+    fn lines<A: Allocator>(&self, alloc: A) -> Lines<Faltering<'static>, A> {
+        self.reader().lines(alloc)
+    }
+
+    fn reader(&self) -> Faltering<'static> {
+        Faltering::new(self.bytes, self.failing)
+    }
+}
+
+impl Files for InputAlone {
+    type File = File;
+
+    type Dir = File;
+
+    fn open_file(&self, _how: &OpenOptions, _path: &str) -> io::Result<File> {
+        Err(unsupported())
+    }
+
+    fn open_dir(&self, _path: &str) -> io::Result<File> {
+        Err(unsupported())
+    }
+
+    fn metadata(&self, _path: &str) -> io::Result<Metadata> {
+        Err(unsupported())
+    }
+
+    fn symlink_metadata(&self, _path: &str) -> io::Result<Metadata> {
+        Err(unsupported())
+    }
+
+    fn copy(&self, _from: &str, _to: &str) -> io::Result<u64> {
+        Err(unsupported())
+    }
+
+    fn rename(&self, _from: &str, _to: &str) -> io::Result<()> {
+        Err(unsupported())
+    }
+
+    fn remove_file(&self, _path: &str) -> io::Result<()> {
+        Err(unsupported())
+    }
+
+    fn create_dir(&self, _path: &str) -> io::Result<()> {
+        Err(unsupported())
+    }
+
+    fn remove_dir(&self, _path: &str) -> io::Result<()> {
+        Err(unsupported())
+    }
+
+    fn remove_dir_all<B: Allocator>(&self, _alloc: B, _path: &str) -> io::Result<()> {
+        Err(unsupported())
+    }
+}
