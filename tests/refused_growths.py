@@ -68,12 +68,12 @@ def judge(commands, status, out, err):
     return said, (status, err) == (0, "")
 
 
-def run(program, library, commands, refused):
+def run(program, library, arguments, lines, refused):
     """Runs the program with this growth refused, and gives its status, output, error text and number of requests."""
     with tempfile.NamedTemporaryFile("r") as growths:
         settings = {"LD_PRELOAD": library, "REFUSED": refused, "GROWTHS": growths.name}
-        text = "".join(f"{command}\n" for command in commands)
-        ran = subprocess.run([program, *SETTINGS], input=text.encode(), capture_output=True, timeout=60, env=settings)
+        text = "".join(f"{line}\n" for line in lines)
+        ran = subprocess.run([program, *arguments], input=text.encode(), capture_output=True, timeout=60, env=settings)
         requests = re.fullmatch(r"(\d+)\n", growths.read())
     out, err = (it.decode("ascii", "replace") for it in (ran.stdout, ran.stderr))
     return ran.returncode, out, err, int(requests[1]) if requests else None
@@ -84,7 +84,7 @@ def sweep(program, library, lines, ends):
     commands = [line for line in lines if line]
     wrong = 0
     for runs in range(1, MOST_RUNS + 1):
-        status, out, err, requests = run(program, library, lines, f"{runs}{ends}")
+        status, out, err, requests = run(program, library, SETTINGS, lines, f"{runs}{ends}")
         if requests is not None and requests < runs:
             said, passes = judge(commands, status, out, err)
             is_whole = passes and said == "replied memory: none"

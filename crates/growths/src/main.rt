@@ -1,0 +1,18 @@
+//! Makes each public call that can answer want of memory, and prints what it answered, a line for each. A call that
+//! answers want of memory is made once more, and it is looked at whether what should stand does.
+//!
+//! `tests/refused_growths.sh` runs this with each of its growths refused in turn.
+#![tactic(auto)]
+
+mod devices;
+mod machines;
+mod objects;
+mod outcome;
+
+use std::io;
+
+fn main(rt: HostRuntime) -> io::Result<()> {
+    objects::tell_all(&rt)?;
+    devices::tell_all(&rt)?;
+    machines::tell_all(&rt)
+}

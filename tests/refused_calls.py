@@ -1,0 +1,69 @@
+"""Runs the program growths with each of its growths refused in turn: refused_calls.py PROGRAM LIBRARY.
+
+LIBRARY is refuse_growth.c, built. The program makes each public call of the libraries that can answer want of memory, and
+prints a line for it. With no growth refused each line is `CALL: ok`. With one refused, one line says something else:
+`memory, then ok`, where the growth was that call's, what should stand stood, and the same call made again did what it
+should; or `not prepared`, where it was a growth of what the call works on. Every call but those that take no memory is
+refused each of its growths.
+"""
+import collections
+import os
+import sys
+
+from refused_growths import MOST_RUNS, run
+
+# The calls that take no memory. For the devices that wrap another no clause says so.
+WITHOUT_GROWTH = {"Machine::enter", "Machine::move_to"} | {
+    f"{device}Device::{call}"
+    for device in ("Fake", "Faulty", "Lying", "Canned", "Watched")
+    for call in ("remove", "construct")
+}
+TOLD = ("memory, then ok", "not prepared")
+
+
+def told(ran):
+    """Gives what a run printed of each call, or nothing where it did not end well."""
+    status, out, err, requests = ran
+    lines = [line.rpartition(": ") for line in out.splitlines()]
+    is_well = (status, err) == (0, "") and requests is not None and out.endswith("\n")
+    return {call: said for call, _, said in lines} if is_well else {}
+
+
+def sweep(program, library):
+    """Refuses each growth in turn, and gives the growths of each call, those of preparations, and the faulty runs."""
+    whole = run(program, library, [], [], "")
+    names, growths = told(whole), whole[3]
+    growths_of, preparations, wrong = collections.Counter(), 0, []
+    if not names or set(names.values()) != {"ok"} or growths >= MOST_RUNS:
+        return growths_of, 0, [f"none refused: {whole}"]
+    for number in range(1, growths + 1):
+        ran = run(program, library, [], [], str(number))
+        lines = told(ran)
+        others = [(call, said) for call, said in lines.items() if said != "ok"]
+        if list(lines) != list(names) or len(others) != 1 or others[0][1] not in TOLD:
+            wrong.append(f"{number}: {others or ran}")
+        elif others[0][1] == "not prepared":
+            preparations += 1
+        else:
+            growths_of[others[0][0]] += 1
+    for call in names:
+        if (growths_of[call] == 0) != (call in WITHOUT_GROWTH):
+            wrong.append(f"{call} was refused {growths_of[call]} growths")
+    return {call: growths_of[call] for call in names}, preparations, wrong
+
+
+def main(program, library):
+    growths_of, preparations, wrong = sweep(program, library)
+    print("== each call, and how many growths of it were refused, one at a time")
+    for call, count in growths_of.items():
+        print(f"{call}: {count}")
+    for fault in wrong:
+        print(f"WRONG: {fault}")
+    refused = sum(count > 0 for count in growths_of.values())
+    print(f"{sum(growths_of.values())} growths of {refused} calls refused, {len(growths_of) - refused} calls make none; "
+          f"{preparations} more refused before a call; {len(wrong)} wrong")
+    sys.exit(1 if wrong else 0)
+
+
+if __name__ == "__main__":
+    main(*map(os.path.abspath, sys.argv[1:]))
