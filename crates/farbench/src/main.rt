@@ -2,20 +2,26 @@
 #![tactic(auto)]
 
 mod replay;
+mod words;
 
 use anyhow::{Result, bail};
+use std::alloc::Global;
 use std::env;
+use std::rt::{Clock, Env};
+use std::thread::Threads;
 
-fn run(rt: &HostRuntime) -> Result<()> {
+fn run<R: Alloc<A = Global> + Clock + Env + Print + Threads + Sync>(rt: &R) -> Result<()> {
     let mut words = env::args(rt)?.skip(1);
     let (Some(layer), Some(count)) = (words.next(), words.next()) else {
         println!(rt; "usage: farbench replay EVENTS")?;
+        println!(rt; "       farbench words THREADS ROUNDS")?;
         return Ok(());
     };
     let count = count.as_str().parse::<u32>()?;
-    match layer.as_str() {
-        "replay" => replay::measure(rt, count),
-        _ => bail!("no such layer: {layer}"),
+    match (layer.as_str(), words.next()) {
+        ("replay", None) => replay::measure(rt, count),
+        ("words", Some(rounds)) => words::measure(rt, count, rounds.as_str().parse::<u32>()?),
+        _ => bail!("no such benchmark: without arguments their usage is printed"),
     }
 }
 

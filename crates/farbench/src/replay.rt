@@ -2,6 +2,7 @@
 
 use anyhow::{Result, bail};
 use std::alloc::{AllocError, Global};
+use std::rt::Clock;
 use std::time::Instant;
 use table_core::word::pack;
 use table_core::{Event, Machine, Operation, Pairs};
@@ -33,7 +34,7 @@ fn log(alloc: Global, count: u32) -> Result<Vec<Event<u64, u64>>, AllocError> {
 }
 
 /// Replays a log of at most this many events, and prints the time that each takes.
-pub fn measure(rt: &HostRuntime, count: u32) -> Result<()> {
+pub fn measure<R: Alloc<A = Global> + Clock + Print>(rt: &R, count: u32) -> Result<()> {
     let events = log(rt.alloc(), count)?;
     let start = Instant::now(rt)?;
     let machine = Machine::replay(rt.alloc(), KEYS, events.as_slice());

@@ -1,0 +1,115 @@
+//! Several threads at the same kind of call, from about the same moment on.
+
+use anyhow::{Result, bail};
+use std::hint::spin_loop;
+use std::rt::Clock;
+use std::sync::atomic::{AtomicU64, Ordering};
+use std::thread::{Threads, map_vec};
+use std::time::Instant;
+
+/// How often a thread looks whether the others are there before it begins without them.
+const LONGEST_WAIT: u32 = 1_000_000_000;
+
+/// How many rounds were lost: at the name, and at the word itself.
+#[derive(Clone, Copy)]
+pub struct Lost {
+    pub names: u64,
+    pub words: u64,
+}
+
+impl Lost {
+    pub const NONE: Lost = Lost { names: 0, words: 0 };
+}
+
+/// What a thread does with what all threads share.
+pub trait Runner<S> {
+    /// Makes a call this many times.
+    fn run(&mut self, shared: &S, rounds: u32) -> Lost;
+}
+
+/// How long the threads took, one after another added up, and what they lost.
+#[derive(Clone, Copy)]
+pub struct Took {
+    pub nanoseconds: u64,
+    pub lost: Lost,
+}
+
+impl Took {
+    const NOTHING: Took = Took {
+        nanoseconds: 0,
+        lost: Lost::NONE,
+    };
+
+    fn and(self, other: Took) -> Took {
+        Took {
+            nanoseconds: self.nanoseconds.wrapping_add(other.nanoseconds),
+            lost: Lost {
+                names: self.lost.names.wrapping_add(other.lost.names),
+                words: self.lost.words.wrapping_add(other.lost.words),
+            },
+        }
+    }
+}
+
+/// Where threads wait for one another, so that none has the words for itself while others are being started. They don't
+/// yield meanwhile: one that is put to sleep here would begin too late.
+#[derive(Drop)]
+struct Gate {
+    threads: u64,
+    arrived: AtomicU64,
+}
+
+impl Gate {
+    fn pass(&self) {
+        self.arrived.fetch_add(1, Ordering::SeqCst);
+        for _ in 0..LONGEST_WAIT {
+            if self.arrived.load(Ordering::SeqCst) >= self.threads {
+                return;
+            }
+            spin_loop();
+        }
+    }
+}
+
+/// The rounds of one thread, with the clock read right before and right after them.
+fn timed<R: Clock, S, T: Runner<S> + Drop>(
+    rt: &R,
+    gate: &Gate,
+    shared: &S,
+    mut runner: T,
+    rounds: u32,
+) -> Option<Took> {
+    gate.pass();
+    let start = Instant::now(rt).ok()?;
+    let lost = runner.run(shared, rounds);
+    let elapsed = start.elapsed(rt).ok()?;
+    let nanoseconds = u64::try_from(elapsed.as_nanos()).ok()?;
+    Some(Took { nanoseconds, lost })
+}
+
+/// Runs each in a thread of its own.
+pub fn together<R: Clock + Threads + Sync, S: Sync, T: Runner<S> + Send + Drop>(
+    rt: &R,
+    shared: &S,
+    runners: Vec<T>,
+    rounds: u32,
+) -> Result<Took> {
+    let gate = Gate {
+        threads: runners.len() as u64,
+        arrived: AtomicU64::new(0),
+    };
+    let gate = &gate;
+    let each = map_vec(
+        rt,
+        runners,
+        &|runner| timed(rt, gate, shared, runner, rounds),
+    )?;
+    let mut all = Took::NOTHING;
+    for took in &each {
+        let Some(took) = took else {
+            bail!("the clock can't be read");
+        };
+        all = all.and(*took);
+    }
+    Ok(all)
+}

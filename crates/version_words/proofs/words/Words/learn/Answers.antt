@@ -1,0 +1,16 @@
+use Rattle.std.proofs.Common.{ap}
+use Rattle.version_words.proofs.Calling.{still_pass, pass_goes}
+use Rattle.version_words.proofs.Fronts.{prefix_trans}
+use Rattle.version_words.proofs.words.Words.learn.Goals as goal
+
+pub invariant_of-pass : goal.invariant_of-pass
+invariant_of-pass g c =
+    let e = c.look_at.ensures in
+    let grows = prefix_trans c.pass.inside.mark c.learn.new.self c.look_at.new.mark c.learn.ensures.own e.grows in
+    still_pass g.J.Naming.names c.pass.inside.mark c.look_at.new.mark c.pass.inside.number c.pass.inside.tally.board c.look_at.new.pass.board c.pass.inside.tally.slot c.look_at.new.pass.slot c.pass.invariant grows e.boards.0 (ap (λ s. s.held) e.slots.0) (ap (λ s. s.key) e.slots.0) e.counts.0
+
+pub returns-clause-pass : goal.returns-clause-pass
+returns-clause-pass g c =
+    let e = c.look_at.ensures in
+    let grows = prefix_trans c.pass.inside.mark c.learn.new.self c.look_at.new.mark c.learn.ensures.own e.grows in
+    rw (← c.pass.view_is) (pass_goes g.J.Naming.names c.pass.inside.mark c.look_at.new.mark c.pass.inside.number c.pass.inside.tally.board c.pass.inside.tally.slot c.look_at.new.pass.slot c.pass.invariant grows e.slots.0 e.counts.0)

@@ -1,0 +1,9 @@
+pub mod Boards
+pub mod Tallies
+pub mod Rows
+pub mod Views
+pub mod Shuts
+pub mod Faults
+pub mod Laws
+pub use Rattle.table_core.specs.Logs
+pub use Rattle.table_core.specs.Lawful
