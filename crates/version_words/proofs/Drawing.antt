@@ -1,5 +1,5 @@
 -- What a draw of a pass or of a name tells.
-use Rattle.std.proofs.Common.{◌≡◌, ◌≢◌, ℕ, ◌+◌, ◌-◌, ◌<◌, ◌≤◌, ◌==◌, ◌^◌, true, List, [], ◌∷◌, ◌++◌, Option, Some, None, refl, ap, sym, ◌∙◌, arith}
+use Rattle.std.proofs.Common.{◌≡◌, ◌≢◌, ℕ, ◌+◌, ◌-◌, ◌<◌, ◌≤◌, ◌==◌, ◌^◌, true, List, [], ◌∷◌, ◌++◌, Option, Some, None, ap, sym, ◌∙◌, arith}
 use Rattle.std.proofs.lemmas.Bool.Decides.{nat_tests}
 use Rattle.std.specs.Option.{option_map}
 use mathlib.Core.List.{IsPrefix}
@@ -12,15 +12,15 @@ use Rattle.table_core.specs.Lawful.{IsLawful}
 use Rattle.table_core.proofs.Logs.{names-append, naming-append, word-more, words_below, within}
 use Rattle.version_words.specs.Boards.{Slot, opens_at, after, board_at}
 use Rattle.version_words.specs.Rows.{value_of, IsAdded}
-use Rattle.version_words.specs.Views.{HasMorePasses, HasMoreNames, WasSeen, name_of_parts, IsName, IsRight}
+use Rattle.version_words.specs.Views.{WasSeen, name_of_parts, IsName, IsRight}
 use Rattle.version_words.proofs.Fronts.{value_names, value_passes, names_grow, passes_grow, lawful_before, lawful_prefix, seen_below, naming_none}
 
 module _ {K V : Type 0} (ek : K → List ℕ) (ev : V → List ℕ) (l : Limits) where
-  pub more_passes : (seen log : List (Event K V)) (drawn : ℕ) → drawn ≡ value_of ek ev l seen (l.buckets + 1) → IsPrefix seen log → value_of ek ev l log (l.buckets + 1) ≢ drawn → HasMorePasses [] log
+  pub more_passes : (seen log : List (Event K V)) (drawn : ℕ) → drawn ≡ value_of ek ev l seen (l.buckets + 1) → IsPrefix seen log → value_of ek ev l log (l.buckets + 1) ≢ drawn → 0 < passes_of log
   more_passes seen log drawn is pre other =
       let moved : passes_of log ≢ drawn = λ e. other (value_passes ek ev l log ∙ e) in
       let was : drawn ≡ passes_of seen = is ∙ value_passes ek ev l seen in
-      (seen, (seen, refl), pre, omega (arith, passes_grow seen log pre))
+      omega (arith, passes_grow seen log pre)
 
   pub spent_passes : (seen : List (Event K V)) (drawn : ℕ) → IsLawful ek ev l seen → drawn ≡ value_of ek ev l seen (l.buckets + 1) → l.passes ≤ drawn → passes_of seen ≡ l.passes
   spent_passes seen drawn lawful is le =
@@ -28,11 +28,11 @@ module _ {K V : Type 0} (ek : K → List ℕ) (ev : V → List ℕ) (l : Limits)
       let w = within ek ev l seen lawful in
       omega (arith, w.1)
 
-  pub more_names : (front seen log : List (Event K V)) (drawn : ℕ) → IsPrefix front seen → drawn ≡ value_of ek ev l seen l.buckets → IsPrefix seen log → value_of ek ev l log l.buckets ≢ drawn → HasMoreNames front log
+  pub more_names : (front seen log : List (Event K V)) (drawn : ℕ) → IsPrefix front seen → drawn ≡ value_of ek ev l seen l.buckets → IsPrefix seen log → value_of ek ev l log l.buckets ≢ drawn → names_of front < names_of log
   more_names front seen log drawn pre0 is pre other =
       let moved : names_of log ≢ drawn = λ e. other (value_names ek ev l log ∙ e) in
       let was : drawn ≡ names_of seen = is ∙ value_names ek ev l seen in
-      (seen, pre0, pre, omega (arith, names_grow seen log pre))
+      omega (arith, names_grow front seen pre0, names_grow seen log pre)
 
   pub spent_names : (seen : List (Event K V)) (drawn : ℕ) → IsLawful ek ev l seen → drawn ≡ value_of ek ev l seen l.buckets → l.names ≤ drawn → names_of seen ≡ l.names
   spent_names seen drawn lawful is le =

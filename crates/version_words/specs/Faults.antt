@@ -1,5 +1,5 @@
 -- What the faults of a row tell.
-use Rattle.std.specs.Prelude.{◌≡◌, ℕ, List, []}
+use Rattle.std.specs.Prelude.{◌≡◌, ◌<◌, ℕ, List}
 use Rattle.table_core.specs.declared.event.Event.{Event}
 use Rattle.table_core.specs.declared.limits.Limits.{Limits}
 use Rattle.table_core.specs.Logs.{names_of, passes_of}
@@ -8,16 +8,15 @@ use Rattle.version_words.specs.declared.fault.EnterFault.{EnterFault}
 use Rattle.version_words.specs.declared.fault.EnterFault.TheVariants as enter
 use Rattle.version_words.specs.declared.fault.NameFault.{NameFault}
 use Rattle.version_words.specs.declared.fault.NameFault.TheVariants as name
-use Rattle.version_words.specs.Views.{HasMorePasses, HasMoreNames}
 
 module _ {K V J : Type 0} (ek : K → List ℕ) (ev : V → List ℕ) (l : Limits) where
-  -- at the mark's front the last pass was drawn, or it has a pass that the call's look did not see
+  -- at the mark's front the last pass was drawn; or it has a pass, which is all that is said of a draw between the call's look and its step
   abbrev pub IsEnterFault : EnterFault K V J → Type 0
   IsEnterFault (enter.PassesSpent mark) = IsLawful ek ev l mark × (passes_of mark ≡ l.passes)
-  IsEnterFault (enter.Moved mark) = IsLawful ek ev l mark × HasMorePasses [] mark
+  IsEnterFault (enter.Moved mark) = IsLawful ek ev l mark × (0 < passes_of mark)
 
 module _ {K V : Type 0} (l : Limits) where
-  -- the last name was drawn, or the front has a name that the call's look did not see
+  -- the last name was drawn, or the front has more names than what had been seen before the call
   abbrev pub IsNameFault : List (Event K V) → List (Event K V) → NameFault → Type 0
   IsNameFault seen log name.NamesSpent = names_of log ≡ l.names
-  IsNameFault seen log name.Moved = HasMoreNames seen log
+  IsNameFault seen log name.Moved = names_of seen < names_of log

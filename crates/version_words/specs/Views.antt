@@ -11,7 +11,7 @@ use Rattle.table_core.specs.declared.operation.Operation.TheVariants as op
 use Rattle.table_core.specs.declared.limits.Limits.{Limits}
 use Rattle.table_core.specs.BucketWords.{name_of, place_of, empty_place}
 use Rattle.table_core.specs.Maps.{value_at, is_met, after, map_of, reply}
-use Rattle.table_core.specs.Logs.{history, passes_of, names_of, word}
+use Rattle.table_core.specs.Logs.{history, passes_of, word}
 use Rattle.table_core.specs.Lawful.{IsDrawn, IsLawful}
 use Rattle.table_core.specs.Changes.{lent_value}
 use Rattle.version_words.specs.declared.change.Change.{Change}
@@ -84,13 +84,6 @@ module _ {K V : Type 0} where
   -- the log begins with what was seen, and ends with the event
   abbrev pub EndsWith : List (Event K V) → Event K V → List (Event K V) → Type 0
   EndsWith seen e log = (before : List (Event K V)) × (log ≡ before ++ e ∷ []) × IsPrefix seen before
-
-  -- the log has more passes than a beginning of it that was looked at in the call
-  abbrev pub HasMorePasses : List (Event K V) → List (Event K V) → Type 0
-  HasMorePasses seen log = (looked : List (Event K V)) × IsPrefix seen looked × IsPrefix looked log × (passes_of looked < passes_of log)
-
-  abbrev pub HasMoreNames : List (Event K V) → List (Event K V) → Type 0
-  HasMoreNames seen log = (looked : List (Event K V)) × IsPrefix seen looked × IsPrefix looked log × (names_of looked < names_of log)
 
 module _ {K V : Type 0} (ek : K → List ℕ) (buckets : ℕ) where
   -- the word stood in the bucket at a beginning of the log
