@@ -1,7 +1,13 @@
 //! Benchmarks, one subcommand for each layer. Without arguments it prints its usage alone.
 #![tactic(auto)]
 
+mod bare;
+mod frames;
 mod replay;
+mod setting;
+mod tenths;
+mod together;
+mod unvouched;
 mod words;
 
 use anyhow::{Result, bail};
@@ -15,12 +21,14 @@ fn run<R: Alloc<A = Global> + Clock + Env + Print + Threads + Sync>(rt: &R) -> R
     let (Some(layer), Some(count)) = (words.next(), words.next()) else {
         println!(rt; "usage: farbench replay EVENTS")?;
         println!(rt; "       farbench words THREADS ROUNDS")?;
+        println!(rt; "       farbench frames FRAMES ROUNDS")?;
         return Ok(());
     };
     let count = count.as_str().parse::<u32>()?;
     match (layer.as_str(), words.next()) {
         ("replay", None) => replay::measure(rt, count),
         ("words", Some(rounds)) => words::measure(rt, count, rounds.as_str().parse::<u32>()?),
+        ("frames", Some(rounds)) => frames::measure(rt, count, rounds.as_str().parse::<u32>()?),
         _ => bail!("no such benchmark: without arguments their usage is printed"),
     }
 }

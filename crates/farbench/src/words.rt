@@ -2,28 +2,24 @@
 ghost use Rattle.std.specs.Prelude.{◌≡◌, false};
 ghost use Rattle.version_words.specs.Rows.{limits_of};
 
-mod bare;
 mod caller;
-mod together;
 
+use crate::bare::{Plain, on_plain};
+use crate::setting::{Layout, Setting};
+use crate::tenths::Tenths;
+use crate::together::{Runner, Took, together};
+use crate::unvouched::Unvouched;
 use anyhow::{Result, bail};
-use bare::{Plain, Raises};
-use caller::{Caller, Checks, Looks, Puts, Row, Unvouched};
+use caller::{Caller, Checks, Looks, Puts, Row};
 use far_object::Object;
 use std::alloc::Global;
-use std::fmt;
-use std::fmt::Display;
 use std::marker::Brand;
 use std::rt::Clock;
 use std::thread::Threads;
-use together::{Runner, Took, together};
 use version_words::{Naming, Opened, Sizes};
 
 /// How many buckets there are. The bucket of a key below it is the key.
 const BUCKETS: u32 = 64;
-
-/// The most threads: each has a word of its own, 16 words from the next one's.
-const MOST_THREADS: u32 = 4;
 
 /// Names for as many rounds as can be asked for.
 const NAMES: u64 = (1 << 40) - 1;
@@ -34,44 +30,6 @@ const PASSES: u32 = 65_535;
 /// lost of them, in percent: at the name, at the install, at the exchange.
 const HEAD: &str =
     "threads   words        look       check         put  lost-name%  lost-inst%    exchange       lost%";
-
-/// Where the threads' words lie.
-#[derive(Clone, Copy)]
-enum Layout {
-    /// All threads are at one word.
-    One,
-    /// Each is at a word of its own, beside the others'. Two share a cache line; four may lie on two lines, since the
-    /// allocator says where a list of words begins in its line.
-    Beside,
-    /// Each is at a word of its own, 128 bytes from the next one's: none share a cache line.
-    Apart,
-}
-
-impl Layout {
-    fn place(self, thread: u32) -> u32 {
-        match self {
-            Layout::One => 0,
-            Layout::Beside => thread % BUCKETS,
-            Layout::Apart => thread % MOST_THREADS * 16,
-        }
-    }
-
-    fn name(self) -> &'static str {
-        match self {
-            Layout::One => "one",
-            Layout::Beside => "beside",
-            Layout::Apart => "apart",
-        }
-    }
-}
-
-/// How many threads there are, where they are, and how many rounds each makes.
-#[derive(Clone, Copy)]
-struct Setting {
-    threads: u32,
-    layout: Layout,
-    rounds: u32,
-}
 
 /// The time of calls of this kind on the row.
 fn on_row<
@@ -88,45 +46,6 @@ fn on_row<
         runners.push(T::from(caller))?;
     }
     together(rt, row, runners, setting.rounds)
-}
-
-/// The time of bare compare-exchanges on plain words.
-fn on_plain<R: Clock + Threads + Sync>(
-    rt: &R,
-    alloc: Global,
-    plain: &Plain,
-    setting: Setting,
-) -> Result<Took> {
-    let mut runners = Vec::with_capacity(alloc, setting.threads as usize)?;
-    for thread in 0..setting.threads {
-        let place = setting.layout.place(thread);
-        runners.push(Raises { place })?;
-    }
-    together(rt, plain, runners, setting.rounds)
-}
-
-/// A number of tenths, printed as its whole number and one digit behind the point.
-#[derive(Clone, Copy)]
-struct Tenths(u64);
-
-impl Tenths {
-    /// The quotient, or 0 where nothing was counted.
-    fn quotient(sum: u64, count: u64) -> Tenths {
-        Tenths(sum.saturating_mul(10).checked_div(count).unwrap_or(0))
-    }
-
-    /// The part of the count, in percent.
-    fn percentage(part: u64, count: u64) -> Tenths {
-        Tenths::quotient(part.saturating_mul(100), count)
-    }
-}
-
-impl Display for Tenths {
-    fn fmt<W: fmt::Write>(&self, f: &mut fmt::Formatter<W>) -> fmt::Result {
-        let whole = self.0 / 10;
-        let digit = self.0 % 10;
-        write!(f, "{whole:>10}.{digit}")
-    }
 }
 
 /// Measures one setting, and prints it.

@@ -8,11 +8,13 @@ mod devices;
 mod machines;
 mod objects;
 mod outcome;
+mod shared;
 
 use std::io;
 
 fn main(rt: HostRuntime) -> io::Result<()> {
     objects::tell_all(&rt)?;
     devices::tell_all(&rt)?;
-    machines::tell_all(&rt)
+    machines::tell_all(&rt)?;
+    shared::tell_all(&rt)
 }

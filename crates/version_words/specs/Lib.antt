@@ -2,6 +2,7 @@ pub mod Boards
 pub mod Tallies
 pub mod Rows
 pub mod Views
+pub mod Shown
 pub mod Shuts
 pub mod Faults
 pub mod Laws

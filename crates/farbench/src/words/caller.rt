@@ -5,21 +5,13 @@ ghost use Rattle.far_object.specs.Encodings.{enc_u64};
 ghost use Rattle.table_core.specs.Logs.{word};
 ghost use Rattle.version_words.specs.Rows.{limits_of};
 
-use super::together::{Lost, Runner};
+use crate::together::{Lost, Runner};
+use crate::unvouched::Unvouched;
 use far_object::{Object, bucket_of};
-use version_words::{Change, Honesty, Moved, Naming, Opened, Pass, Probe, Words};
+use version_words::{Change, Moved, Naming, Opened, Pass, Probe, Words};
 
 /// The place that each put says. No frame is behind it, since the row is measured alone.
 const FRAME: u32 = 0;
-
-/// Nothing is claimed of what a device gives back, so that a name may be installed whatever its contents are.
-pub struct Unvouched;
-
-impl Honesty for Unvouched {
-    ghost use Rattle.std.specs.Prelude.{false};
-
-    ghost honest = { false };
-}
 
 /// The words, and the one object that all names are drawn for: a measured loop makes none.
 #[derive(Drop)]

@@ -1,8 +1,12 @@
-//! What a call on a row is measured against: a compare-exchange and nothing else, on a word without a proof.
+//! What calls are measured against: a compare-exchange and nothing else, on a word without a proof.
 
-use super::together::{Lost, Runner};
+use crate::setting::Setting;
+use crate::together::{Lost, Runner, Took, together};
+use anyhow::Result;
 use std::alloc::{AllocError, Global};
+use std::rt::Clock;
 use std::sync::atomic::{AtomicU64, Ordering};
+use std::thread::Threads;
 
 /// The words that are raised.
 #[derive(Drop)]
@@ -23,8 +27,8 @@ impl Plain {
 
 /// Raises the word at this place by one, from what it held when it was last seen.
 #[derive(Drop)]
-pub struct Raises {
-    pub place: u32,
+struct Raises {
+    place: u32,
 }
 
 impl Runner<Plain> for Raises {
@@ -50,4 +54,19 @@ fn raise(word: &AtomicU64, rounds: u32) -> Lost {
         }
     }
     lost
+}
+
+/// The time of bare compare-exchanges on plain words.
+pub fn on_plain<R: Clock + Threads + Sync>(
+    rt: &R,
+    alloc: Global,
+    plain: &Plain,
+    setting: Setting,
+) -> Result<Took> {
+    let mut runners = Vec::with_capacity(alloc, setting.threads as usize)?;
+    for thread in 0..setting.threads {
+        let place = setting.layout.place(thread);
+        runners.push(Raises { place })?;
+    }
+    together(rt, plain, runners, setting.rounds)
 }

@@ -1,0 +1,213 @@
+//! Calls on frames of which all but a few are filled, by threads at once, beside bare compare-exchanges on plain words.
+ghost use Rattle.std.specs.Prelude.{◌≡◌, ◌≤◌, false};
+ghost use Rattle.version_words.specs.Rows.{limits_of};
+
+use crate::bare::{Plain, on_plain};
+use crate::setting::{Layout, MOST_THREADS, Setting};
+use crate::tenths::Tenths;
+use crate::together::{Lost, Runner, Took, together};
+use crate::unvouched::Unvouched;
+use anyhow::{Result, bail};
+use far_object::Object;
+use frame_cache::{Frames, Missed, NoFrame, Version};
+use std::alloc::Global;
+use std::marker::Brand;
+use std::rt::Clock;
+use std::thread::Threads;
+use version_words::{Naming, Opened, Pass, Sizes, Words};
+
+/// How many frames are left free: one for each of the most threads.
+const FREE: u32 = MOST_THREADS;
+
+/// The least frames: as many filled as free.
+const FEWEST: u32 = 2 * FREE;
+
+/// The most frames that can be opened.
+const MOST: u32 = 65_536;
+
+/// All names are of one bucket.
+const BUCKET: u32 = 0;
+
+/// Nanoseconds of a reserve with its cancel, of an enter with its close, and of a bare compare-exchange. Behind the first
+/// two stands how many found no frame, or missed, in percent. All threads enter one frame, or each its own.
+const HEAD: &str =
+    " frames threads   where     reserve       none%       enter     missed%    exchange";
+
+/// Reserves a frame and leaves it free.
+#[derive(Drop)]
+struct Reserves;
+
+impl<J: Naming> Runner<Frames<u64, u64, J>> for Reserves {
+    fn run(&mut self, frames: &Frames<u64, u64, J>, rounds: u32) -> Lost {
+        let mut lost = Lost::NONE;
+        for _ in 0..rounds {
+            match frames.reserve() {
+                Ok(reserved) => reserved.cancel(),
+                Err(NoFrame) => lost.words = lost.words.wrapping_add(1),
+            }
+        }
+        lost
+    }
+}
+
+/// Enters the frame in which this name lies, and closes the scope.
+#[derive(Clone, Copy)]
+struct Enters {
+    frame: u32,
+    name: u64,
+}
+
+impl<J: Naming> Runner<Frames<u64, u64, J>> for Enters {
+    fn run(&mut self, frames: &Frames<u64, u64, J>, rounds: u32) -> Lost {
+        let mut lost = Lost::NONE;
+        for _ in 0..rounds {
+            match frames.enter(self.frame, self.name) {
+                Ok(scope) => scope.close(),
+                Err(Missed) => lost.words = lost.words.wrapping_add(1),
+            }
+        }
+        lost
+    }
+}
+
+/// Fills the first free frame with a version of one pair.
+fn fill<J: Naming>(
+    alloc: Global,
+    words: &Words<u64, u64, J>,
+    pass: &mut Pass<u64, u64, J>,
+    frames: &Frames<u64, u64, J>,
+) -> Result<Enters>
+    requires { J.limits.honest ≡ false }
+{
+    if BUCKET >= words.buckets() {
+        bail!("there is no bucket");
+    }
+    let object = Object::empty(alloc)?.with(alloc, &0, &0)?;
+    let Ok(reserved) = frames.reserve() else {
+        bail!("no frame is free");
+    };
+    let Ok(name) = words.name(pass, BUCKET, &object) else {
+        reserved.cancel();
+        bail!("no name is left");
+    };
+    let version = Version::new(&name, object);
+    Ok(Enters {
+        frame: reserved.fill(version),
+        name: name.number(),
+    })
+}
+
+/// The time of reserves, each with its cancel.
+fn on_reserves<R: Clock + Threads + Sync, J: Naming + Send + Sync>(
+    rt: &R,
+    alloc: Global,
+    frames: &Frames<u64, u64, J>,
+    setting: Setting,
+) -> Result<Took> {
+    let mut runners = Vec::with_capacity(alloc, setting.threads as usize)?;
+    for _ in 0..setting.threads {
+        runners.push(Reserves)?;
+    }
+    together(rt, frames, runners, setting.rounds)
+}
+
+/// The time of enters, each with its close.
+fn on_enters<R: Clock + Threads + Sync, J: Naming + Send + Sync>(
+    rt: &R,
+    alloc: Global,
+    frames: &Frames<u64, u64, J>,
+    filled: &Vec<Enters>,
+    setting: Setting,
+) -> Result<Took> {
+    let mut runners = Vec::with_capacity(alloc, setting.threads as usize)?;
+    for thread in 0..setting.threads {
+        let own = match setting.layout {
+            Layout::One => 0,
+            Layout::Beside | Layout::Apart => thread as usize,
+        };
+        let Some(enters) = filled.get(own) else {
+            bail!("too few frames are filled");
+        };
+        runners.push(*enters)?;
+    }
+    together(rt, frames, runners, setting.rounds)
+}
+
+/// Measures one setting, and prints it.
+fn row_of_table<R: Clock + Print + Threads + Sync, J: Naming + Send + Sync>(
+    rt: &R,
+    alloc: Global,
+    frames: &Frames<u64, u64, J>,
+    filled: &Vec<Enters>,
+    plain: &Plain,
+    setting: Setting,
+) -> Result<()> {
+    let reserves = on_reserves(rt, alloc, frames, setting)?;
+    let enters = on_enters(rt, alloc, frames, filled, setting)?;
+    let bare = on_plain(rt, alloc, plain, setting)?;
+    let rounds = u64::from(setting.threads).wrapping_mul(u64::from(setting.rounds));
+    let reserve = Tenths::quotient(reserves.nanoseconds, rounds);
+    let none = Tenths::percentage(reserves.lost.words, rounds);
+    let enter = Tenths::quotient(enters.nanoseconds, rounds);
+    let missed = Tenths::percentage(enters.lost.words, rounds);
+    let exchange = Tenths::quotient(bare.nanoseconds, rounds);
+    let count = filled.len() as u64 + u64::from(FREE);
+    let threads = setting.threads;
+    let layout = setting.layout.name();
+    println!(rt; "{count:>7} {threads:>7} {layout:>7}{reserve}{none}{enter}{missed}{exchange}")?;
+    Ok(())
+}
+
+/// Fills all frames but the last few, measures each setting, and prints the table.
+fn table<R: Clock + Print + Threads + Sync, J: Naming + Send + Sync>(
+    rt: &R,
+    alloc: Global,
+    opened: Opened<u64, u64, Unvouched>,
+    count: u32,
+    rounds: u32,
+) -> Result<()>
+    requires named { (opened.seen.book ≡ J.book) × (opened.seen.names ≡ J.names) × (limits_of opened.sizes false ≡ J.limits) }
+    requires few { count ≤ 65536 }
+{
+    let words = opened.named::<J>();
+    let Ok(mut pass) = words.enter() else {
+        bail!("no pass is left");
+    };
+    let frames: Frames<u64, u64, J> = Frames::open(alloc, count)?;
+    let mut filled = Vec::with_capacity(alloc, count as usize)?;
+    for _ in FREE..count {
+        filled.push(fill(alloc, &words, &mut pass, &frames)?)?;
+    }
+    let plain = Plain::new(alloc, 16 * MOST_THREADS)?;
+    println!(rt; "{HEAD}")?;
+    for threads in [1, 2, 4] {
+        for layout in [Layout::One, Layout::Apart] {
+            let setting = Setting {
+                threads,
+                layout,
+                rounds,
+            };
+            row_of_table(rt, alloc, &frames, &filled, &plain, setting)?;
+        }
+    }
+    Ok(())
+}
+
+/// Prints the nanoseconds of each kind of call by 1, 2 and 4 threads, where all of so many frames but four are filled.
+pub fn measure<R: Alloc<A = Global> + Clock + Print + Threads + Sync>(
+    rt: &R,
+    count: u32,
+    rounds: u32,
+) -> Result<()> {
+    if count < FEWEST || count > MOST {
+        bail!("frames: from 8 to 65536");
+    }
+    let alloc = rt.alloc();
+    let sizes = Sizes {
+        buckets: 1,
+        names: u64::from(count),
+        passes: 1,
+    };
+    let opened = Opened::<u64, u64, Unvouched>::open(alloc, sizes)?;
+    table::<R, Brand>(rt, alloc, opened, count, rounds)
+}

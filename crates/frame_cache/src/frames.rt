@@ -1,0 +1,235 @@
+//! Frames: a bounded row of places for versions.
+//!
+//! # A frame is emptied for a spare alone
+//!
+//! `reclaim` takes a `Spare`: a word that its bucket never holds again. It compares the frame's version with the spare's
+//! name under a claim to read, leaves that, and claims the right to write where the word is still the one compared and
+//! nobody reads. A version leaves a frame through `laws::retire`, which ends it exactly where it is the spare's.
+//!
+//! # Hints
+//!
+//! Which frames are free is found by two layers of bits. Nothing is claimed of them: a call that finds no bit looks at
+//! each frame before it answers `NoFrame`.
+ghost use Rattle.std.specs.Prelude.{◌≡◌, ◌<◌, ◌≤◌, IfOk, IfErr, IfSome, vec_len};
+ghost use Rattle.table_core.specs.BucketWords.{place_of, empty_place};
+
+use crate::bits::{Bits, Vacant, WORD};
+use crate::fault::{Missed, NoFrame};
+use crate::laws::retire;
+use crate::reserved::Reserved;
+use crate::scope::Scope;
+use crate::slot::{Slot, SlotClaim, read, reader_count, take, unread, word_of};
+use crate::version::Lodged;
+use counted_slot::{Counted, FREE};
+use crossbeam_utils::CachePadded;
+use far_object::{FarObject, Memory};
+use std::alloc::Global;
+use std::mem::forget;
+use std::sync::atomic::AtomicU32;
+use std::sync::atomic::Ordering::SeqCst;
+use table_core::word::{name_of, place_of};
+use version_words::{Naming, Spare};
+
+/// A row of frames. Every call takes `&self`, and threads share it. Each frame lies alone on its cache lines.
+///
+/// A frame number that is not below the count is that of an empty frame to every call.
+#[derive(Drop)]
+pub struct Frames<K: FarObject, V: FarObject, J: Naming> {
+    slots: Vec<CachePadded<Slot<K, V, J>>>,
+    vacant: Vacant,
+    free: CachePadded<AtomicU32>,
+    touched: Bits,
+    ghost most: { vec_len slots ≤ 65536 },
+}
+
+impl<K: FarObject, V: FarObject, J: Naming> Frames<K, V, J> {
+    /// So many empty frames. `Memory` comes where a growth is refused.
+    pub fn open(alloc: Global, count: u32) -> Result<Frames<K, V, J>, Memory>
+        requires few { count ≤ 65536 }
+    {
+        let mut slots = Vec::with_capacity(alloc, count as usize)?;
+        for _ in 0..count {
+            slots.push(CachePadded::new(Counted::new(None, &())))?;
+        }
+        Ok(Frames {
+            slots,
+            vacant: Vacant::all(alloc, count)?,
+            free: CachePadded::new(AtomicU32::new(count)),
+            touched: Bits::new(alloc, count)?,
+        })
+    }
+
+    fn slot(&self, frame: u32) -> Option<&Slot<K, V, J>>
+        ensures { IfSome result (λ _. frame < 65536) }
+    {
+        let padded = self.slots.get(frame as usize)?;
+        Some(padded)
+    }
+
+    // The frame where it is free.
+    fn try_reserve(&self, frame: u32) -> Option<Reserved<'_, K, V, J>> {
+        let slot = self.slot(frame)?;
+        if slot.load() != FREE {
+            return None;
+        }
+        let claim = take(slot, FREE).ok()?;
+        self.vacant.clear(frame);
+        self.free.fetch_sub(1, SeqCst);
+        Some(Reserved {
+            frames: self,
+            claim,
+            frame,
+        })
+    }
+
+    // The first of the 64 frames from `64 * at` that is named as free, and is.
+    fn reserve_in(&self, at: u32) -> Option<Reserved<'_, K, V, J>>
+        requires { at < 65536 }
+    {
+        let mut bits = self.vacant.frames(at as usize);
+        for _ in 0..WORD {
+            if bits == 0 {
+                return None;
+            }
+            let frame = at * WORD + bits.trailing_zeros();
+            if let Some(reserved) = self.try_reserve(frame) {
+                return Some(reserved);
+            }
+            bits &= bits - 1;
+        }
+        None
+    }
+
+    // The first frame of those that the 64 words from `64 * at` name.
+    fn reserve_below(&self, at: u32) -> Option<Reserved<'_, K, V, J>>
+        requires { at < 1000 }
+    {
+        let mut bits = self.vacant.words(at as usize);
+        for _ in 0..WORD {
+            if bits == 0 {
+                return None;
+            }
+            if let Some(reserved) = self.reserve_in(at * WORD + bits.trailing_zeros()) {
+                return Some(reserved);
+            }
+            bits &= bits - 1;
+        }
+        None
+    }
+
+    /// The first frame that is free, for this call alone. `NoFrame` comes only after a look at each frame.
+    pub fn reserve(&self) -> Result<Reserved<'_, K, V, J>, NoFrame> {
+        for at in 0..17u32 {
+            if let Some(reserved) = self.reserve_below(at) {
+                return Ok(reserved);
+            }
+        }
+        for frame in 0..self.slots.len() {
+            if let Some(reserved) = self.try_reserve(frame as u32) {
+                return Ok(reserved);
+            }
+        }
+        Err(NoFrame)
+    }
+
+    // Says that the frame is free.
+    pub(crate) fn vacate(&self, frame: u32) {
+        self.free.fetch_add(1, SeqCst);
+        self.vacant.set(frame);
+    }
+
+    /// A scope on the version of this name. `Missed` comes where the frame has no version, one of another name, or is
+    /// being filled or emptied.
+    pub fn enter(&self, frame: u32, name: u64) -> Result<Scope<'_, K, V, J>, Missed>
+        ensures name { IfOk result (λ s. s.name ≡ name) }
+    {
+        let slot = self.slot(frame).ok_or(Missed)?;
+        match read(slot, Some(name)) {
+            Some(claim) => Scope::compared(claim, name),
+            None => Err(Missed),
+        }
+    }
+
+    /// The bucket and the name of what lies there.
+    pub fn seen(&self, frame: u32) -> Option<(u32, u64)> {
+        let claim = read(self.slot(frame)?, None)?;
+        let found = match claim.get() {
+            Some(lodged) => Some((lodged.version.bucket(), lodged.version.name())),
+            None => None,
+        };
+        claim.leave();
+        found
+    }
+
+    /// Empties the frame of the spare's word where the spare's version lies there. False where another version or none
+    /// does. The spare comes back while a reader is in.
+    pub fn reclaim(&self, spare: Spare<K, V, J>) -> Result<bool, Spare<K, V, J>>
+        requires frame { place_of spare.word < empty_place }
+        ensures back { IfErr result (λ s. s ≡ spare) }
+    {
+        let frame = place_of(spare.word());
+        let name = name_of(spare.word());
+        let word = word_of(name);
+        let Some(slot) = self.slot(frame) else {
+            return Ok(false);
+        };
+        let seen = slot.load();
+        if unread(seen) == word && reader_count(seen) != 0 {
+            return Err(spare);
+        }
+        let Ok(scope) = self.enter(frame, name) else {
+            return Ok(false);
+        };
+        scope.close();
+        match take(slot, word) {
+            Ok(claim) => Ok(self.empty(claim, spare, frame)),
+            Err(found) => {
+                if unread(found) == word {
+                    return Err(spare);
+                }
+                Ok(false)
+            }
+        }
+    }
+
+    // Takes out what lies there, and ends it where it is the spare's. Another version is put back by a claim of its own,
+    // or stays in memory for good where that is lost: it is never dropped.
+    fn empty(&self, claim: SlotClaim<'_, K, V, J>, spare: Spare<K, V, J>, frame: u32) -> bool
+        requires { claim.right ≡ 2 }
+    {
+        let found = claim.put(None, FREE);
+        self.vacate(frame);
+        let Some(lodged) = found else {
+            return false;
+        };
+        match retire(lodged.into_version(), &spare) {
+            Ok(()) => true,
+            Err(other) => {
+                match self.try_reserve(frame) {
+                    Some(reserved) => {
+                        reserved.fill(other);
+                    }
+                    None => forget(Lodged { version: other }),
+                }
+                false
+            }
+        }
+    }
+
+    /// How many frames are free. Nothing is claimed of it while other threads run; at rest it is exact.
+    pub fn free(&self) -> u32 {
+        self.free.load(SeqCst)
+    }
+
+    /// Says that the frame was read. Nothing is claimed of it.
+    pub fn touch(&self, frame: u32) {
+        if (frame as usize) < self.slots.len() {
+            self.touched.set(frame);
+        }
+    }
+
+    /// Whether the frame was touched since the last such question, or since it was filled. Nothing is claimed of it.
+    pub fn touched(&self, frame: u32) -> bool {
+        self.touched.take(frame)
+    }
+}

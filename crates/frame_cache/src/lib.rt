@@ -1,0 +1,20 @@
+//! Frames in which versions lie, and scopes that keep one in its place while it is read. No call waits.
+#![tactic(auto)]
+
+mod bits;
+mod fault;
+mod frames;
+pub mod laws;
+mod reserved;
+mod scope;
+mod slot;
+mod version;
+
+pub use fault::{Missed, NoFrame};
+pub use frames::Frames;
+pub use reserved::Reserved;
+pub use scope::Scope;
+pub use version::Version;
+
+#[cfg(test)]
+mod tests;

@@ -1,0 +1,55 @@
+//! A frame that is about to be filled.
+ghost use Rattle.std.specs.Prelude.{◌≡◌, ◌<◌};
+
+use crate::frames::Frames;
+use crate::slot::{SlotClaim, word_of};
+use crate::version::{Lodged, Version};
+use counted_slot::FREE;
+use far_object::FarObject;
+use std::mem::forget;
+use version_words::Naming;
+
+/// A free frame that no other call gets. It has to be spent, in its own thread, by `fill` or by `cancel`.
+pub struct Reserved<'a, K: FarObject, V: FarObject, J: Naming> {
+    pub(crate) frames: &'a Frames<K, V, J>,
+    pub(crate) claim: SlotClaim<'a, K, V, J>,
+    pub(crate) frame: u32,
+    ghost writes: { claim.right ≡ 2 },
+    ghost below: { frame < 65536 },
+}
+
+impl<'a, K: FarObject, V: FarObject, J: Naming> Reserved<'a, K, V, J> {
+    /// The frame's number.
+    pub fn frame(&self) -> u32
+        ensures is { result ≡ self.now.frame }
+        ensures below { result < 65536 }
+    {
+        self.frame
+    }
+
+    /// Puts the version into the frame, and answers the frame's number.
+    pub fn fill(self, version: Version<K, V, J>) -> u32
+        ensures { result ≡ self.entry.frame }
+    {
+        let Self {
+            frames,
+            claim,
+            frame,
+        } = self;
+        frames.touched(frame);
+        let word = word_of(version.name());
+        forget(claim.put(Some(Lodged { version }), word));
+        frame
+    }
+
+    /// Leaves the frame free.
+    pub fn cancel(self) {
+        let Self {
+            frames,
+            claim,
+            frame,
+        } = self;
+        forget(claim.put(None, FREE));
+        frames.vacate(frame);
+    }
+}
