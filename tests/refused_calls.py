@@ -12,8 +12,8 @@ import sys
 
 from refused_growths import MOST_RUNS, run
 
-# The calls that take no memory. For the devices that wrap another no clause says so.
-WITHOUT_GROWTH = {"Machine::enter", "Machine::move_to"} | {
+# The calls that take no memory. For the devices that wrap another, and for lanes, no clause says so.
+WITHOUT_GROWTH = {"Machine::enter", "Machine::move_to", "Lane::open", "Lane::remove", "LaneStore::remove"} | {
     f"{device}Device::{call}"
     for device in ("Fake", "Faulty", "Lying", "Canned", "Watched")
     for call in ("remove", "construct")

@@ -3,6 +3,7 @@
 
 mod bare;
 mod frames;
+mod lanes;
 mod replay;
 mod setting;
 mod tenths;
@@ -14,14 +15,16 @@ use anyhow::{Result, bail};
 use std::alloc::Global;
 use std::env;
 use std::rt::{Clock, Env};
+use std::sync::Wait;
 use std::thread::Threads;
 
-fn run<R: Alloc<A = Global> + Clock + Env + Print + Threads + Sync>(rt: &R) -> Result<()> {
+fn run<R: Alloc<A = Global> + Clock + Env + Print + Threads + Wait + Sync>(rt: &R) -> Result<()> {
     let mut words = env::args(rt)?.skip(1);
     let (Some(layer), Some(count)) = (words.next(), words.next()) else {
         println!(rt; "usage: farbench replay EVENTS")?;
         println!(rt; "       farbench words THREADS ROUNDS")?;
         println!(rt; "       farbench frames FRAMES ROUNDS")?;
+        println!(rt; "       farbench lanes ROUNDS")?;
         return Ok(());
     };
     let count = count.as_str().parse::<u32>()?;
@@ -29,6 +32,7 @@ fn run<R: Alloc<A = Global> + Clock + Env + Print + Threads + Sync>(rt: &R) -> R
         ("replay", None) => replay::measure(rt, count),
         ("words", Some(rounds)) => words::measure(rt, count, rounds.as_str().parse::<u32>()?),
         ("frames", Some(rounds)) => frames::measure(rt, count, rounds.as_str().parse::<u32>()?),
+        ("lanes", None) => lanes::measure(rt, count),
         _ => bail!("no such benchmark: without arguments their usage is printed"),
     }
 }

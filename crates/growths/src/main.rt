@@ -5,6 +5,7 @@
 #![tactic(auto)]
 
 mod devices;
+mod lanes;
 mod machines;
 mod objects;
 mod outcome;
@@ -16,5 +17,6 @@ fn main(rt: HostRuntime) -> io::Result<()> {
     objects::tell_all(&rt)?;
     devices::tell_all(&rt)?;
     machines::tell_all(&rt)?;
-    shared::tell_all(&rt)
+    shared::tell_all(&rt)?;
+    lanes::tell_all(&rt)
 }

@@ -35,7 +35,7 @@ impl Outcome {
 }
 
 /// Prints what became of the call of this name. Where what it works on could not be made, it was not made at all.
-pub fn tell(rt: &HostRuntime, name: &str, made: Result<Outcome, Memory>) -> io::Result<()> {
+pub fn tell<R: Print>(rt: &R, name: &str, made: Result<Outcome, Memory>) -> io::Result<()> {
     let said = match made {
         Ok(Outcome::Right) => "ok",
         Ok(Outcome::RightAgain) => "memory, then ok",

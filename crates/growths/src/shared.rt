@@ -18,7 +18,7 @@ const SIZES: Sizes = Sizes {
 };
 
 /// Nothing is claimed of what a device gives back.
-struct Unvouched;
+pub struct Unvouched;
 
 impl Honesty for Unvouched {
     ghost use Rattle.std.specs.Prelude.{false};

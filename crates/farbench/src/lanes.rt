@@ -1,0 +1,114 @@
+//! Calls on a store of one lane, beside the same calls on a bare device.
+ghost use Rattle.std.specs.Prelude.{◌≡◌, false};
+ghost use Rattle.version_words.specs.Rows.{limits_of};
+
+mod rounds;
+
+use crate::tenths::Tenths;
+use crate::unvouched::Unvouched;
+use anyhow::{Result, bail};
+use far_device::FakeDevice;
+use far_object::{Format, Object, Text};
+use lane_store::LaneStore;
+use rounds::{Draws, Names, OnDevice, OnLane, Round};
+use std::alloc::Global;
+use std::marker::Brand;
+use std::rt::Clock;
+use std::sync::Wait;
+use std::time::Instant;
+use version_words::{Naming, Opened, Sizes};
+
+/// Bytes of the object's one value. With its length, its key and the count of pairs the object has 4,096.
+const VALUE: usize = 4_082;
+
+/// Bytes that are read into. The object takes fewer in either format, so that no round lets them grow.
+const ROOM: usize = 8_192;
+
+/// Names for as many rounds as can be asked for.
+const NAMES: u64 = (1 << 40) - 1;
+
+/// Bytes of the object, and nanoseconds of a round. Each round draws a name and gives it up, and that of the first column does
+/// nothing else. Those of the others also write the object under the name, read it and remove it: on a bare device, through
+/// a lane in the first format, and through a lane in the second, whose header is 16 bytes more. The last two columns are the
+/// lane's nanoseconds in percent of the device's.
+const HEAD: &str =
+    "  bytes        draw      device         one         two        one%        two%";
+
+/// The nanoseconds of so many rounds.
+fn time<R: Clock + Wait, N, T: Round<N>>(
+    rt: &R,
+    alloc: Global,
+    names: &mut N,
+    round: &mut T,
+    rounds: u32,
+) -> Result<u64> {
+    let mut out = Vec::with_capacity(alloc, ROOM)?;
+    let start = Instant::now(rt)?;
+    for _ in 0..rounds {
+        out.clear();
+        round.make(rt, names, &mut out)?;
+    }
+    let elapsed = start.elapsed(rt)?;
+    Ok(u64::try_from(elapsed.as_nanos())?)
+}
+
+/// The nanoseconds of so many rounds through a lane of its own.
+fn on_lane<R: Clock + Wait, J: Naming>(
+    rt: &R,
+    alloc: Global,
+    names: &mut Names<J>,
+    format: Format,
+    rounds: u32,
+) -> Result<u64> {
+    let mut devices = Vec::with_capacity(alloc, 1)?;
+    devices.push(FakeDevice::new(alloc))?;
+    let store = LaneStore::open(alloc, devices)?;
+    let mut round = OnLane { store, format };
+    time(rt, alloc, names, &mut round, rounds)
+}
+
+/// Measures each kind of round, and prints the table.
+fn table<R: Clock + Print + Wait, J: Naming>(
+    rt: &R,
+    alloc: Global,
+    opened: Opened<u64, Text, Unvouched>,
+    rounds: u32,
+) -> Result<()>
+    requires { (opened.seen.book ≡ J.book) × (opened.seen.names ≡ J.names) × (limits_of opened.sizes false ≡ J.limits) }
+{
+    let value = Text::new(alloc, &[7; VALUE])?;
+    let object = Object::empty(alloc)?.with(alloc, &0, &value)?;
+    let Some(mut names) = Names::<J>::new(opened, object) else {
+        bail!("no pass is left");
+    };
+    let device = FakeDevice::new(alloc);
+    let drawing = time(rt, alloc, &mut names, &mut Draws, rounds)?;
+    let bare = time(rt, alloc, &mut names, &mut OnDevice { device }, rounds)?;
+    let in_one = on_lane(rt, alloc, &mut names, Format::One, rounds)?;
+    let in_two = on_lane(rt, alloc, &mut names, Format::Two, rounds)?;
+    let count = u64::from(rounds);
+    let draw = Tenths::quotient(drawing, count);
+    let device = Tenths::quotient(bare, count);
+    let one = Tenths::quotient(in_one, count);
+    let two = Tenths::quotient(in_two, count);
+    let one_part = Tenths::percentage(in_one, bare);
+    let two_part = Tenths::percentage(in_two, bare);
+    let bytes = names.object.as_bytes().len();
+    println!(rt; "{HEAD}")?;
+    println!(rt; "{bytes:>7}{draw}{device}{one}{two}{one_part}{two_part}")?;
+    Ok(())
+}
+
+/// Prints the nanoseconds of a round on a bare device and through a lane, over so many rounds of each kind.
+///
+/// An error comes where memory, the clock or the output fails, or an object that was written isn't found.
+pub fn measure<R: Alloc<A = Global> + Clock + Print + Wait>(rt: &R, rounds: u32) -> Result<()> {
+    let alloc = rt.alloc();
+    let sizes = Sizes {
+        buckets: 1,
+        names: NAMES,
+        passes: 1,
+    };
+    let opened = Opened::<u64, Text, Unvouched>::open(alloc, sizes)?;
+    table::<R, Brand>(rt, alloc, opened, rounds)
+}

@@ -1,0 +1,104 @@
+//! Lanes behind locks: one for each device.
+//!
+//! # What is said of a lane behind its lock
+//!
+//! No clause can name what lies behind a lock, since another thread may change it before the call and after. The functions
+//! of `Lane`, which are lent the lane, say what each call does to it. Here stand the facts that a lane's type keeps whoever
+//! had the lock before: each receipt is that of a name of this row of words, and its object is stored.
+ghost use Rattle.std.specs.Prelude.{◌≡◌, ◌<◌, ◌≤◌, ◌%◌, IfOk, OnErr, IfSome, IfNone, vec_len};
+ghost use Rattle.table_core.specs.BucketWords.{place_of, far_place};
+ghost use Rattle.table_core.specs.Logs.{contents};
+ghost use Rattle.lane_store.specs.Lanes.{IsRead};
+
+use crate::fault::LaneFault;
+use crate::lane::Lane;
+use crate::receipt::Receipt;
+use crossbeam_utils::CachePadded;
+use far_device::Device;
+use far_object::{FarObject, Format, Object};
+use std::alloc::Global;
+use std::sync::{Mutex, Wait};
+use table_core::word::name_of;
+use version_words::{Name, Naming, Spare};
+
+// Which of so many lanes keeps the object of a name.
+fn lane_of(name: u64, lanes: usize) -> usize
+    requires { 0 < lanes }
+    ensures { result ≡ name % lanes }
+{
+    (name % lanes as u64) as usize
+}
+
+/// Lanes, each behind a lock of its own and alone on its cache lines. Every call takes `&self`, and threads share it. A
+/// call waits while another thread has the name's lane, which is the name's number modulo the count of lanes.
+#[derive(Drop)]
+pub struct LaneStore<K: FarObject, V: FarObject, J: Naming, D: Device> {
+    lanes: Vec<CachePadded<Mutex<Lane<K, V, J, D>>>>,
+    ghost some: { 0 < vec_len lanes },
+}
+
+impl<K: FarObject, V: FarObject, J: Naming, D: Device> LaneStore<K, V, J, D> {
+    /// A lane for each device, which is made empty. After a fault all of them are dropped.
+    ///
+    /// `Memory` comes where a growth is refused, `Device` where a device fails.
+    pub fn open(alloc: Global, devices: Vec<D>) -> Result<LaneStore<K, V, J, D>, LaneFault>
+        requires some { 0 < vec_len devices }
+        requires most { vec_len devices ≤ 64 }
+    {
+        let mut lanes = Vec::with_capacity(alloc, devices.len())?;
+        for device in devices {
+            let lane = Lane::open(alloc, device)?;
+            lanes.push(CachePadded::new(Mutex::new(lane)))?;
+        }
+        Ok(LaneStore { lanes })
+    }
+
+    fn lane(&self, name: u64) -> &Mutex<Lane<K, V, J, D>> {
+        &self.lanes[lane_of(name, self.lanes.len())]
+    }
+
+    /// Keeps the object under the name, in this format. After a fault no receipt stands for the name.
+    ///
+    /// `Memory` comes where a growth is refused, `Device` where the lane's device fails.
+    pub fn write<R: Wait>(
+        &self,
+        rt: &R,
+        name: &Name<K, V, J>,
+        object: &Object<K, V>,
+        format: Format,
+    ) -> Result<(), LaneFault>
+        requires object { contents name.now.front name.now.number ≡ object.now }
+    {
+        let mut lane = self.lane(name.number()).lock(rt);
+        lane.write(name, object, format)
+    }
+
+    /// Appends the object of the name to `out`, in the format in which it was written. None where no receipt stands for
+    /// the name; then, and after a fault, `out` is as before.
+    ///
+    /// `Memory` comes where a growth is refused, `Device` where the lane's device fails.
+    pub fn read<R: Wait>(
+        &self,
+        rt: &R,
+        name: u64,
+        out: &mut Vec<u8>,
+    ) -> Result<Option<Receipt<K, V, J>>, LaneFault>
+        ensures found { IfOk result (λ receipt. IfSome receipt (λ r. IsRead K.enc V.enc K.admits V.admits J.limits D.HONEST name out.old.items out.new.items r)) }
+        ensures absent { IfOk result (λ receipt. IfNone receipt (out.new.items ≡ out.old.items)) }
+        ensures fault { OnErr result (out.new.items ≡ out.old.items) }
+    {
+        let mut lane = self.lane(name).lock(rt);
+        lane.read(name, out)
+    }
+
+    /// Removes the object of the spare's name, and answers whether the device had it. Whatever is answered, no receipt
+    /// stands for the name afterwards.
+    ///
+    /// `Memory` comes where a growth of the device is refused, `Device` where it fails.
+    pub fn remove<R: Wait>(&self, rt: &R, spare: &Spare<K, V, J>) -> Result<bool, LaneFault>
+        requires far { place_of spare.now.word ≡ far_place }
+    {
+        let mut lane = self.lane(name_of(spare.word())).lock(rt);
+        lane.remove(spare)
+    }
+}

@@ -1,0 +1,156 @@
+//! Lanes as callers use them: the worked run of two lanes, both formats, a device that fails at each call in turn, devices
+//! that give other bytes, and threads at lanes of their own.
+ghost use Rattle.std.specs.Prelude.{◌≡◌, false};
+ghost use Rattle.table_core.specs.Logs.{contents};
+
+mod altered;
+mod failing;
+mod formats;
+mod reading;
+mod shared;
+mod waiting;
+mod worked;
+
+use crate::{LaneFault, LaneStore, Receipt};
+use far_device::Device;
+use far_object::{Format, Memory, Object, Text};
+use std::alloc::Global;
+use std::process::Abort;
+use std::sync::Wait;
+use std::test::Fail;
+use table_core::word::{FAR_PLACE, place_of};
+use version_words::{EnterFault, Honesty, Name, Naming, Opened, Pass, Sizes, Spare, Words};
+
+/// How often a draw is tried while other threads draw.
+const TRIES: u32 = 1_000_000;
+
+/// Nobody vouches for the contents of words, so that calls owe nothing of them.
+pub struct Unvouched;
+
+impl Honesty for Unvouched {
+    ghost use Rattle.std.specs.Prelude.{false};
+
+    ghost honest = { false };
+}
+
+/// A row of four buckets with more names and passes than a test draws.
+fn opened(alloc: Global) -> Result<Opened<Text, Text, Unvouched>, Memory> {
+    let sizes = Sizes {
+        buckets: 4,
+        names: (1 << 40) - 1,
+        passes: 65_535,
+    };
+    Opened::open(alloc, sizes)
+}
+
+/// Draws a pass, also while other threads draw.
+fn entered<J: Naming>(words: &Words<Text, Text, J>) -> Option<Pass<Text, Text, J>> {
+    for _ in 0..TRIES {
+        match words.enter() {
+            Ok(pass) => return Some(pass),
+            Err(EnterFault::PassesSpent(_)) => return None,
+            Err(EnterFault::Moved(_)) => {}
+        }
+    }
+    None
+}
+
+/// The object of one pair: the key a, and a value of this one byte.
+fn object(alloc: Global, value: u8) -> Option<Object<Text, Text>> {
+    let key = Text::new(alloc, b"a").ok()?;
+    let value = Text::new(alloc, &[value]).ok()?;
+    let empty = Object::empty(alloc).ok()?;
+    empty.with(alloc, &key, &value).ok()
+}
+
+/// That object's bytes in the first format.
+fn one_pair(value: u8) -> [u8; 10] {
+    [0, 0, 0, 1, 0, 1, 0x61, 0, 1, value]
+}
+
+/// A name with the object that it was drawn for.
+#[derive(Drop)]
+struct Drawn<J: Naming> {
+    name: Name<Text, Text, J>,
+    object: Object<Text, Text>,
+    ghost same: { contents name.front name.number ≡ object },
+}
+
+impl<J: Naming> Drawn<J> {
+    /// Keeps the object under the name.
+    fn write<D: Device, R: Wait>(
+        &self,
+        rt: &R,
+        lanes: &LaneStore<Text, Text, J, D>,
+        format: Format,
+    ) -> Result<(), LaneFault> {
+        lanes.write(rt, &self.name, &self.object, format)
+    }
+
+    /// Gives the name up with the device as its place.
+    fn spare(self) -> Spare<Text, Text, J> {
+        let Drawn { name, object: _ } = self;
+        name.give_up(FAR_PLACE)
+    }
+}
+
+/// Draws the next name of the bucket for an object of one pair, also while other threads draw.
+fn draw<J: Naming>(
+    alloc: Global,
+    words: &Words<Text, Text, J>,
+    pass: &mut Pass<Text, Text, J>,
+    bucket: u32,
+    value: u8,
+) -> Option<Drawn<J>>
+    requires { J.limits.honest ≡ false }
+{
+    let object = object(alloc, value)?;
+    if bucket >= words.buckets() {
+        return None;
+    }
+    for _ in 0..TRIES {
+        if let Ok(name) = words.name(pass, bucket, &object) {
+            return Some(Drawn { name, object });
+        }
+    }
+    None
+}
+
+/// Removes the spare's object. The place of each spare of these tests is the device's.
+fn removed<J: Naming, D: Device, R: Wait>(
+    rt: &R,
+    lanes: &LaneStore<Text, Text, J, D>,
+    spare: &Spare<Text, Text, J>,
+) -> Result<bool, LaneFault> {
+    if place_of(spare.word()) == FAR_PLACE {
+        lanes.remove(rt, spare)
+    } else {
+        Ok(false)
+    }
+}
+
+/// What a read answered: the number and the bucket of the receipt.
+fn told<J: Naming>(
+    read: Result<Option<Receipt<Text, Text, J>>, LaneFault>,
+) -> Result<Option<(u64, u32)>, LaneFault> {
+    match read? {
+        Some(receipt) => Ok(Some((receipt.number(), receipt.bucket()))),
+        None => Ok(None),
+    }
+}
+
+/// Reads into a vector that holds 9 already, and compares the answer and the vector.
+fn expect_read<J: Naming, D: Device, R: Wait + Abort>(
+    rt: &R,
+    alloc: Global,
+    lanes: &LaneStore<Text, Text, J, D>,
+    name: u64,
+    answer: Result<Option<(u64, u32)>, LaneFault>,
+    want: &[u8],
+) -> Result<(), Fail> {
+    let mut out = Vec::from_slice(alloc, &[9])?;
+    assert_eq!(rt; told(lanes.read(rt, name, &mut out)), answer);
+    assert_eq!(rt; out[0], 9);
+    assert_eq!(rt; &out[1..], want);
+    Ok(())
+}
