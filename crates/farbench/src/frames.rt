@@ -166,7 +166,7 @@ fn table<R: Clock + Print + Threads + Sync, J: Naming + Send + Sync>(
     count: u32,
     rounds: u32,
 ) -> Result<()>
-    requires named { (opened.seen.book ≡ J.book) × (opened.seen.names ≡ J.names) × (limits_of opened.sizes false ≡ J.limits) }
+    requires named { (opened.book ≡ J.book) × (opened.names ≡ J.names) × (limits_of opened.sizes false ≡ J.limits) }
     requires few { count ≤ 65536 }
 {
     let words = opened.named::<J>();

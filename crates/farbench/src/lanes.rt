@@ -74,7 +74,7 @@ fn table<R: Clock + Print + Wait, J: Naming>(
     opened: Opened<u64, Text, Unvouched>,
     rounds: u32,
 ) -> Result<()>
-    requires { (opened.seen.book ≡ J.book) × (opened.seen.names ≡ J.names) × (limits_of opened.sizes false ≡ J.limits) }
+    requires { (opened.book ≡ J.book) × (opened.names ≡ J.names) × (limits_of opened.sizes false ≡ J.limits) }
 {
     let value = Text::new(alloc, &[7; VALUE])?;
     let object = Object::empty(alloc)?.with(alloc, &0, &value)?;

@@ -84,7 +84,7 @@ fn table<R: Clock + Print + Threads + Sync, J: Naming + Send + Sync>(
     most: u32,
     rounds: u32,
 ) -> Result<()>
-    requires { (opened.seen.book ≡ J.book) × (opened.seen.names ≡ J.names) × (limits_of opened.sizes false ≡ J.limits) }
+    requires { (opened.book ≡ J.book) × (opened.names ≡ J.names) × (limits_of opened.sizes false ≡ J.limits) }
 {
     let object = Object::empty(alloc)?.with(alloc, &0, &0)?;
     let row = Row::<J>::new(opened, object);

@@ -131,7 +131,7 @@ fn on_row<R: Wait, J: Naming>(
     kind: Kind,
     case: Case,
 ) -> Result<Outcome, Memory>
-    requires named { (opened.seen.book ≡ J.book) × (opened.seen.names ≡ J.names) × (limits_of opened.sizes false ≡ J.limits) }
+    requires named { (opened.book ≡ J.book) × (opened.names ≡ J.names) × (limits_of opened.sizes false ≡ J.limits) }
 {
     let row = Row::<J>::new(opened)?;
     let keeper = match kind {

@@ -18,7 +18,15 @@ use Rattle.version_words.specs.declared.change.Change.{Change}
 use Rattle.version_words.specs.declared.change.Change.TheVariants as change
 use Rattle.version_words.specs.declared.change.Probe.{Probe}
 use Rattle.version_words.specs.declared.change.Probe.TheVariants as probe
+use Rattle.logbook.specs.Pages.{Book}
+use Rattle.version_words.specs.declared.sizes.Sizes.{Sizes}
 use Rattle.version_words.specs.Boards.{Slot, board_at}
+
+-- a row that was opened: what proofs call its log and its boards, and its sizes
+pub record OpenedView : Type 0 where
+  pub book : Book
+  pub names : List ℕ
+  pub sizes : Sizes
 
 -- a pass: the log that it has seen, and its number
 pub record PassView (K V : Type 0) : Type 0 where

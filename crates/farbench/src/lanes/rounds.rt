@@ -28,7 +28,7 @@ pub struct Names<J: Naming> {
 impl<J: Naming> Names<J> {
     /// Names of the row, or none where no pass is left.
     pub fn new(opened: Opened<u64, Text, Unvouched>, object: Object<u64, Text>) -> Option<Names<J>>
-        requires { (opened.seen.book ≡ J.book) × (opened.seen.names ≡ J.names) × (limits_of opened.sizes false ≡ J.limits) }
+        requires { (opened.book ≡ J.book) × (opened.names ≡ J.names) × (limits_of opened.sizes false ≡ J.limits) }
     {
         let words = opened.named::<J>();
         let pass = words.enter().ok()?;

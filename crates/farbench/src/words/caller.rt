@@ -23,7 +23,7 @@ pub struct Row<J: Naming> {
 
 impl<J: Naming> Row<J> {
     pub fn new(opened: Opened<u64, u64, Unvouched>, object: Object<u64, u64>) -> Row<J>
-        requires { (opened.seen.book ≡ J.book) × (opened.seen.names ≡ J.names) × (limits_of opened.sizes false ≡ J.limits) }
+        requires { (opened.book ≡ J.book) × (opened.names ≡ J.names) × (limits_of opened.sizes false ≡ J.limits) }
     {
         Row {
             words: opened.named::<J>(),

@@ -24,8 +24,8 @@ fn past_the_last<J: Naming, R: Abort>(
     alloc: Global,
     opened: Opened<Text, Text, Unvouched>,
 ) -> Result<(), Fail>
-    requires book { opened.seen.book ≡ J.book }
-    requires boards { opened.seen.names ≡ J.names }
+    requires book { opened.book ≡ J.book }
+    requires boards { opened.names ≡ J.names }
     requires limits { limits_of opened.sizes false ≡ J.limits }
 {
     let words = opened.named::<J>();

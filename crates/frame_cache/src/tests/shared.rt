@@ -154,8 +154,8 @@ fn two_share<J: Naming + Send + Sync, R: Threads + Abort + Sync>(
     alloc: Global,
     opened: Opened<Text, Text, Unvouched>,
 ) -> Result<(), Fail>
-    requires book { opened.seen.book ≡ J.book }
-    requires boards { opened.seen.names ≡ J.names }
+    requires book { opened.book ≡ J.book }
+    requires boards { opened.names ≡ J.names }
     requires limits { limits_of opened.sizes false ≡ J.limits }
 {
     let shared = Shared::new(alloc, opened.named::<J>())?;
@@ -174,8 +174,8 @@ fn four_share<J: Naming + Send + Sync, R: Threads + Abort + Sync>(
     alloc: Global,
     opened: Opened<Text, Text, Unvouched>,
 ) -> Result<(), Fail>
-    requires book { opened.seen.book ≡ J.book }
-    requires boards { opened.seen.names ≡ J.names }
+    requires book { opened.book ≡ J.book }
+    requires boards { opened.names ≡ J.names }
     requires limits { limits_of opened.sizes false ≡ J.limits }
 {
     let shared = Shared::new(alloc, opened.named::<J>())?;

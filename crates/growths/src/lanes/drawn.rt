@@ -37,7 +37,7 @@ pub struct Row<J: Naming> {
 impl<J: Naming> Row<J> {
     /// The row that was opened, with its first pass.
     pub fn new(opened: Opened<u64, u64, Unvouched>) -> Result<Row<J>, Memory>
-        requires named { (opened.seen.book ≡ J.book) × (opened.seen.names ≡ J.names) × (limits_of opened.sizes false ≡ J.limits) }
+        requires named { (opened.book ≡ J.book) × (opened.names ≡ J.names) × (limits_of opened.sizes false ≡ J.limits) }
     {
         let words = opened.named::<J>();
         match words.enter() {

@@ -39,8 +39,8 @@ fn gives<J: Naming, D: Device, R: Wait + Abort>(
     devices: Vec<D>,
     want: &[u8],
 ) -> Result<(), Fail>
-    requires book { opened.seen.book ≡ J.book }
-    requires boards { opened.seen.names ≡ J.names }
+    requires book { opened.book ≡ J.book }
+    requires boards { opened.names ≡ J.names }
     requires limits { limits_of opened.sizes false ≡ J.limits }
     requires one { vec_len devices ≡ 1 }
 {

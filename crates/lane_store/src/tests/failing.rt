@@ -47,8 +47,8 @@ fn run<J: Naming, R: Wait + Abort>(
     device: WatchedDevice<FaultyDevice<FakeDevice>>,
     failures: &AtomicU64,
 ) -> Result<(), Fail>
-    requires book { opened.seen.book ≡ J.book }
-    requires boards { opened.seen.names ≡ J.names }
+    requires book { opened.book ≡ J.book }
+    requires boards { opened.names ≡ J.names }
     requires limits { limits_of opened.sizes false ≡ J.limits }
 {
     let words = opened.named::<J>();

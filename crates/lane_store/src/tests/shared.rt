@@ -93,8 +93,8 @@ fn two_share<J: Naming + Send + Sync, R: Threads + Wait + Abort + Sync>(
     alloc: Global,
     opened: Opened<Text, Text, Unvouched>,
 ) -> Result<(), Fail>
-    requires book { opened.seen.book ≡ J.book }
-    requires boards { opened.seen.names ≡ J.names }
+    requires book { opened.book ≡ J.book }
+    requires boards { opened.names ≡ J.names }
     requires limits { limits_of opened.sizes false ≡ J.limits }
 {
     let all = Shared::new(alloc, opened.named::<J>())?;

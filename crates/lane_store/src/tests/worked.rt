@@ -16,16 +16,29 @@ use version_words::{Naming, Opened};
 
 #[test]
 fn two_lanes(rt: HostRuntime) -> Result<(), Fail> {
-    whole_run::<Brand, _>(&rt, rt.alloc(), opened(rt.alloc())?)
+    let row = opened(rt.alloc())?;
+    whole_run::<Brand, _>(&rt, rt.alloc(), row, Format::One, &one_pair(b'1'))
+}
+
+#[test]
+fn two_lanes_in_the_second_format(rt: HostRuntime) -> Result<(), Fail> {
+    let row = opened(rt.alloc())?;
+    let with_header = [
+        0xff, 0xff, 0xff, 0xff, 0, 0, 0, 0, 0, 0, 0, 0, 0, 0, 0, 3, 0, 0, 0, 1, 0, 1, 0x61, 0, 1,
+        b'1',
+    ];
+    whole_run::<Brand, _>(&rt, rt.alloc(), row, Format::Two, &with_header)
 }
 
 fn whole_run<J: Naming, R: Wait + Abort>(
     rt: &R,
     alloc: Global,
     opened: Opened<Text, Text, Unvouched>,
+    format: Format,
+    bytes: &[u8],
 ) -> Result<(), Fail>
-    requires book { opened.seen.book ≡ J.book }
-    requires boards { opened.seen.names ≡ J.names }
+    requires book { opened.book ≡ J.book }
+    requires boards { opened.names ≡ J.names }
     requires limits { limits_of opened.sizes false ≡ J.limits }
 {
     let words = opened.named::<J>();
@@ -35,8 +48,8 @@ fn whole_run<J: Naming, R: Wait + Abort>(
     draw(alloc, &words, &mut pass, 0, b'1').ok_or("no name")?;
     draw(alloc, &words, &mut pass, 0, b'1').ok_or("no name")?;
     let third = draw(alloc, &words, &mut pass, 0, b'1').ok_or("no name")?;
-    third.write(rt, &lanes, Format::One)?;
-    expect_read(rt, alloc, &lanes, 3, Ok(Some((3, 0))), &one_pair(b'1'))?;
+    third.write(rt, &lanes, format)?;
+    expect_read(rt, alloc, &lanes, 3, Ok(Some((3, 0))), bytes)?;
     expect_read(rt, alloc, &lanes, 4, Ok(None), &[])?;
     let spare = third.spare();
     assert_eq!(rt; removed(rt, &lanes, &spare), Ok(true));
@@ -55,8 +68,8 @@ fn alone<J: Naming, R: Abort>(
     alloc: Global,
     opened: Opened<Text, Text, Unvouched>,
 ) -> Result<(), Fail>
-    requires book { opened.seen.book ≡ J.book }
-    requires boards { opened.seen.names ≡ J.names }
+    requires book { opened.book ≡ J.book }
+    requires boards { opened.names ≡ J.names }
     requires limits { limits_of opened.sizes false ≡ J.limits }
 {
     let words = opened.named::<J>();

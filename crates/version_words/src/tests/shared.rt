@@ -33,8 +33,8 @@ fn sent<J: Naming + Send + Sync, R: Threads + Abort + Sync>(
     alloc: Global,
     opened: Opened<Text, Text, Unvouched>,
 ) -> Result<(), Fail>
-    requires book { opened.seen.book ≡ J.book }
-    requires boards { opened.seen.names ≡ J.names }
+    requires book { opened.book ≡ J.book }
+    requires boards { opened.names ≡ J.names }
     requires limits { limits_of opened.sizes false ≡ J.limits }
 {
     let words = opened.named::<J>();
@@ -257,8 +257,8 @@ fn two_share<J: Naming + Send + Sync, R: Threads + Abort + Sync>(
     alloc: Global,
     opened: Opened<Text, Text, Unvouched>,
 ) -> Result<(), Fail>
-    requires book { opened.seen.book ≡ J.book }
-    requires boards { opened.seen.names ≡ J.names }
+    requires book { opened.book ≡ J.book }
+    requires boards { opened.names ≡ J.names }
     requires limits { limits_of opened.sizes false ≡ J.limits }
 {
     let words = opened.named::<J>();
@@ -282,8 +282,8 @@ fn four_share<J: Naming + Send + Sync, R: Threads + Abort + Sync>(
     alloc: Global,
     opened: Opened<Text, Text, Unvouched>,
 ) -> Result<(), Fail>
-    requires book { opened.seen.book ≡ J.book }
-    requires boards { opened.seen.names ≡ J.names }
+    requires book { opened.book ≡ J.book }
+    requires boards { opened.names ≡ J.names }
     requires limits { limits_of opened.sizes false ≡ J.limits }
 {
     let words = opened.named::<J>();

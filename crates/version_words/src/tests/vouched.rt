@@ -34,8 +34,8 @@ fn met<J: Naming, R: Abort>(
     alloc: Global,
     opened: Opened<Text, Text, Vouched>,
 ) -> Result<(), Fail>
-    requires book { opened.seen.book ≡ J.book }
-    requires boards { opened.seen.names ≡ J.names }
+    requires book { opened.book ≡ J.book }
+    requires boards { opened.names ≡ J.names }
     requires limits { limits_of opened.sizes true ≡ J.limits }
 {
     let words = opened.named::<J>();

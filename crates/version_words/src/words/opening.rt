@@ -14,7 +14,7 @@ use crossbeam_utils::CachePadded;
 use far_object::{FarObject, Memory};
 use logbook::{Opening, Seen, Word};
 use std::alloc::Global;
-use std::marker::PhantomData;
+use std::marker::{Model, PhantomData};
 
 /// The first log of a row.
 struct Fresh<H> {
@@ -27,7 +27,8 @@ impl<K, V, H: Honesty> Opening<Sizes, Entry<K, V>> for Fresh<H> {
     ghost log = { λ count sizes. fresh (limits_of sizes H.honest) };
 }
 
-/// A row that was opened and has no name yet. `H` says whether the contents of its words are vouched for.
+/// A row that was opened and has no name yet. `H` says whether the contents of its words are vouched for. Contracts see what
+/// proofs call it, and its sizes.
 #[derive(Drop)]
 pub struct Opened<K: FarObject, V: FarObject, H: Honesty> {
     sizes: Sizes,
@@ -41,6 +42,14 @@ pub struct Opened<K: FarObject, V: FarObject, H: Honesty> {
     ghost passes_is: { padded_value passes ≡ word_at seen.book (sizes.buckets + 1) },
     ghost fresh: { seen.log ≡ fresh (limits_of sizes H.honest) },
     ghost within: { AreWithin (limits_of sizes H.honest) },
+}
+
+impl<K: FarObject, V: FarObject, H: Honesty> Model for Opened<K, V, H> {
+    ghost use Rattle.version_words.specs.Views.{OpenedView};
+
+    ghost Value = { OpenedView };
+
+    ghost view = { λ o. record { book = o.seen.book; names = o.seen.names; sizes = o.sizes } };
 }
 
 impl<K: FarObject, V: FarObject, H: Honesty> Opened<K, V, H> {
@@ -74,8 +83,8 @@ impl<K: FarObject, V: FarObject, H: Honesty> Opened<K, V, H> {
 
     /// The words under a name, which the caller picks so that it fits.
     pub fn named<J: Naming>(self) -> Words<K, V, J>
-        requires book { self.seen.book ≡ J.book }
-        requires boards { self.seen.names ≡ J.names }
+        requires book { self.book ≡ J.book }
+        requires boards { self.names ≡ J.names }
         requires limits { limits_of self.sizes H.honest ≡ J.limits }
     {
         let Opened {

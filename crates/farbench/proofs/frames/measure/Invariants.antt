@@ -4,4 +4,4 @@ use Rattle.farbench.proofs.frames.measure.Given as goal
 
 -- the row that was just opened
 abbrev pub ghosts-table : goal.ghosts-table
-ghosts-table g a = record { book = a.opened.seen.book; names = a.opened.seen.names; limits = limits_of a.opened.sizes false }
+ghosts-table g a = record { book = a.opened.book; names = a.opened.names; limits = limits_of a.opened.sizes false }

@@ -4,4 +4,4 @@ use Rattle.growths.proofs.lanes.made.Given as goal
 
 -- the row that was just opened
 abbrev pub ghosts-on_row : goal.ghosts-on_row
-ghosts-on_row g a = record { book = a.opened.seen.book; names = a.opened.seen.names; limits = limits_of a.opened.sizes false }
+ghosts-on_row g a = record { book = a.opened.book; names = a.opened.names; limits = limits_of a.opened.sizes false }

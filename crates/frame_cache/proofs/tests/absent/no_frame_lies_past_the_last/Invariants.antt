@@ -4,4 +4,4 @@ use Rattle.frame_cache.proofs.tests.absent.no_frame_lies_past_the_last.Given as 
 
 -- the row that was just opened
 abbrev pub ghosts-past_the_last : goal.ghosts-past_the_last
-ghosts-past_the_last g a = record { book = a.opened.seen.book; names = a.opened.seen.names; limits = limits_of a.opened.sizes false }
+ghosts-past_the_last g a = record { book = a.opened.book; names = a.opened.names; limits = limits_of a.opened.sizes false }

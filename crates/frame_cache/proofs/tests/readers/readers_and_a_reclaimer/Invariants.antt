@@ -4,4 +4,4 @@ use Rattle.frame_cache.proofs.tests.readers.readers_and_a_reclaimer.Given as goa
 
 -- the row that was just opened
 abbrev pub ghosts-one_by_one : goal.ghosts-one_by_one
-ghosts-one_by_one g a = record { book = a.opened.seen.book; names = a.opened.seen.names; limits = limits_of a.opened.sizes false }
+ghosts-one_by_one g a = record { book = a.opened.book; names = a.opened.names; limits = limits_of a.opened.sizes false }

@@ -4,4 +4,4 @@ use Rattle.frame_cache.proofs.tests.retired.a_version_comes_back_from_other_spar
 
 -- the row that was just opened
 abbrev pub ghosts-other_spares : goal.ghosts-other_spares
-ghosts-other_spares g a = record { book = a.opened.seen.book; names = a.opened.seen.names; limits = limits_of a.opened.sizes false }
+ghosts-other_spares g a = record { book = a.opened.book; names = a.opened.names; limits = limits_of a.opened.sizes false }

@@ -4,4 +4,4 @@ use Rattle.frame_cache.proofs.tests.retired.a_version_ends_for_its_own_spare.Giv
 
 -- the row that was just opened
 abbrev pub ghosts-own_spare : goal.ghosts-own_spare
-ghosts-own_spare g a = record { book = a.opened.seen.book; names = a.opened.seen.names; limits = limits_of a.opened.sizes false }
+ghosts-own_spare g a = record { book = a.opened.book; names = a.opened.names; limits = limits_of a.opened.sizes false }

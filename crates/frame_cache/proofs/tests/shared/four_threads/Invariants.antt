@@ -4,4 +4,4 @@ use Rattle.frame_cache.proofs.tests.shared.four_threads.Given as goal
 
 -- the row that was just opened
 abbrev pub ghosts-four_share : goal.ghosts-four_share
-ghosts-four_share g a = record { book = a.opened.seen.book; names = a.opened.seen.names; limits = limits_of a.opened.sizes false }
+ghosts-four_share g a = record { book = a.opened.book; names = a.opened.names; limits = limits_of a.opened.sizes false }

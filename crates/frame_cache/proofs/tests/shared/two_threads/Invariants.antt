@@ -4,4 +4,4 @@ use Rattle.frame_cache.proofs.tests.shared.two_threads.Given as goal
 
 -- the row that was just opened
 abbrev pub ghosts-two_share : goal.ghosts-two_share
-ghosts-two_share g a = record { book = a.opened.seen.book; names = a.opened.seen.names; limits = limits_of a.opened.sizes false }
+ghosts-two_share g a = record { book = a.opened.book; names = a.opened.names; limits = limits_of a.opened.sizes false }

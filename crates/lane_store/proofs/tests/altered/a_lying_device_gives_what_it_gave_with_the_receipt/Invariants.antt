@@ -4,4 +4,4 @@ use Rattle.lane_store.proofs.tests.altered.a_lying_device_gives_what_it_gave_wit
 
 -- the row that was just opened
 abbrev pub ghosts-gives : goal.ghosts-gives
-ghosts-gives g a = record { book = a.opened.seen.book; names = a.opened.seen.names; limits = limits_of a.opened.sizes false }
+ghosts-gives g a = record { book = a.opened.book; names = a.opened.names; limits = limits_of a.opened.sizes false }

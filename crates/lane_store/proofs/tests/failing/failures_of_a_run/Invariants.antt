@@ -4,4 +4,4 @@ use Rattle.lane_store.proofs.tests.failing.failures_of_a_run.Given as goal
 
 -- the row that was just opened
 abbrev pub ghosts-run : goal.ghosts-run
-ghosts-run g a = record { book = a.opened.seen.book; names = a.opened.seen.names; limits = limits_of a.opened.sizes false }
+ghosts-run g a = record { book = a.opened.book; names = a.opened.names; limits = limits_of a.opened.sizes false }

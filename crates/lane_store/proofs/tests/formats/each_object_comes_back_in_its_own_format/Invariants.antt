@@ -4,4 +4,4 @@ use Rattle.lane_store.proofs.tests.formats.each_object_comes_back_in_its_own_for
 
 -- the row that was just opened
 abbrev pub ghosts-both : goal.ghosts-both
-ghosts-both g a = record { book = a.opened.seen.book; names = a.opened.seen.names; limits = limits_of a.opened.sizes false }
+ghosts-both g a = record { book = a.opened.book; names = a.opened.names; limits = limits_of a.opened.sizes false }

@@ -4,4 +4,4 @@ use Rattle.lane_store.proofs.tests.reading.what_is_read_through_is_the_contents.
 
 -- the row that was just opened
 abbrev pub ghosts-read_by_another : goal.ghosts-read_by_another
-ghosts-read_by_another g a = record { book = a.opened.seen.book; names = a.opened.seen.names; limits = limits_of a.opened.sizes false }
+ghosts-read_by_another g a = record { book = a.opened.book; names = a.opened.names; limits = limits_of a.opened.sizes false }

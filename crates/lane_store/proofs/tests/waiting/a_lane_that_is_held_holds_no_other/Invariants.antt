@@ -4,4 +4,4 @@ use Rattle.lane_store.proofs.tests.waiting.a_lane_that_is_held_holds_no_other.Gi
 
 -- the row that was just opened
 abbrev pub ghosts-held : goal.ghosts-held
-ghosts-held g a = record { book = a.opened.seen.book; names = a.opened.seen.names; limits = limits_of a.opened.sizes false }
+ghosts-held g a = record { book = a.opened.book; names = a.opened.names; limits = limits_of a.opened.sizes false }

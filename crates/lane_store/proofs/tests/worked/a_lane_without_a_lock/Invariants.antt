@@ -4,4 +4,4 @@ use Rattle.lane_store.proofs.tests.worked.a_lane_without_a_lock.Given as goal
 
 -- the row that was just opened
 abbrev pub ghosts-alone : goal.ghosts-alone
-ghosts-alone g a = record { book = a.opened.seen.book; names = a.opened.seen.names; limits = limits_of a.opened.sizes false }
+ghosts-alone g a = record { book = a.opened.book; names = a.opened.names; limits = limits_of a.opened.sizes false }

@@ -4,4 +4,4 @@ use Rattle.lane_store.proofs.tests.worked.two_lanes.Given as goal
 
 -- the row that was just opened
 abbrev pub ghosts-whole_run : goal.ghosts-whole_run
-ghosts-whole_run g a = record { book = a.opened.seen.book; names = a.opened.seen.names; limits = limits_of a.opened.sizes false }
+ghosts-whole_run g a = record { book = a.opened.book; names = a.opened.names; limits = limits_of a.opened.sizes false }

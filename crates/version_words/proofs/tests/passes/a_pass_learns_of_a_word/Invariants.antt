@@ -4,4 +4,4 @@ use Rattle.version_words.proofs.tests.passes.a_pass_learns_of_a_word.Given as go
 
 -- the row that was just opened
 abbrev pub ghosts-told : goal.ghosts-told
-ghosts-told g a = record { book = a.opened.seen.book; names = a.opened.seen.names; limits = limits_of a.opened.sizes false }
+ghosts-told g a = record { book = a.opened.book; names = a.opened.names; limits = limits_of a.opened.sizes false }

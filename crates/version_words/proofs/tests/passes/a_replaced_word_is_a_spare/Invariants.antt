@@ -4,4 +4,4 @@ use Rattle.version_words.proofs.tests.passes.a_replaced_word_is_a_spare.Given as
 
 -- the row that was just opened
 abbrev pub ghosts-replaced : goal.ghosts-replaced
-ghosts-replaced g a = record { book = a.opened.seen.book; names = a.opened.seen.names; limits = limits_of a.opened.sizes false }
+ghosts-replaced g a = record { book = a.opened.book; names = a.opened.names; limits = limits_of a.opened.sizes false }

@@ -4,4 +4,4 @@ use Rattle.version_words.proofs.tests.passes.a_value_is_set_where_another_is_exp
 
 -- the row that was just opened
 abbrev pub ghosts-expected : goal.ghosts-expected
-ghosts-expected g a = record { book = a.opened.seen.book; names = a.opened.seen.names; limits = limits_of a.opened.sizes false }
+ghosts-expected g a = record { book = a.opened.book; names = a.opened.names; limits = limits_of a.opened.sizes false }

@@ -4,4 +4,4 @@ use Rattle.version_words.proofs.tests.passes.a_word_moves_to_the_device.Given as
 
 -- the row that was just opened
 abbrev pub ghosts-moved : goal.ghosts-moved
-ghosts-moved g a = record { book = a.opened.seen.book; names = a.opened.seen.names; limits = limits_of a.opened.sizes false }
+ghosts-moved g a = record { book = a.opened.book; names = a.opened.names; limits = limits_of a.opened.sizes false }

@@ -4,4 +4,4 @@ use Rattle.version_words.proofs.tests.shared.a_spare_goes_to_another_thread.Give
 
 -- the row that was just opened
 abbrev pub ghosts-sent : goal.ghosts-sent
-ghosts-sent g a = record { book = a.opened.seen.book; names = a.opened.seen.names; limits = limits_of a.opened.sizes false }
+ghosts-sent g a = record { book = a.opened.book; names = a.opened.names; limits = limits_of a.opened.sizes false }

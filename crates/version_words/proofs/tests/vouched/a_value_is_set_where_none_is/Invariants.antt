@@ -4,4 +4,4 @@ use Rattle.version_words.proofs.tests.vouched.a_value_is_set_where_none_is.Given
 
 -- the row that was just opened
 abbrev pub ghosts-met : goal.ghosts-met
-ghosts-met g a = record { book = a.opened.seen.book; names = a.opened.seen.names; limits = limits_of a.opened.sizes true }
+ghosts-met g a = record { book = a.opened.book; names = a.opened.names; limits = limits_of a.opened.sizes true }
