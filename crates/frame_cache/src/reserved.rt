@@ -6,10 +6,12 @@ use crate::slot::{SlotClaim, word_of};
 use crate::version::{Lodged, Version};
 use counted_slot::FREE;
 use far_object::FarObject;
+use std::marker::Model;
 use std::mem::forget;
 use version_words::Naming;
 
-/// A free frame that no other call gets. It has to be spent, in its own thread, by `fill` or by `cancel`.
+/// A free frame that no other call gets. It has to be spent, in its own thread, by `fill` or by `cancel`. Contracts see its
+/// number.
 pub struct Reserved<'a, K: FarObject, V: FarObject, J: Naming> {
     pub(crate) frames: &'a Frames<K, V, J>,
     pub(crate) claim: SlotClaim<'a, K, V, J>,
@@ -18,10 +20,18 @@ pub struct Reserved<'a, K: FarObject, V: FarObject, J: Naming> {
     ghost below: { frame < 65536 },
 }
 
+impl<'a, K: FarObject, V: FarObject, J: Naming> Model for Reserved<'a, K, V, J> {
+    ghost use Rattle.std.specs.Prelude.{ℕ};
+
+    ghost Value = { ℕ };
+
+    ghost view = { λ r. r.frame };
+}
+
 impl<'a, K: FarObject, V: FarObject, J: Naming> Reserved<'a, K, V, J> {
     /// The frame's number.
     pub fn frame(&self) -> u32
-        ensures is { result ≡ self.now.frame }
+        ensures is { result ≡ self.now }
         ensures below { result < 65536 }
     {
         self.frame
@@ -29,7 +39,7 @@ impl<'a, K: FarObject, V: FarObject, J: Naming> Reserved<'a, K, V, J> {
 
     /// Puts the version into the frame, and answers the frame's number.
     pub fn fill(self, version: Version<K, V, J>) -> u32
-        ensures { result ≡ self.entry.frame }
+        ensures { result ≡ self.entry }
     {
         let Self {
             frames,
