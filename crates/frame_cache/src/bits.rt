@@ -28,11 +28,6 @@ impl Bits {
         Ok(Bits { words })
     }
 
-    /// How many words of 64 bits there are.
-    pub fn len(&self) -> usize {
-        self.words.len()
-    }
-
     /// The bits of the word at this place, or none past the last.
     pub fn load(&self, at: usize) -> u64 {
         match self.words.get(at) {
@@ -101,11 +96,6 @@ impl Vacant {
                 self.words.set(frame / WORD);
             }
         }
-    }
-
-    /// How many words name words with free frames.
-    pub fn len(&self) -> usize {
-        self.words.len()
     }
 
     /// Which of the 64 words from `64 * at` name free frames.

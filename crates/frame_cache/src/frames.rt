@@ -4,7 +4,7 @@
 //!
 //! `reclaim` takes a `Spare`: a word that its bucket never holds again. It compares the frame's version with the spare's
 //! name under a claim to read, leaves that, and claims the right to write where the word is still the one compared and
-//! nobody reads. A version leaves a frame through `laws::retire`, which ends it exactly where it is the spare's.
+//! nobody reads. `empty` then ends the version through `laws::retire`, which ends it exactly where it is the spare's.
 //!
 //! # Hints
 //!
@@ -29,6 +29,10 @@ use std::sync::atomic::AtomicU32;
 use std::sync::atomic::Ordering::SeqCst;
 use table_core::word::{name_of, place_of};
 use version_words::{Naming, Spare};
+
+/// How many words of the upper layer of bits there may be: each names 64 words of 64 frames, and one more is there for the
+/// remainder.
+const UPPER_WORDS: u32 = 17;
 
 /// A row of frames. Every call takes `&self`, and threads share it. Each frame lies alone on its cache lines.
 ///
@@ -117,9 +121,10 @@ impl<K: FarObject, V: FarObject, J: Naming> Frames<K, V, J> {
         None
     }
 
-    /// The first frame that is free, for this call alone. `NoFrame` comes only after a look at each frame.
+    /// A free frame for this call alone: the first that the hints name, which is the first free one at rest. `NoFrame` is
+    /// answered behind a look at each frame. No clause says either.
     pub fn reserve(&self) -> Result<Reserved<'_, K, V, J>, NoFrame> {
-        for at in 0..17u32 {
+        for at in 0..UPPER_WORDS {
             if let Some(reserved) = self.reserve_below(at) {
                 return Ok(reserved);
             }
@@ -216,7 +221,7 @@ impl<K: FarObject, V: FarObject, J: Naming> Frames<K, V, J> {
         }
     }
 
-    /// How many frames are free. Nothing is claimed of it while other threads run; at rest it is exact.
+    /// How many frames are free: a hint, of which no clause says anything. At rest the tests find it exact.
     pub fn free(&self) -> u32 {
         self.free.load(SeqCst)
     }

@@ -45,7 +45,7 @@ impl<K: FarObject, V: FarObject, J: Naming, D: Device> Model for Lane<K, V, J, D
 }
 
 // Writes the object to the device under the name, spelled out in `room` where it has a header.
-fn store<K: FarObject, V: FarObject, J: Naming, D: Device>(
+fn write_to<K: FarObject, V: FarObject, J: Naming, D: Device>(
     device: &mut D,
     room: &mut Vec<u8>,
     name: &Name<K, V, J>,
@@ -73,7 +73,8 @@ fn store<K: FarObject, V: FarObject, J: Naming, D: Device>(
 impl<K: FarObject, V: FarObject, J: Naming, D: Device> Lane<K, V, J, D> {
     /// The lane of a device, which is made empty.
     ///
-    /// `Memory` comes where a growth is refused in the device, `Device` where it fails.
+    /// `Memory` comes where a growth is refused in the device, `Device` where it fails; no clause says so, since the device
+    /// is dropped then.
     pub fn open(alloc: Global, mut device: D) -> Result<Lane<K, V, J, D>, LaneFault>
         ensures { IfOk result (λ lane. IsOpened D.state device lane) }
     {
@@ -102,7 +103,7 @@ impl<K: FarObject, V: FarObject, J: Naming, D: Device> Lane<K, V, J, D> {
         let number = name.number();
         self.receipts.remove(&number);
         self.receipts.reserve(1)?;
-        store(&mut self.device, &mut self.spelled, name, object, format)?;
+        write_to(&mut self.device, &mut self.spelled, name, object, format)?;
         self.receipts.insert(number, Receipt::of(name))?;
         Ok(())
     }

@@ -38,9 +38,9 @@ pub struct LaneStore<K: FarObject, V: FarObject, J: Naming, D: Device> {
 }
 
 impl<K: FarObject, V: FarObject, J: Naming, D: Device> LaneStore<K, V, J, D> {
-    /// A lane for each device, which is made empty. After a fault all of them are dropped.
+    /// A lane for each device, each made by `Lane::open`. After a fault all of them are dropped.
     ///
-    /// `Memory` comes where a growth is refused, `Device` where a device fails.
+    /// `Memory` comes where a growth is refused, `Device` where a device fails; no clause says so.
     pub fn open(alloc: Global, devices: Vec<D>) -> Result<LaneStore<K, V, J, D>, LaneFault>
         requires some { 0 < vec_len devices }
         requires most { vec_len devices ≤ 64 }
@@ -57,9 +57,8 @@ impl<K: FarObject, V: FarObject, J: Naming, D: Device> LaneStore<K, V, J, D> {
         &self.lanes[lane_of(name, self.lanes.len())]
     }
 
-    /// Keeps the object under the name, in this format. After a fault no receipt stands for the name.
-    ///
-    /// `Memory` comes where a growth is refused, `Device` where the lane's device fails.
+    /// Makes `Lane::write` on the name's lane, once its lock is free. What that does to the lane is said there: no clause
+    /// can say it here.
     pub fn write<R: Wait>(
         &self,
         rt: &R,
@@ -73,10 +72,9 @@ impl<K: FarObject, V: FarObject, J: Naming, D: Device> LaneStore<K, V, J, D> {
         lane.write(name, object, format)
     }
 
-    /// Appends the object of the name to `out`, in the format in which it was written. None where no receipt stands for
-    /// the name; then, and after a fault, `out` is as before.
-    ///
-    /// `Memory` comes where a growth is refused, `Device` where the lane's device fails.
+    /// Makes `Lane::read` on the name's lane, once its lock is free: appends the object of the name to `out`, and gives its
+    /// receipt. Where none is answered, and after a fault, `out` is as before. That none is answered only where no receipt
+    /// stands is said there, and can't be said here.
     pub fn read<R: Wait>(
         &self,
         rt: &R,
@@ -91,10 +89,8 @@ impl<K: FarObject, V: FarObject, J: Naming, D: Device> LaneStore<K, V, J, D> {
         lane.read(name, out)
     }
 
-    /// Removes the object of the spare's name, and answers whether the device had it. Whatever is answered, no receipt
-    /// stands for the name afterwards.
-    ///
-    /// `Memory` comes where a growth of the device is refused, `Device` where it fails.
+    /// Makes `Lane::remove` on the name's lane, once its lock is free. What that does to the lane is said there: no clause
+    /// can say it here.
     pub fn remove<R: Wait>(&self, rt: &R, spare: &Spare<K, V, J>) -> Result<bool, LaneFault>
         requires far { place_of spare.now.word ≡ far_place }
     {

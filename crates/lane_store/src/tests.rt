@@ -6,6 +6,7 @@ ghost use Rattle.table_core.specs.Logs.{contents};
 mod altered;
 mod failing;
 mod formats;
+mod opening;
 mod reading;
 mod shared;
 mod waiting;

@@ -20,7 +20,7 @@ impl<K: FarObject, V: FarObject, J: Naming> Words<K, V, J> {
     /// Draws the next pass, which has made no call.
     ///
     /// `PassesSpent` comes where the last pass was drawn, `Moved` where another one was drawn between the look and the
-    /// step.
+    /// step; of the latter the clause says no more than that a pass was drawn.
     pub fn enter(&self) -> Result<Pass<K, V, J>, EnterFault<K, V, J>>
         ensures lawful { IfOk result (λ p. IsLawful K.enc V.enc J.limits p.front) }
         ensures entered { IfOk result (λ p. EndsWith [] (Enter p.number) p.front) }

@@ -14,22 +14,22 @@ invariant_of-self g c =
 pub returns-in_err-reserve-clause-stored : goal.returns-in_err-reserve-clause-stored
 returns-in_err-reserve-clause-stored g c = invariant_of-self g c
 
-pub invariant_of-self-in_err-store : goal.invariant_of-self-in_err-store
-invariant_of-self-in_err-store g c =
-    dropped g.K.FarObject.enc g.V.FarObject.enc g.K.FarObject.admits g.V.FarObject.admits g.J.Naming.limits (g.D.Device.state c.self.inside.device).contents (g.D.Device.state c.store.new.device).contents
+pub invariant_of-self-in_err-write_to : goal.invariant_of-self-in_err-write_to
+invariant_of-self-in_err-write_to g c =
+    dropped g.K.FarObject.enc g.V.FarObject.enc g.K.FarObject.admits g.V.FarObject.admits g.J.Naming.limits (g.D.Device.state c.self.inside.device).contents (g.D.Device.state c.write_to.new.device).contents
     c.self.inside.receipts.entries c.reserve.new.self.entries c.number-number.result c.self.invariant (λ q. c.reserve.ensures.entries.2 q ∙ c.remove.ensures.updates.0 q)
-    (rw (← c.number-number.ensures) at c.in_err-store.ensures.others)
+    (rw (← c.number-number.ensures) at c.in_err-write_to.ensures.others)
 
-pub returns-in_err-store-clause-stored : goal.returns-in_err-store-clause-stored
-returns-in_err-store-clause-stored g c = invariant_of-self-in_err-store g c
+pub returns-in_err-write_to-clause-stored : goal.returns-in_err-write_to-clause-stored
+returns-in_err-write_to-clause-stored g c = invariant_of-self-in_err-write_to g c
 
 pub invariant_of-self-2 : goal.invariant_of-self-2
 invariant_of-self-2 g c =
     let n = c.number-number.result in
     let old = (g.D.Device.state c.self.inside.device).contents in
-    let new = (g.D.Device.state c.store.new.device).contents in
+    let new = (g.D.Device.state c.write_to.new.device).contents in
     let stored = spelling g.K.FarObject.enc g.V.FarObject.enc c.args.format c.args.name.now.bucket c.args.name.now.number c.args.object.now in
-    let e = c.in_ok-store.ensures in
+    let e = c.in_ok-write_to.ensures in
     let is : new ≡ insert old n stored = ◌∙◌ {b = insert old c.args.name.now.number stored} e.stored (ap (λ k. insert old k stored) (sym c.number-number.ensures)) in
     let without =
     dropped g.K.FarObject.enc g.V.FarObject.enc g.K.FarObject.admits g.V.FarObject.admits g.J.Naming.limits old new
