@@ -4,9 +4,12 @@ pub mod Distinct
 pub mod Entries
 pub mod Faulting
 pub mod Finding
+pub mod Long
 pub mod Placing
 pub mod Putting
 pub mod Reading
+pub mod Rising
 pub mod Sound
 pub mod Spots
+pub mod Values
 pub mod Walks

@@ -1,22 +1,22 @@
 -- The bytes and the pairs after a change.
-use Rattle.std.proofs.Common.{◌≡◌, ℕ, ◌+◌, ◌-◌, ◌<◌, ◌≤◌, List, [], ◌∷◌, ◌++◌, length, drop, take, refl, ap, sym, ◌∙◌, subst, arith, append_assoc, length-append}
+use Rattle.std.proofs.Common.{◌≡◌, ℕ, ◌+◌, ◌-◌, ◌<◌, ◌≤◌, List, [], ◌∷◌, ◌++◌, length, drop, take, ap, sym, ◌∙◌, arith, append_assoc, length-append}
 use Rattle.std.specs.Prelude.{Bool, true, false, not, cond}
 use Rattle.std.specs.Int.{w32, to_be_bytes}
 use Rattle.std.specs.List.{AllByRecursion, filter}
 use Rattle.std.specs.declared.cmp.Ordering.{Ordering}
 use Rattle.std.specs.declared.cmp.Ordering.TheVariants.{Less, Equal, Greater}
-use Rattle.std.specs.Ordering.{match_ordering, ordering_reverse}
+use Rattle.std.specs.Ordering.{match_ordering}
 use Rattle.std.specs.BTreeMap.{insert_entry, is_at}
 use Rattle.std.specs.Map.{keys_of}
 use Rattle.std.specs.List.Sorted.{IsStrictlySortedBy}
 use Rattle.std.proofs.lemmas.Map.Lookups.{exact_bytes}
-use Rattle.std.proofs.lemmas.List.Kept.{IsStrictlySortedBy-filter}
 use Rattle.std.proofs.lemmas.List.{drop_at, take_at}
 use Rattle.far_object.specs.declared.object.locate.Spot.TheVariants.{Gap, Here}
 use Rattle.far_object.specs.Objects.{body_of, object_of, cut, IsMap, most_pairs}
 use Rattle.far_object.specs.Spots.{spot_from}
 use Rattle.far_object.specs.Buckets.{key_cmp}
-use Rattle.far_object.proofs.Spots.{total, all_above, body-append, HereSplit, gap_split, here_split}
+use Rattle.far_object.proofs.Rising.{rising_insert, rising_filter}
+use Rattle.far_object.proofs.Spots.{body-append, HereSplit, gap_split, here_split}
 
 module _ {K V : Type 0} (ek : K → List ℕ) (ev : V → List ℕ) where
   -- the parts of an object's bytes before and behind a place between its pairs
@@ -37,17 +37,17 @@ module _ {K V : Type 0} (ek : K → List ℕ) (ev : V → List ℕ) where
   pub gap_bounds : (k : K) (p : ℕ) (es : List (K × V)) → spot_from ek ev k 4 es ≡ Gap p → (4 ≤ p) × (p ≤ length (object_of ek ev es))
   gap_bounds k p es e =
       let h = gap_split ek ev k 4 p es e in
-      let b = parts es h.before h.after p h.es_is h.at_is in
+      let b = parts es h.before h.after p h.between.es_is h.at_is in
       let a = h.at_is in
       (omega arith, b.2)
 
   pub put_gap : (k : K) (v : V) (p : ℕ) (es : List (K × V)) → spot_from ek ev k 4 es ≡ Gap p → to_be_bytes w32 (length es + 1) ++ (take (p - 4) (drop 4 (object_of ek ev es)) ++ (ek k ++ (ev v ++ drop p (object_of ek ev es)))) ≡ object_of ek ev (insert_entry (key_cmp ek) es k v)
   put_gap k v p es e =
       let h = gap_split ek ev k 4 p es e in
-      let b = parts es h.before h.after p h.es_is h.at_is in
-      let i = h.put_is v in
+      let b = parts es h.before h.after p h.between.es_is h.at_is in
+      let i = h.between.put_is v in
       let l : length (insert_entry (key_cmp ek) es k v) ≡ length es + 1 =
-      omega (arith, ap length i, ap length h.es_is, length-append h.before h.after, length-append h.before ((k, v) ∷ h.after)) in
+      omega (arith, ap length i, ap length h.between.es_is, length-append h.before h.after, length-append h.before ((k, v) ∷ h.after)) in
       ap (λ z. to_be_bytes w32 (length es + 1) ++ (z ++ (ek k ++ (ev v ++ drop p (object_of ek ev es))))) b.0
       ∙ (ap (λ z. to_be_bytes w32 (length es + 1) ++ (body_of ek ev h.before ++ (ek k ++ (ev v ++ z)))) b.1
       ∙ sym (written (length es + 1) (insert_entry (key_cmp ek) es k v) h.before h.after k v i l))
@@ -57,7 +57,7 @@ module _ {K V : Type 0} (ek : K → List ℕ) (ev : V → List ℕ) where
       let a = h.at_is in
       let b = h.mid_is in
       let c = h.end_is in (
-        h.es_is ∙ sym (append_assoc h.before (h.pair ∷ []) h.after),
+        h.between.es_is ∙ sym (append_assoc h.before (h.pair ∷ []) h.after),
         omega (arith, ap length (body-append ek ev h.before (h.pair ∷ [])), length-append (body_of ek ev h.before) (body_of ek ev (h.pair ∷ [])), length-append (ek h.pair.0) (ev h.pair.1 ++ []), length-append (ev h.pair.1) []),
       )
 
@@ -69,35 +69,35 @@ module _ {K V : Type 0} (ek : K → List ℕ) (ev : V → List ℕ) where
       let a = h.at_is in
       let m = h.mid_is in
       let c = h.end_is in
-      (omega arith, omega arith, b.2, omega (arith, ap length h.es_is, length-append h.before (h.pair ∷ h.after)))
+      (omega arith, omega arith, b.2, omega (arith, ap length h.between.es_is, length-append h.before (h.pair ∷ h.after)))
 
   pub put_here : (k : K) (v : V) (p q r : ℕ) (es : List (K × V)) → spot_from ek ev k 4 es ≡ Here p q r → to_be_bytes w32 (length es) ++ (take (p - 4) (drop 4 (object_of ek ev es)) ++ (ek k ++ (ev v ++ drop r (object_of ek ev es)))) ≡ object_of ek ev (insert_entry (key_cmp ek) es k v)
   put_here k v p q r es e =
       let h = here_split ek ev k 4 p q r es e in
       let n = here_next k p q r es h in
-      let b = parts es h.before (h.pair ∷ h.after) p h.es_is h.at_is in
+      let b = parts es h.before (h.pair ∷ h.after) p h.between.es_is h.at_is in
       let d = parts es (h.before ++ h.pair ∷ []) h.after r n.0 n.1 in
-      let i = h.put_is v in
-      let same : ek k ≡ ek h.pair.0 = exact_bytes (ek k) (ek h.pair.0) h.same in
+      let i = h.between.put_is v in
+      let same : ek k ≡ ek h.pair.0 = exact_bytes (ek k) (ek h.pair.0) h.between.same in
       let l : length (insert_entry (key_cmp ek) es k v) ≡ length es =
-      omega (arith, ap length i, ap length h.es_is, length-append h.before (h.pair ∷ h.after), length-append h.before ((h.pair.0, v) ∷ h.after)) in
+      omega (arith, ap length i, ap length h.between.es_is, length-append h.before (h.pair ∷ h.after), length-append h.before ((h.pair.0, v) ∷ h.after)) in
       ap (λ z. to_be_bytes w32 (length es) ++ (z ++ (ek k ++ (ev v ++ drop r (object_of ek ev es))))) b.0
       ∙ (ap (λ z. to_be_bytes w32 (length es) ++ (body_of ek ev h.before ++ (ek k ++ (ev v ++ z)))) d.1
       ∙ (ap (λ z. to_be_bytes w32 (length es) ++ (body_of ek ev h.before ++ (z ++ (ev v ++ body_of ek ev h.after)))) same
       ∙ sym (written (length es) (insert_entry (key_cmp ek) es k v) h.before h.after h.pair.0 v i l)))
 
   pub cut_gap : (k : K) (p : ℕ) (es : List (K × V)) → spot_from ek ev k 4 es ≡ Gap p → IsStrictlySortedBy (key_cmp ek) (keys_of es) → cut (key_cmp ek) k es ≡ es
-  cut_gap k p es e so = let h = gap_split ek ev k 4 p es e in h.cut_is so
+  cut_gap k p es e so = let h = gap_split ek ev k 4 p es e in h.between.cut_is so
 
   pub cut_here : (k : K) (p q r : ℕ) (es : List (K × V)) → spot_from ek ev k 4 es ≡ Here p q r → IsStrictlySortedBy (key_cmp ek) (keys_of es) → to_be_bytes w32 (length es - 1) ++ (take (p - 4) (drop 4 (object_of ek ev es)) ++ drop r (object_of ek ev es)) ≡ object_of ek ev (cut (key_cmp ek) k es)
   cut_here k p q r es e so =
       let h = here_split ek ev k 4 p q r es e in
       let n = here_next k p q r es h in
-      let b = parts es h.before (h.pair ∷ h.after) p h.es_is h.at_is in
+      let b = parts es h.before (h.pair ∷ h.after) p h.between.es_is h.at_is in
       let d = parts es (h.before ++ h.pair ∷ []) h.after r n.0 n.1 in
-      let i = h.cut_is so in
+      let i = h.between.cut_is so in
       let l : length (cut (key_cmp ek) k es) ≡ length es - 1 =
-      omega (arith, ap length i, ap length h.es_is, length-append h.before (h.pair ∷ h.after), length-append h.before h.after) in
+      omega (arith, ap length i, ap length h.between.es_is, length-append h.before (h.pair ∷ h.after), length-append h.before h.after) in
       ap (λ z. to_be_bytes w32 (length es - 1) ++ (z ++ drop r (object_of ek ev es))) b.0
       ∙ (ap (λ z. to_be_bytes w32 (length es - 1) ++ (body_of ek ev h.before ++ z)) d.1
       ∙ sym (ap (λ m. to_be_bytes w32 m ++ body_of ek ev (cut (key_cmp ek) k es)) l
@@ -122,25 +122,6 @@ module _ {K V : Type 0} (ek : K → List ℕ) (ev : V → List ℕ) where
 -- ---- the pairs stay those of a map
 
 module _ {K V : Type 0} (ek : K → List ℕ) where
-  all_insert : (P : K → Type 0) (k : K) (v : V) (es : List (K × V)) → P k → AllByRecursion P (keys_of es) → AllByRecursion P (keys_of (insert_entry (key_cmp ek) es k v))
-  all_insert P k v [] p a = (p, tt)
-  all_insert P k v (e ∷ es) p a = go (all_insert P k v es p a.1) (key_cmp ek k e.0)
-    where
-      go : AllByRecursion P (keys_of (insert_entry (key_cmp ek) es k v)) → (o : Ordering) → AllByRecursion P (keys_of (match_ordering o ((k, v) ∷ e ∷ es) ((e.0, v) ∷ es) (e ∷ insert_entry (key_cmp ek) es k v)))
-      go next Less = (p, (a.0, a.1))
-      go next Equal = (a.0, a.1)
-      go next Greater = (a.0, next)
-
-  rising_insert : (k : K) (v : V) (es : List (K × V)) → IsStrictlySortedBy (key_cmp ek) (keys_of es) → IsStrictlySortedBy (key_cmp ek) (keys_of (insert_entry (key_cmp ek) es k v))
-  unfolding IsStrictlySortedBy
-  rising_insert k v [] so = (tt, tt)
-  rising_insert k v (e ∷ es) so = go (rising_insert k v es so.1) (key_cmp ek k e.0) refl
-    where
-      go : IsStrictlySortedBy (key_cmp ek) (keys_of (insert_entry (key_cmp ek) es k v)) → (o : Ordering) → key_cmp ek k e.0 ≡ o → IsStrictlySortedBy (key_cmp ek) (keys_of (match_ordering o ((k, v) ∷ e ∷ es) ((e.0, v) ∷ es) (e ∷ insert_entry (key_cmp ek) es k v)))
-      go next Less is = ((is, all_above ek k e.0 (keys_of es) is so.0), so)
-      go next Equal is = so
-      go next Greater is = (all_insert (λ y. key_cmp ek e.0 y ≡ Less) k v es ((total ek).antisymm e.0 k ∙ ap ordering_reverse is) so.0, next)
-
   few_insert : (k : K) (v : V) (es : List (K × V)) → length (insert_entry (key_cmp ek) es k v) ≤ length es + 1
   few_insert k v [] = omega arith
   few_insert k v (e ∷ es) = go (few_insert k v es) (key_cmp ek k e.0)
@@ -162,7 +143,7 @@ module _ {K V : Type 0} (ek : K → List ℕ) where
 
     pub put_map : (k : K) (v : V) (es : List (K × V)) → AK k → AV v → length es < most_pairs → IsMap ek AK AV es → IsMap ek AK AV (insert_entry (key_cmp ek) es k v)
     put_map k v es p q f m =
-        record { admitted = admitted_insert k v es p q m.admitted; rising = rising_insert k v es m.rising; few = omega (arith, f, few_insert k v es) }
+        record { admitted = admitted_insert k v es p q m.admitted; rising = rising_insert ek k v es m.rising; few = omega (arith, f, few_insert k v es) }
 
     all_filter : (P : K × V → Type 0) (t : K × V → Bool) (es : List (K × V)) → AllByRecursion P es → AllByRecursion P (filter t es)
     all_filter P t [] a = tt
@@ -170,14 +151,6 @@ module _ {K V : Type 0} (ek : K → List ℕ) where
       where
         go : AllByRecursion P (filter t es) → (b : Bool) → AllByRecursion P (cond b (e ∷ filter t es) (filter t es))
         go next true = (a.0, next)
-        go next false = next
-
-    keys_filter : (t : K → Bool) (es : List (K × V)) → keys_of (filter (λ e. t e.0) es) ≡ filter t (keys_of es)
-    keys_filter t [] = refl
-    keys_filter t (e ∷ es) = go (keys_filter t es) (t e.0)
-      where
-        go : keys_of (filter (λ e. t e.0) es) ≡ filter t (keys_of es) → (b : Bool) → keys_of (cond b (e ∷ filter (λ e. t e.0) es) (filter (λ e. t e.0) es)) ≡ cond b (e.0 ∷ filter t (keys_of es)) (filter t (keys_of es))
-        go next true = ap (λ (z : List K). e.0 ∷ z) next
         go next false = next
 
     few_filter : (t : K × V → Bool) (es : List (K × V)) → length (filter t es) ≤ length es
@@ -193,9 +166,7 @@ module _ {K V : Type 0} (ek : K → List ℕ) where
         let f = m.few in
         record {
           admitted = all_filter (λ e. AK e.0 × AV e.1) (λ e. not (is_at (key_cmp ek k) e.0)) es m.admitted;
-          rising =
-              subst (λ (z : List K). IsStrictlySortedBy (key_cmp ek) z) (sym (keys_filter (λ x. not (is_at (key_cmp ek k) x)) es))
-              (IsStrictlySortedBy-filter (key_cmp ek) (λ x. not (is_at (key_cmp ek k) x)) (keys_of es) m.rising);
+          rising = rising_filter ek (λ x. not (is_at (key_cmp ek k) x)) es m.rising;
           few = omega (arith, f, few_filter (λ e. not (is_at (key_cmp ek k) e.0)) es);
         }
 

@@ -7,7 +7,7 @@ use Rattle.std.proofs.lemmas.List.{drop_at, take_rest}
 use Rattle.far_object.specs.declared.fault.ObjectFault.{ObjectFault}
 use Rattle.far_object.specs.Encodings.{FarLaws, skipped}
 use Rattle.far_object.specs.Objects.{body_of, object_of, IsMap}
-use Rattle.far_object.specs.Decoded.{pairs_in, pairs_of, IsObject, BeginsWith}
+use Rattle.far_object.specs.Decoded.{pairs_in, decoded_pairs, IsObject, BeginsWith}
 
 module _ {K V : Type 0} (ek : K → List ℕ) (ev : V → List ℕ) (dk : List ℕ → Option K) (dv : List ℕ → Option V) (AK : K → Type 0) (AV : V → Type 0) (lk : FarLaws ek dk AK) (lv : FarLaws ev dv AV) where
   read_pairs : (es : List (K × V)) → AllByRecursion (λ e. AK e.0 × AV e.1) es → pairs_in ek ev dk dv (length es) (body_of ek ev es) ≡ es
@@ -20,15 +20,15 @@ module _ {K V : Type 0} (ek : K → List ℕ) (ev : V → List ℕ) (dk : List �
       let d = drop_at (ev e.1) more (length (ev e.1)) refl in
       rw (a, b, c, d) (ap (λ (w : List (K × V)). e ∷ w) (read_pairs es h.1))
 
-  read_back : (es : List (K × V)) → IsMap ek AK AV es → pairs_of ek ev dk dv (object_of ek ev es) ≡ es
+  read_back : (es : List (K × V)) → IsMap ek AK AV es → decoded_pairs ek ev dk dv (object_of ek ev es) ≡ es
   read_back es m =
       let f = m.few in
       let n = from_be_bytes-to_be_bytes_4 (length es) (omega (arith, f)) in
       rw n (read_pairs es m.admitted)
 
   -- an object's bytes are read as its pairs
-  pub is_read : (bytes : List ℕ) (es : List (K × V)) → bytes ≡ object_of ek ev es → IsMap ek AK AV es → pairs_of ek ev dk dv bytes ≡ es
-  is_read bytes es is m = ap (λ z. pairs_of ek ev dk dv z) is ∙ read_back es m
+  pub is_read : (bytes : List ℕ) (es : List (K × V)) → bytes ≡ object_of ek ev es → IsMap ek AK AV es → decoded_pairs ek ev dk dv bytes ≡ es
+  is_read bytes es is m = ap (λ z. decoded_pairs ek ev dk dv z) is ∙ read_back es m
 
   pub is_object : (bytes : List ℕ) (es : List (K × V)) → bytes ≡ object_of ek ev es → IsMap ek AK AV es → IsObject ek ev dk dv AK AV bytes
   is_object bytes es is m =

@@ -18,7 +18,7 @@ use Rattle.far_object.specs.EncodingLaws.{bytes_drop, bytes_take}
 use Rattle.far_object.specs.declared.fault.ObjectFault.TheVariants.{Short, Disorder, CountWrong}
 use Rattle.far_object.specs.Faults.{trailing, fault_in, fault_at, fault_behind, fault_of}
 use Rattle.far_object.specs.Objects.{body_of, most_pairs}
-use Rattle.far_object.specs.Decoded.{pairs_in, pairs_after, pairs_with, pairs_of, IsObject}
+use Rattle.far_object.specs.Decoded.{pairs_in, pairs_after, pairs_with, decoded_pairs, IsObject}
 use Rattle.far_object.specs.Buckets.{key_cmp}
 
 is_less : (o : Ordering) → is_lt o ≡ true → o ≡ Less
@@ -107,7 +107,7 @@ module _ {K V : Type 0} (ek : K → List ℕ) (ev : V → List ℕ) (dk : List �
           let most : n ≤ most_pairs = at_least most_pairs n c in
           let k = h.count in
           record {
-            is = sym (take-append-drop 4 bytes) ∙ (ap (λ z. z ++ drop 4 bytes) (sym w) ∙ (ap (λ m. to_be_bytes w32 m ++ drop 4 bytes) (sym h.count) ∙ ap (λ z. to_be_bytes w32 (length (pairs_of ek ev dk dv bytes)) ++ z) h.is));
+            is = sym (take-append-drop 4 bytes) ∙ (ap (λ z. z ++ drop 4 bytes) (sym w) ∙ (ap (λ m. to_be_bytes w32 m ++ drop 4 bytes) (sym h.count) ∙ ap (λ z. to_be_bytes w32 (length (decoded_pairs ek ev dk dv bytes)) ++ z) h.is));
             map = record { admitted = h.admitted; rising = h.rising; few = omega arith };
           }
         where

@@ -18,14 +18,14 @@ module _ {K V : Type 0} (ek : K → List ℕ) (ev : V → List ℕ) (dk : List �
   pairs_in (suc n) bs = pairs_after (pairs_in n) bs (dk bs)
 
   -- the pairs of an object's bytes
-  abbrev pub pairs_of : List ℕ → List (K × V)
-  pairs_of bytes = pairs_in (from_be_bytes w32 (take 4 bytes)) (drop 4 bytes)
+  abbrev pub decoded_pairs : List ℕ → List (K × V)
+  decoded_pairs bytes = pairs_in (from_be_bytes w32 (take 4 bytes)) (drop 4 bytes)
 
 module _ {K V : Type 0} (ek : K → List ℕ) (ev : V → List ℕ) (dk : List ℕ → Option K) (dv : List ℕ → Option V) (AK : K → Type 0) (AV : V → Type 0) where
   -- the bytes are those of the pairs that they are read as
   pub record IsObject (bytes : List ℕ) : Type 0 where
-    pub is : bytes ≡ object_of ek ev (pairs_of ek ev dk dv bytes)
-    pub map : IsMap ek AK AV (pairs_of ek ev dk dv bytes)
+    pub is : bytes ≡ object_of ek ev (decoded_pairs ek ev dk dv bytes)
+    pub map : IsMap ek AK AV (decoded_pairs ek ev dk dv bytes)
 
 module _ {K V : Type 0} (ek : K → List ℕ) (ev : V → List ℕ) (AK : K → Type 0) (AV : V → Type 0) where
   -- the bytes are a pair and more

@@ -24,15 +24,15 @@ module _ {K V : Type 0} (ek : K → List ℕ) (ev : V → List ℕ) where
   object_of es = to_be_bytes w32 (length es) ++ body_of es
 
   -- where the value of the key k is written, when the pairs begin at this place
-  abbrev pub place_from : K → ℕ → List (K × V) → Option (Range ℕ)
-  place_from k at [] = None
-  place_from k at (e ∷ es) =
+  abbrev pub value_place_from : K → ℕ → List (K × V) → Option (Range ℕ)
+  value_place_from k at [] = None
+  value_place_from k at (e ∷ es) =
       if is_at (key_cmp ek k) e.0 then Some (record { start = at + length (ek e.0); end = at + length (ek e.0) + length (ev e.1) })
-      else place_from k (at + length (ek e.0) + length (ev e.1)) es
+      else value_place_from k (at + length (ek e.0) + length (ev e.1)) es
 
   -- the same in an object: its pairs begin behind the count
   abbrev pub value_place : K → List (K × V) → Option (Range ℕ)
-  value_place k es = place_from k 4 es
+  value_place k es = value_place_from k 4 es
 
   -- what stands at this place of the object is the value of the key k, as it is written
   pub record IsValueAt (k : K) (es : List (K × V)) (r : Range ℕ) : Type 0 where

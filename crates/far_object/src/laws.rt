@@ -9,6 +9,8 @@ ghost use Rattle.far_object.specs.Laws.{
   MapsAreDistinct,
   SpellingsAreDistinct,
   IsMisplacedElsewhere,
+  AreLong,
+  GrowTooLong,
 };
 
 use crate::traits::FarObject;
@@ -44,4 +46,16 @@ pub fn equal_spellings_are_equal_maps<K: FarObject, V: FarObject>()
 /// another.
 pub fn spellings_are_misplaced_elsewhere<K: FarObject, V: FarObject>()
     ensures { IsMisplacedElsewhere K.enc V.enc K.dec V.dec }
+{}
+
+/// An object has at least three bytes more than pairs: its count takes four, and at most one key of
+/// a map is written as no byte. So a limit on an object's bytes limits its pairs.
+pub fn objects_are_longer_than_their_counts<K: FarObject, V: FarObject>()
+    ensures { AreLong K.enc V.enc }
+{}
+
+/// What a full object (1,048,576 pairs) would be with one more pair, or another value, has more
+/// than 1,048,576 bytes. So no limit up to that many bytes lets a pair be put into a full object.
+pub fn full_objects_grow_too_long<K: FarObject, V: FarObject>()
+    ensures { GrowTooLong K.enc V.enc }
 {}

@@ -23,10 +23,11 @@ pub use format::Format;
 pub use keys::bucket_of;
 pub use laws::{
     encodings_begin_no_other, equal_encodings_are_equal_values, equal_objects_are_equal_maps,
-    equal_spellings_are_equal_maps, spellings_are_misplaced_elsewhere,
+    equal_spellings_are_equal_maps, full_objects_grow_too_long,
+    objects_are_longer_than_their_counts, spellings_are_misplaced_elsewhere,
     values_are_where_encodings_begin,
 };
-pub use object::Object;
+pub use object::{MOST_PAIRS, Object};
 pub use text::Text;
 pub use traits::FarObject;
 

@@ -7,7 +7,7 @@
 //!
 //! An object that was read keeps the list of bytes that it was handed, with what stood before it,
 //! so that reading moves no byte.
-ghost use Rattle.std.specs.Prelude.{◌≡◌, ◌≤◌, List, [], length, drop, IfOk};
+ghost use Rattle.std.specs.Prelude.{◌≡◌, ◌+◌, ◌≤◌, List, [], length, drop, IfOk};
 ghost use Rattle.far_object.specs.Objects.{object_of, IsMap};
 
 mod change;
@@ -21,6 +21,9 @@ use crate::traits::FarObject;
 use std::alloc::Global;
 use std::marker::{Model, PhantomData};
 
+/// The most pairs that an object may count.
+pub const MOST_PAIRS: u32 = 1_048_576;
+
 /// A list of bytes that is known to be an object. Contracts see the pairs of its map, in rising
 /// order of their keys' encoded bytes.
 #[derive(Drop)]
@@ -33,11 +36,11 @@ pub struct Object<K: FarObject, V: FarObject> {
 
 impl<K: FarObject, V: FarObject> Model for Object<K, V> {
     ghost use Rattle.std.specs.Prelude.{◌≤◌, List, length, drop};
-    ghost use Rattle.far_object.specs.Decoded.{pairs_of, IsObject};
+    ghost use Rattle.far_object.specs.Decoded.{decoded_pairs, IsObject};
 
     ghost Value = { List (K × V) };
 
-    ghost view = { λ o. pairs_of K.enc V.enc K.dec V.dec (drop o.start o.bytes.items) };
+    ghost view = { λ o. decoded_pairs K.enc V.enc K.dec V.dec (drop o.start o.bytes.items) };
 
     ghost invariant = { λ o. (o.start ≤ length o.bytes.items) × IsObject K.enc V.enc K.dec V.dec K.admits V.admits (drop o.start o.bytes.items) };
 }
@@ -69,11 +72,12 @@ impl<K: FarObject, V: FarObject> Object<K, V> {
     pub fn as_bytes(&self) -> &[u8]
         ensures is { result.now ≡ object_of K.enc V.enc self.now }
         ensures map { IsMap K.enc K.admits V.admits self.now }
+        ensures long { length self.now + 3 ≤ length result.now }
     {
         &self.bytes[self.start..]
     }
 
-    /// How many pairs there are, at most 1,048,576. It is read from the first four bytes.
+    /// How many pairs there are, at most `MOST_PAIRS`. It is read from the first four bytes.
     pub fn count(&self) -> u32
         ensures { result ≡ length self.now }
     {

@@ -5,7 +5,7 @@ mod objects;
 mod places;
 mod tampered;
 
-use crate::{Object, Text};
+use crate::{MOST_PAIRS, Object, Text};
 use std::alloc::Global;
 use std::process::Abort;
 use std::test::*;
@@ -28,7 +28,7 @@ fn put(
     key: &[u8],
     value: &[u8],
 ) -> Object<Text, Text> {
-    assert!(rt; object.count() < 1_048_576);
+    assert!(rt; object.count() < MOST_PAIRS);
     let key = text(rt, alloc, key);
     let value = text(rt, alloc, value);
     object.with(alloc, &key, &value).ok().expect(rt, "memory")

@@ -1,6 +1,6 @@
-//! A new object from an old one, with a pair put or taken away. Each is one allocation of the
-//! exact size, and every byte is copied once.
-ghost use Rattle.std.specs.Prelude.{◌≡◌, ◌-◌, ◌<◌, ◌≤◌, ◌++◌, length, take, drop, IfOk};
+//! A new object of one pair, or from an old one, with a pair put or taken away. Each is one
+//! allocation of the exact size, and every byte is copied once.
+ghost use Rattle.std.specs.Prelude.{◌≡◌, ◌-◌, ◌<◌, ◌≤◌, [], ◌∷◌, ◌++◌, length, take, drop, IfOk};
 ghost use Rattle.std.specs.Int.{w32, to_be_bytes};
 ghost use Rattle.std.specs.BTreeMap.{insert_entry};
 ghost use Rattle.far_object.specs.Buckets.{key_cmp};
@@ -14,8 +14,18 @@ use crate::traits::FarObject;
 use std::alloc::Global;
 
 impl<K: FarObject, V: FarObject> Object<K, V> {
+    /// The object of this one pair. `Memory` comes where its bytes are refused.
+    pub fn of_pair(alloc: Global, key: &K, value: &V) -> Result<Object<K, V>, Memory>
+        ensures { IfOk result (λ o. o ≡ (key.now, value.now) ∷ []) }
+    {
+        key.admitted();
+        value.admitted();
+        let bytes = spliced(alloc, &[0, 0, 0, 0], 1, 4, 4, key, value)?;
+        Ok(Object::behind(bytes, 0))
+    }
+
     /// The object with this value at this key, in place of the value that was there. The object
-    /// must not be full (1,048,576 pairs). `Memory` comes where the new bytes are refused.
+    /// must not be full (`MOST_PAIRS` pairs). `Memory` comes where the new bytes are refused.
     pub fn with(&self, alloc: Global, key: &K, value: &V) -> Result<Object<K, V>, Memory>
         requires { length self.now < most_pairs }
         ensures { IfOk result (λ o. o ≡ insert_entry (key_cmp K.enc) self.now key.now value.now) }

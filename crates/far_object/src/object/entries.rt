@@ -1,5 +1,8 @@
 //! The pairs of an object as values.
 ghost use Rattle.std.specs.Prelude.{◌≡◌, ◌+◌, ◌≤◌, length, IfOk};
+ghost use Rattle.std.specs.Map.{lookup};
+ghost use Rattle.std.specs.BTreeMap.{is_at};
+ghost use Rattle.far_object.specs.Buckets.{key_cmp};
 ghost use Rattle.far_object.specs.Decoded.{BeginsWith};
 
 use crate::fault::Memory;
@@ -38,5 +41,20 @@ impl<K: FarObject, V: FarObject> Object<K, V> {
             rest = &rest[size..];
         }
         Ok(entries)
+    }
+
+    /// A copy of the value of this key; `None` where the map has no such key. `Memory` comes where
+    /// the value is refused; it alone is copied.
+    pub fn value(&self, alloc: Global, key: &K) -> Result<Option<V>, Memory>
+        ensures { IfOk result (λ value. value ≡ lookup (is_at (key_cmp K.enc key.now)) self.now) }
+    {
+        let bytes = self.as_bytes();
+        match self.find(key) {
+            None => Ok(None),
+            Some(place) => match V::decode(alloc, &bytes[place]) {
+                Err(_) => Err(Memory),
+                Ok((value, _)) => Ok(Some(value)),
+            },
+        }
     }
 }

@@ -11,11 +11,8 @@ ghost use Rattle.far_object.specs.declared.format.Format.{Format};
 
 use crate::fault::ObjectFault;
 use crate::format::object_start;
-use crate::object::Object;
+use crate::object::{MOST_PAIRS, Object};
 use crate::traits::FarObject;
-
-/// The most pairs that an object may count.
-const MOST_PAIRS: u32 = 1_048_576;
 
 impl<K: FarObject, V: FarObject> Object<K, V> {
     /// The object that these bytes are in the first format, or their first fault and the bytes.

@@ -16,6 +16,56 @@ fn one_pair(rt: HostRuntime) {
 }
 
 #[test]
+fn one_pair_at_once(rt: HostRuntime) {
+    let key = text(&rt, rt.alloc(), b"a");
+    let value = text(&rt, rt.alloc(), b"1");
+    let object = Object::of_pair(rt.alloc(), &key, &value)
+        .ok()
+        .expect(&rt, "memory");
+    assert!(rt; object.as_bytes() == ONE.as_slice());
+    assert!(rt; object.count() == 1);
+}
+
+#[test]
+fn values_of_keys(rt: HostRuntime) {
+    let object = object_of(
+        &rt,
+        rt.alloc(),
+        &[(b"a", b"1"), (b"bc", b""), (b"e", b"22")],
+    );
+    let rows: [(&[u8], Option<&[u8]>); 6] = [
+        (b"a", Some(b"1")),
+        (b"e", Some(b"22")),
+        (b"bc", Some(b"")),
+        (b"", None),
+        (b"b", None),
+        (b"bd", None),
+    ];
+    for (key, wanted) in &rows {
+        let key = text(&rt, rt.alloc(), key);
+        let value = object.value(rt.alloc(), &key).ok().expect(&rt, "memory");
+        assert!(rt; value.as_ref().map(|value| value.as_bytes()) == *wanted);
+    }
+}
+
+#[test]
+fn value_behind_a_header(rt: HostRuntime) {
+    let bytes = list(
+        &rt,
+        rt.alloc(),
+        &[
+            255, 255, 255, 255, 0, 0, 0, 0, 0, 0, 0, 0, 0, 0, 0, 2, 0, 0, 0, 1, 0, 1, 97, 0, 1, 49,
+        ],
+    );
+    let object = Object::<Text, Text>::read_at(bytes, 0, 2)
+        .ok()
+        .expect(&rt, "an object");
+    let key = text(&rt, rt.alloc(), b"a");
+    let value = object.value(rt.alloc(), &key).ok().expect(&rt, "memory");
+    assert!(rt; value.is_some_and(|value| value.as_bytes() == b"1".as_slice()));
+}
+
+#[test]
 fn no_pair(rt: HostRuntime) {
     let object = object_of(&rt, rt.alloc(), &[(b"a", b"1")]);
     let key = text(&rt, rt.alloc(), b"a");

@@ -1,7 +1,7 @@
 use Rattle.std.proofs.Common.{◌≡◌, ◌-◌, List, take, drop, length, ap, sym, ◌∙◌, subst}
 use Rattle.std.proofs.lemmas.List.{take_rest}
 use Rattle.std.specs.Prelude.{Some}
-use Rattle.far_object.specs.Decoded.{pairs_of}
+use Rattle.far_object.specs.Decoded.{decoded_pairs}
 use Rattle.far_object.specs.Faults.{fault_of}
 use Rattle.far_object.specs.Objects.{object_of, IsMap}
 use Rattle.far_object.proofs.Complete.{never}
@@ -11,7 +11,7 @@ use Rattle.far_object.proofs.object.Object.read_behind.Goals as goal
 pub behind-requires-clause-object : goal.behind-requires-clause-object
 behind-requires-clause-object g c =
     let o = sound_at _ _ _ _ _ _ g.K.FarObject.laws g.V.FarObject.laws c.args.bytes.items c.as_slice.result.now c.args.start c.as_slice.ensures.value c.in-None.ensures.bytes c.in-None.ensures.first in
-    (pairs_of g.K.FarObject.enc g.V.FarObject.enc g.K.FarObject.dec g.V.FarObject.dec (drop c.args.start c.args.bytes.items), o.is, o.map)
+    (decoded_pairs g.K.FarObject.enc g.V.FarObject.enc g.K.FarObject.dec g.V.FarObject.dec (drop c.args.start c.args.bytes.items), o.is, o.map)
 
 pub returns-in-None-clause-spelled : goal.returns-in-None-clause-spelled
 returns-in-None-clause-spelled g c =
