@@ -19,7 +19,7 @@ use Rattle.table_core.specs.declared.operation.Operation.TheVariants as op
 use Rattle.table_core.specs.Maps.{key_of, value_at, at_bucket, is_met, after, map_of}
 use Rattle.table_core.specs.Logs.{history, names_of}
 use Rattle.table_core.specs.Lawful.{AreContents, standing, IsLawful, widest}
-use Rattle.table_core.specs.Machines.{MachineView, buckets_of, StandsAt, Breaks, Answers, GoesOn as MachineGoesOn}
+use Rattle.table_core.specs.Machines.{MachineView, buckets_of, StandsAt, Breaks, Answers, GoesOn}
 use Rattle.table_core.proofs.Logs.{history-append, passes-append, names-append}
 use Rattle.table_core.proofs.Histories.{answer}
 use Rattle.table_core.proofs.Installing.{unbroken, after_standing, after_fits, may_check, still_standing, may_install, standing_more, standing_checked}
@@ -27,7 +27,7 @@ use Rattle.far_driver.specs.declared.fault.Refusal.{Refusal}
 use Rattle.far_driver.specs.declared.fault.Refusal.TheVariants as refusal
 use Rattle.far_driver.specs.declared.plain_table.PlainTable.{PlainTable}
 use Rattle.far_driver.specs.Runs.{Texts, sets, IsTooLong}
-use Rattle.far_driver.specs.Tables.{Log, IsDrawnWord, object_in, IsAt, IsWhy, GoesOn}
+use Rattle.far_driver.specs.Tables.{Log, IsDrawnWord, object_in, IsAt, IsWhy, CallEnds}
 
 -- ---- sizes
 
@@ -76,12 +76,12 @@ set_other xs b c x h = let flip : c ≢ b = λ e. h (sym e) in rw get_or-set_oth
 module _ (t : PlainTable) (log : Log) (at : IsAt t log) where
   -- ---- a call without a word
 
-  pub refused : (o : Operation (List ℕ) (List ℕ)) (why : Refusal) → IsWhy (buckets_of t.machine) t.limit (map_of enc_text enc_text (history log)) o why → GoesOn t t log o (Err why)
+  pub refused : (o : Operation (List ℕ) (List ℕ)) (why : Refusal) → IsWhy (buckets_of t.machine) t.limit (map_of enc_text enc_text (history log)) o why → CallEnds t t log o (Err why)
   refused o why is = record { later = log; stands = at; buckets = refl; limit = refl; names = omega arith; went = (refl, is) }
 
   pub checked : (m : MachineView (List ℕ) (List ℕ)) (o : Operation (List ℕ) (List ℕ)) (reply : Option (List ℕ)) → Answers enc_text enc_text t.machine m log 1 o None reply
       → (IsTooLong (buckets_of t.machine) t.limit (map_of enc_text enc_text (history log)) o → ⊥)
-      → GoesOn t (record { machine = m; objects = t.objects; limit = t.limit }) log o (Ok reply)
+      → CallEnds t (record { machine = m; objects = t.objects; limit = t.limit }) log o (Ok reply)
   checked m o reply a fits =
       let same : buckets_of m ≡ buckets_of t.machine = a.goes_on.buckets in
       let lawful : IsLawful enc_text enc_text (widest (buckets_of t.machine)) (log ++ Done 1 o None ∷ []) = subst (λ (n : ℕ). IsLawful enc_text enc_text (widest n) (log ++ Done 1 o None ∷ [])) same a.goes_on.stands.lawful in
@@ -139,7 +139,7 @@ module _ (t : PlainTable) (log : Log) (at : IsAt t log) where
         let n = h.longer in
         omega (arith, s, n)
 
-    module _ (m : MachineView (List ℕ) (List ℕ)) (named : MachineGoesOn enc_text enc_text t.machine m log (Named (names_of log + 1) b es)) where
+    module _ (m : MachineView (List ℕ) (List ℕ)) (named : GoesOn enc_text enc_text t.machine m log (Named (names_of log + 1) b es)) where
       buckets_same : buckets_of m ≡ buckets_of t.machine
       buckets_same = named.buckets
 
@@ -147,7 +147,7 @@ module _ (t : PlainTable) (log : Log) (at : IsAt t log) where
       named_lawful = subst (λ (n : ℕ). IsLawful enc_text enc_text (widest n) (log ++ Named (names_of log + 1) b es ∷ [])) named.buckets named.stands.lawful
 
       -- the name was drawn in vain
-      pub drawn_in_vain : GoesOn t (record { machine = m; objects = t.objects; limit = t.limit }) log o (Err refusal.Memory)
+      pub drawn_in_vain : CallEnds t (record { machine = m; objects = t.objects; limit = t.limit }) log o (Err refusal.Memory)
       drawn_in_vain = record {
         later = log ++ Named (names_of log + 1) b es ∷ [];
         stands = record {
@@ -175,7 +175,7 @@ module _ (t : PlainTable) (log : Log) (at : IsAt t log) where
 
         pub installed : (last : MachineView (List ℕ) (List ℕ)) (reply : Option (List ℕ)) → Answers enc_text enc_text m last (log ++ Named (names_of log + 1) b es ∷ []) 1 o (Some w) reply
             → (IsTooLong (buckets_of t.machine) t.limit (map_of enc_text enc_text (history log)) o → ⊥)
-            → (new : PlainTable) → new.machine ≡ last → new.limit ≡ t.limit → new.objects.items ≡ set t.objects.items b es → GoesOn t new log o (Ok reply)
+            → (new : PlainTable) → new.machine ≡ last → new.limit ≡ t.limit → new.objects.items ≡ set t.objects.items b es → CallEnds t new log o (Ok reply)
         installed last reply a fits new machine_is limit_is objects_is =
             let same : buckets_of new.machine ≡ buckets_of t.machine = ap (λ (x : MachineView (List ℕ) (List ℕ)). buckets_of x) machine_is ∙ (a.goes_on.buckets ∙ named.buckets) in
             let all : Log = (log ++ Named (names_of log + 1) b es ∷ []) ++ Done 1 o (Some w) ∷ [] in
@@ -227,17 +227,17 @@ some_buckets n m same some = omega arith
 -- the object could not be made, or is too long
 pub not_made : (t : PlainTable) (log : Log) (at : IsAt t log) (o : Operation (List ℕ) (List ℕ)) (b : ℕ) (es : Texts) (is : b ≡ bucket enc_text (buckets_of t.machine) (key_of o)) (lt : b < buckets_of t.machine)
     → es ≡ after enc_text enc_text (object_in t.objects.items b) o → IsTrue (sets (map_of enc_text enc_text (history log)) o)
-    → (why : Refusal) → (◌≡◌ {A = Result Texts Refusal} (Err why) (Err refusal.TooLong) → t.limit < length (object_of enc_text enc_text es)) → GoesOn t t log o (Err why)
+    → (why : Refusal) → (◌≡◌ {A = Result Texts Refusal} (Err why) (Err refusal.TooLong) → t.limit < length (object_of enc_text enc_text es)) → CallEnds t t log o (Err why)
 not_made t log at o b es is lt es_is so refusal.TooLong longer = refused t log at o refusal.TooLong (too_long t log at o b es is lt es_is so (longer refl))
 not_made t log at o b es is lt es_is so refusal.Memory longer = refused t log at o refusal.Memory tt
 
 -- the machine refused the word, and the name was drawn in vain
 pub vain_same : (t : PlainTable) (log : Log) (at : IsAt t log) (o : Operation (List ℕ) (List ℕ)) (b : ℕ) (es : Texts) (is : b ≡ bucket enc_text (buckets_of t.machine) (key_of o)) (lt : b < buckets_of t.machine)
-    → es ≡ after enc_text enc_text (object_in t.objects.items b) o → (m : MachineView (List ℕ) (List ℕ)) → MachineGoesOn enc_text enc_text t.machine m log (Named (names_of log + 1) b es)
-    → (last : MachineView (List ℕ) (List ℕ)) → last ≡ m → (why : Refusal) → why ≡ refusal.Memory → GoesOn t (record { machine = last; objects = t.objects; limit = t.limit }) log o (Err why)
+    → es ≡ after enc_text enc_text (object_in t.objects.items b) o → (m : MachineView (List ℕ) (List ℕ)) → GoesOn enc_text enc_text t.machine m log (Named (names_of log + 1) b es)
+    → (last : MachineView (List ℕ) (List ℕ)) → last ≡ m → (why : Refusal) → why ≡ refusal.Memory → CallEnds t (record { machine = last; objects = t.objects; limit = t.limit }) log o (Err why)
 vain_same t log at o b es is lt es_is m named last same why memory =
-    subst (λ (w : Refusal). GoesOn t (record { machine = last; objects = t.objects; limit = t.limit }) log o (Err w)) (sym memory)
-    (subst (λ (x : MachineView (List ℕ) (List ℕ)). GoesOn t (record { machine = x; objects = t.objects; limit = t.limit }) log o (Err refusal.Memory)) (sym same) (drawn_in_vain t log at o b es is lt es_is m named))
+    subst (λ (w : Refusal). CallEnds t (record { machine = last; objects = t.objects; limit = t.limit }) log o (Err w)) (sym memory)
+    (subst (λ (x : MachineView (List ℕ) (List ℕ)). CallEnds t (record { machine = x; objects = t.objects; limit = t.limit }) log o (Err refusal.Memory)) (sym same) (drawn_in_vain t log at o b es is lt es_is m named))
 
 -- ---- conditions
 
@@ -275,7 +275,7 @@ still_empty xs ys x is none all b = rw (is, none) (go xs b all)
     go (y ∷ xs) (suc b) all = go xs b (λ i. all (suc i))
 
 -- a table without a pair, in which the first pass has entered
-pub opened : (new : PlainTable) (m : MachineView (List ℕ) (List ℕ)) (p : ℕ) → StandsAt enc_text enc_text m [] → MachineGoesOn enc_text enc_text m new.machine [] (Enter p)
+pub opened : (new : PlainTable) (m : MachineView (List ℕ) (List ℕ)) (p : ℕ) → StandsAt enc_text enc_text m [] → GoesOn enc_text enc_text m new.machine [] (Enter p)
     → length new.objects.items ≡ buckets_of m → ((b : ℕ) → object_in new.objects.items b ≡ []) → new.limit ≤ 1048576
     → (log : Log) × IsAt new log × (history log ≡ []) × (names_of log ≡ 0)
 opened new m p at on sized empty limited =

@@ -12,7 +12,7 @@ use Rattle.far_driver.specs.declared.fault.Refusal.{Refusal}
 use Rattle.far_driver.specs.declared.fault.Refusal.TheVariants as refusal
 use Rattle.far_driver.specs.declared.plain_table.PlainTable.{PlainTable}
 use Rattle.far_driver.specs.Runs.{Texts, Call, operation_of, text_of, refusal_text, IsTooLong, IsDone, IsRefused, Replied, written}
-use Rattle.far_driver.specs.Tables.{Log, IsAt, IsWhy, GoesOn, line_of, RunsTo}
+use Rattle.far_driver.specs.Tables.{Log, IsAt, IsWhy, CallEnds, line_of, RunsTo}
 
 abbrev map_from : Texts → List Call → Texts
 map_from m calls = fold (λ m call. after enc_text enc_text m call.1) m calls
@@ -87,7 +87,7 @@ room old new commands i text r lt few = (r.so_far.log, r.so_far.stands, omega (a
 
 pub next : (old new last : PlainTable) (commands : List Command) (i : ℕ) (text more : List ℕ) (c : Command) (r : Result (Option (List ℕ)) Refusal)
     → Running old new commands i text → i < length commands → length commands ≤ 65536 → c ≡ get_or commands i c
-    → ((log : Log) → IsAt new log → names_of log < 2 ^ 40 - 1 → GoesOn new last log (operation_of c) r) → more ≡ text ++ (line_of r ++ 10 ∷ []) → Running old last commands (i + 1) more
+    → ((log : Log) → IsAt new log → names_of log < 2 ^ 40 - 1 → CallEnds new last log (operation_of c) r) → more ≡ text ++ (line_of r ++ 10 ∷ []) → Running old last commands (i + 1) more
 next old new last commands i text more c r run lt few at on more_is = record {
   so_far = record {
     log = g.later;
@@ -101,7 +101,7 @@ next old new last commands i text more c r run lt few at on more_is = record {
   few = omega (arith, g.names, run.few);
 }
   where
-    g : GoesOn new last run.so_far.log (operation_of c) r
+    g : CallEnds new last run.so_far.log (operation_of c) r
     g = on run.so_far.log run.so_far.stands (omega (arith, run.few))
 
     taken : take (i + 1) commands ≡ take i commands ++ c ∷ []

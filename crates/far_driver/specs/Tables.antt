@@ -40,7 +40,7 @@ IsWhy buckets limit m o refusal.TooLong = IsTooLong buckets limit m o
 IsWhy buckets limit m o refusal.Memory = ⊤
 
 -- a call is done and answered as the map of the history answers it, or is refused and leaves the history as it was
-pub record GoesOn (old new : PlainTable) (log : Log) (o : Operation (List ℕ) (List ℕ)) (r : Result (Option (List ℕ)) Refusal) : Type 0 where
+pub record CallEnds (old new : PlainTable) (log : Log) (o : Operation (List ℕ) (List ℕ)) (r : Result (Option (List ℕ)) Refusal) : Type 0 where
   pub later : Log
   pub stands : IsAt new later
   pub buckets : buckets_of new.machine ≡ buckets_of old.machine

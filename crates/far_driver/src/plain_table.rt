@@ -29,10 +29,10 @@ ghost use Rattle.table_core.specs.declared.fault.Rule.TheVariants as rule;
 ghost use Rattle.table_core.specs.Maps.{map_of, is_met, value_at};
 ghost use Rattle.table_core.specs.Logs.{history, names_of};
 ghost use Rattle.table_core.specs.Lawful.{AreContents};
-ghost use Rattle.table_core.specs.Machines.{buckets_of, StandsAt, GoesOn as MachineGoesOn};
-ghost use Rattle.table_core.specs.Changes.{lent_value};
+ghost use Rattle.table_core.specs.Machines.{buckets_of, StandsAt, GoesOn};
+ghost use Rattle.table_core.specs.Lent.{lent_value};
 ghost use Rattle.far_driver.specs.Runs.{operation_of};
-ghost use Rattle.far_driver.specs.Tables.{Log, IsAt, GoesOn, IsDrawnWord, object_in};
+ghost use Rattle.far_driver.specs.Tables.{Log, IsAt, CallEnds, IsDrawnWord, object_in};
 
 use crate::fault::Refusal;
 use command_file::Command;
@@ -78,7 +78,7 @@ fn draw(
     requires bucket { bucket < buckets_of machine.old }
     requires contents { AreContents enc_text (buckets_of machine.old) bucket object.now }
     ensures drawn { IfOk result (λ word. (log : Log) → StandsAt enc_text enc_text machine.old log
-        → IsDrawnWord log object.now word × MachineGoesOn enc_text enc_text machine.old machine.new log (Named (names_of log + 1) bucket object.now)) }
+        → IsDrawnWord log object.now word × GoesOn enc_text enc_text machine.old machine.new log (Named (names_of log + 1) bucket object.now)) }
     ensures err { OnErr result (machine.new ≡ machine.old) }
     ensures why { IfErr result (λ refusal. refusal ≡ Refusal.Memory) }
 {
@@ -140,7 +140,7 @@ impl PlainTable {
     /// Does what a command asks.
     pub fn answer(&mut self, alloc: Global, command: &Command) -> Result<Option<Text>, Refusal>
         requires stands { (log : Log) × IsAt self.old log × (names_of log < 2 ^ 40 - 1) }
-        ensures { (log : Log) → IsAt self.old log → names_of log < 2 ^ 40 - 1 → GoesOn self.old self.new log (operation_of command.now) result }
+        ensures { (log : Log) → IsAt self.old log → names_of log < 2 ^ 40 - 1 → CallEnds self.old self.new log (operation_of command.now) result }
     {
         match command {
             Command::Put { key, value } => self.put(alloc, key, value),
@@ -157,7 +157,7 @@ impl PlainTable {
 
     fn get(&self, alloc: Global, key: &Text) -> Result<Option<Text>, Refusal>
         requires stands { (log : Log) × IsAt self.now log }
-        ensures { (log : Log) → IsAt self.now log → GoesOn self.now self.now log (op.Get key.now) result }
+        ensures { (log : Log) → IsAt self.now log → CallEnds self.now self.now log (op.Get key.now) result }
     {
         match self.machine.get(alloc, PASS, key) {
             Ok(answer) => Ok(answer),
@@ -204,7 +204,7 @@ impl PlainTable {
 
     fn put(&mut self, alloc: Global, key: &Text, value: &Text) -> Result<Option<Text>, Refusal>
         requires stands { (log : Log) × IsAt self.old log × (names_of log < 2 ^ 40 - 1) }
-        ensures { (log : Log) → IsAt self.old log → names_of log < 2 ^ 40 - 1 → GoesOn self.old self.new log (op.Put key.now value.now) result }
+        ensures { (log : Log) → IsAt self.old log → names_of log < 2 ^ 40 - 1 → CallEnds self.old self.new log (op.Put key.now value.now) result }
     {
         let bucket = bucket_of(key, self.machine.buckets());
         let object = match self.with(alloc, bucket, key, value) {
@@ -225,7 +225,7 @@ impl PlainTable {
 
     fn remove(&mut self, alloc: Global, key: &Text) -> Result<Option<Text>, Refusal>
         requires stands { (log : Log) × IsAt self.old log × (names_of log < 2 ^ 40 - 1) }
-        ensures { (log : Log) → IsAt self.old log → names_of log < 2 ^ 40 - 1 → GoesOn self.old self.new log (op.Remove key.now) result }
+        ensures { (log : Log) → IsAt self.old log → names_of log < 2 ^ 40 - 1 → CallEnds self.old self.new log (op.Remove key.now) result }
     {
         let bucket = bucket_of(key, self.machine.buckets());
         match self.stored(bucket).find(key) {
@@ -276,7 +276,7 @@ impl PlainTable {
         value: &Text,
     ) -> Result<Option<Text>, Refusal>
         requires stands { (log : Log) × IsAt self.old log × (names_of log < 2 ^ 40 - 1) }
-        ensures { (log : Log) → IsAt self.old log → names_of log < 2 ^ 40 - 1 → GoesOn self.old self.new log (op.PutIf key.now (lent_value expected.entry) value.now) result }
+        ensures { (log : Log) → IsAt self.old log → names_of log < 2 ^ 40 - 1 → CallEnds self.old self.new log (op.PutIf key.now (lent_value expected.entry) value.now) result }
     {
         let bucket = bucket_of(key, self.machine.buckets());
         if !self.is_met(bucket, key, expected) {

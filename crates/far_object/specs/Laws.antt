@@ -42,7 +42,7 @@ module _ {K V : Type 0} (ek : K → List ℕ) (ev : V → List ℕ) where
   abbrev pub AreLong : Type 0
   AreLong = (es : List (K × V)) → IsStrictlySortedBy (key_cmp ek) (keys_of es) → length es + 3 ≤ length (object_of ek ev es)
 
-  -- with a pair put into as many as an object may count, it has more bytes than that
+  -- pairs that are as many as an object may count are written as more bytes than that, once a pair is put
   abbrev pub GrowTooLong : Type 0
   GrowTooLong =
       (es : List (K × V)) (k : K) (v : V) → IsStrictlySortedBy (key_cmp ek) (keys_of es) → most_pairs ≤ length es

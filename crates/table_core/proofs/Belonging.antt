@@ -12,7 +12,7 @@ use Rattle.std.specs.declared.cmp.Ordering.TheVariants.{Less, Equal, Greater}
 use Rattle.far_object.specs.Buckets.{key_cmp, bucket}
 use Rattle.table_core.specs.Lawful.{AreContents}
 use Rattle.table_core.specs.Changes.{is_above, belong}
-use Rattle.table_core.proofs.Maps.{all_above}
+use Rattle.far_object.proofs.Rising.{all_above}
 
 less_is : (o : Ordering) → is_lt o ≡ true → o ≡ Less
 less_is Less h = refl

@@ -1,32 +1,21 @@
 -- Tests of contents, one pair after another.
-use Rattle.std.proofs.Common.{◌≡◌, ℕ, ◌+◌, ◌<◌, ◌≤◌, Bool, true, List, [], ◌++◌, Option, length, take, get_or, refl, ap, sym, ◌∙◌, arith, IsTrue, ◌↔◌}
+use Rattle.std.proofs.Common.{◌≡◌, ℕ, ◌+◌, ◌<◌, ◌≤◌, Bool, true, List, Option, length, take, get_or, ap, sym, ◌∙◌, arith, IsTrue, ◌↔◌}
 use Rattle.std.proofs.lemmas.Map.Lookups.{exact_bytes}
-use Rattle.std.specs.Cmp.{IsTotalOrder}
-use Rattle.std.specs.Ordering.{is_eq, ordering_reverse}
+use Rattle.std.proofs.lemmas.Cmp.{tied_itself}
+use Rattle.std.specs.Ordering.{is_eq}
 use Rattle.std.specs.Cmp.Lexicographic.{slice_cmp}
 use Rattle.std.specs.Ordering.{nat_cmp}
 use Rattle.std.proofs.lemmas.List.{take_all, take_more_same, get_or_default}
 use Rattle.std.specs.declared.cmp.Ordering.{Ordering}
 use Rattle.std.specs.declared.cmp.Ordering.TheVariants.{Less, Equal, Greater}
 use Rattle.far_object.specs.Encodings.{FarLaws}
-use Rattle.table_core.proofs.Maps.{total}
-
-itself : {K : Type 0} {R : K → K → Ordering} → IsTotalOrder R → (k : K) → R k k ≡ Equal
-itself {K = K} {R = R} o k = by (R k k) (o.antisymm k k)
-  where
-    by : (r : Ordering) → r ≡ ordering_reverse r → r ≡ Equal
-    by Less h = cc
-    by Equal h = refl
-    by Greater h = cc
-
--- equal bytes are equal values
-pub same_values : {X : Type 0} (enc : X → List ℕ) (dec : List ℕ → Option X) (admits : X → Type 0) → FarLaws enc dec admits → (x y : X) → admits x → admits y → enc x ≡ enc y → x ≡ y
-same_values enc dec admits laws x y a b e = let p = laws.reads x [] a in let q = laws.reads y [] b in cc (ap (λ (z : List ℕ). dec (z ++ [])) e)
+use Rattle.far_object.proofs.Distinct.{same_value}
+use Rattle.far_object.proofs.Rising.{total}
 
 pub compared_same : {X : Type 0} (enc : X → List ℕ) (dec : List ℕ → Option X) (admits : X → Type 0) → FarLaws enc dec admits → (x y : X) → admits x → admits y
     → (o : Ordering) → o ≡ slice_cmp nat_cmp (enc x) (enc y) → is_eq o ≡ true → x ≡ y
 compared_same enc dec admits laws x y a b Less is e = cc
-compared_same enc dec admits laws x y a b Equal is e = same_values enc dec admits laws x y a b (exact_bytes (enc x) (enc y) (sym is))
+compared_same enc dec admits laws x y a b Equal is e = same_value enc dec admits laws x y a b (exact_bytes (enc x) (enc y) (sym is))
 compared_same enc dec admits laws x y a b Greater is e = cc
 
 -- an answer of a comparison tells whether two values are the same
@@ -36,7 +25,7 @@ same_is {X = X} enc dec admits laws x y a b o r is answer =
     (λ t. compared_same enc dec admits laws x y a b o is (sym answer ∙ t), λ same. answer ∙ ap is_eq (is ∙ (ap (λ (z : X). slice_cmp nat_cmp (enc z) (enc y)) same ∙ equal_is y)))
   where
     equal_is : (z : X) → slice_cmp nat_cmp (enc z) (enc z) ≡ Equal
-    equal_is z = itself (total enc) z
+    equal_is z = tied_itself (total enc) z
 
 -- one equation for another
 pub same_test : {X : Type 0} (r : Bool) (x y z : X) → y ≡ z → IsTrue r ↔ (x ≡ y) → IsTrue r ↔ (x ≡ z)

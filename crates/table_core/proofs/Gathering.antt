@@ -14,7 +14,8 @@ use Rattle.std.specs.declared.cmp.Ordering.{Ordering}
 use Rattle.std.specs.declared.cmp.Ordering.TheVariants.{Less, Equal, Greater}
 use Rattle.far_object.specs.Buckets.{key_cmp, bucket}
 use Rattle.table_core.specs.Maps.{at_bucket, joined}
-use Rattle.table_core.proofs.Maps.{total, equivalence}
+use Rattle.far_object.proofs.Rising.{total}
+use Rattle.table_core.proofs.Maps.{equivalence}
 
 -- ---- two sorted lists with the same pairs
 

@@ -1,5 +1,5 @@
 -- What a call on the plain table does to the log.
-use Rattle.std.proofs.Common.{◌≡◌, ℕ, ◌+◌, ◌-◌, ◌^◌, ◌<◌, ◌≤◌, ◌==◌, Bool, true, false, cond, List, [], ◌∷◌, ◌++◌, Option, Some, None, refl, ap, sym, ◌∙◌, subst, arith, option_map, inl, inr}
+use Rattle.std.proofs.Common.{◌≡◌, ℕ, ◌+◌, ◌<◌, ◌≤◌, ◌==◌, Bool, true, false, cond, List, [], ◌∷◌, ◌++◌, Option, Some, None, refl, ap, sym, ◌∙◌, subst, arith, option_map, inl, inr}
 use Rattle.std.proofs.lemmas.Bool.Decides.{nat_tests}
 use Rattle.std.proofs.lemmas.List.Elements.{All-nil, All-cons}
 use Rattle.std.specs.List.{All}
@@ -13,12 +13,14 @@ use Rattle.table_core.specs.declared.fault.Rule.TheVariants.{NameUsed, NotNewer,
 use Rattle.table_core.specs.declared.limits.Limits.{Limits}
 use Rattle.table_core.specs.declared.operation.Operation.{Operation}
 use Rattle.table_core.specs.BucketWords.{name_of, place_of, empty_place}
+use Rattle.table_core.specs.Limits.{last_name}
 use Rattle.table_core.specs.Maps.{key_of, at_bucket, after, map_of}
 use Rattle.table_core.specs.Logs.{history, passes_of, names_of, naming, contents, pairs_of, word}
 use Rattle.table_core.specs.Lawful.{AreContents, standing, MayFollow, IsLawful, widest}
 use Rattle.table_core.specs.Machines.{Breaks}
 use Rattle.table_core.proofs.Logs.{passes-append, names-append, naming-append, word-more, names_below, words_below, naming_kept}
-use Rattle.table_core.proofs.Maps.{after_here, rising_after, rising_filter}
+use Rattle.far_object.proofs.Rising.{rising_filter}
+use Rattle.table_core.proofs.Maps.{after_here, rising_after}
 use Rattle.table_core.proofs.Keys.{rising}
 use Rattle.table_core.proofs.Histories.{agree}
 
@@ -58,7 +60,7 @@ module _ {K V : Type 0} (ek : K → List ℕ) (ev : V → List ℕ) (buckets : �
       (part_fits ek buckets (bucket ek buckets (key_of o)) (after ek ev (map_of ek ev (history log)) o) (rising_after ek ev o (map_of ek ev (history log)) (rising ek ev (history log))))
 
   -- the next name for contents of a bucket may be drawn
-  pub may_name : (b : ℕ) (es : List (K × V)) → names_of log < 2 ^ 40 - 1 → b < buckets → AreContents ek buckets b es → MayFollow ek ev (widest buckets) log (Named (names_of log + 1) b es)
+  pub may_name : (b : ℕ) (es : List (K × V)) → names_of log < last_name → b < buckets → AreContents ek buckets b es → MayFollow ek ev (widest buckets) log (Named (names_of log + 1) b es)
   may_name b es room here fits = record { pass = tt; number = (refl, omega arith); drawn = tt; newer = tt; contents_kept = (here, λ _. fits) }
 
   -- a call that changes nothing may be done without a word

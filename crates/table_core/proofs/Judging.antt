@@ -5,13 +5,14 @@ use Rattle.std.specs.Option.{option_map}
 use Rattle.std.specs.List.Sorted.{IsStrictlySortedBy}
 use Rattle.std.specs.Map.{keys_of}
 use Rattle.far_object.specs.Buckets.{key_cmp, bucket}
-use Rattle.table_core.specs.declared.asked.Effect.{Effect}
+use Rattle.table_core.specs.declared.lent_operation.Effect.{Effect}
 use Rattle.table_core.specs.declared.event.Event.{Event}
 use Rattle.table_core.specs.declared.event.Event.TheVariants.{Named, Done, Moved}
 use Rattle.table_core.specs.declared.fault.Rule.{Rule}
 use Rattle.table_core.specs.declared.fault.Rule.TheVariants.{NameUsed, NotNewer, WrongContents, WrongPass, Memory}
 use Rattle.table_core.specs.declared.operation.Operation.{Operation}
 use Rattle.table_core.specs.BucketWords.{name_of, place_of, empty_place}
+use Rattle.table_core.specs.Limits.{last_name}
 use Rattle.table_core.specs.Maps.{key_of, after}
 use Rattle.table_core.specs.Logs.{passes_of, names_of, contents, pairs_of, installed, word}
 use Rattle.table_core.specs.Lawful.{standing, IsDrawn, PassRule, NumberRule, DrawnRule, NewerRule, MayFollow, AreContents, widest}
@@ -153,8 +154,8 @@ module _ {K V : Type 0} (ek : K → List ℕ) (ev : V → List ℕ) (m : Machine
 
   -- ---- names
 
-  pub names_ok : (b : ℕ) (es : List (K × V)) → names_of log < 1099511627775 → b < buckets_of m → AreContents ek (buckets_of m) b es → MayFollow ek ev (widest (buckets_of m)) log (Named (names_of log + 1) b es)
+  pub names_ok : (b : ℕ) (es : List (K × V)) → names_of log < last_name → b < buckets_of m → AreContents ek (buckets_of m) b es → MayFollow ek ev (widest (buckets_of m)) log (Named (names_of log + 1) b es)
   names_ok b es few h are = record { pass = tt; number = (refl, omega arith); drawn = tt; newer = tt; contents_kept = (h, λ honest. are) }
 
-  pub names_err : (b : ℕ) (es : List (K × V)) → names_of log < 1099511627775 → ((b < buckets_of m) × AreContents ek (buckets_of m) b es → ⊥) → Breaks ek ev (widest (buckets_of m)) log (Named (names_of log + 1) b es) WrongContents
+  pub names_err : (b : ℕ) (es : List (K × V)) → names_of log < last_name → ((b < buckets_of m) × AreContents ek (buckets_of m) b es → ⊥) → Breaks ek ev (widest (buckets_of m)) log (Named (names_of log + 1) b es) WrongContents
   names_err b es few not = (tt, (refl, omega arith), inr (tt, tt, λ c. not (c.0, c.1 refl)))

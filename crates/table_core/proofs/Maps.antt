@@ -1,7 +1,6 @@
 -- Maps as sorted lists of pairs: one key, one bucket, and what operations do to them.
 use Rattle.std.proofs.Common.{◌≡◌, ◌≢◌, ℕ, ◌%◌, ◌==◌, Bool, true, false, not, cond, List, [], ◌∷◌, refl, ap, sym, ◌∙◌, arith}
 use Rattle.std.proofs.lemmas.Bool.Decides.{nat_tests}
-use Rattle.std.proofs.lemmas.List.Kept.{IsStrictlySortedBy-filter}
 use Rattle.std.proofs.lemmas.Map.Lookups.{exact_bytes}
 use Rattle.std.proofs.lemmas.Map.Entries.{lookup-filter-keys}
 use Rattle.std.proofs.lemmas.Map.Keys.{sorted_head, sorted_tail}
@@ -9,66 +8,28 @@ use Rattle.std.specs.List.{filter, AllByRecursion}
 use Rattle.std.specs.List.Sorted.{IsStrictlySortedBy}
 use Rattle.std.specs.Map.{keys_of}
 use Rattle.std.specs.BTreeMap.{insert_entry, is_at}
-use Rattle.std.specs.Ordering.{is_eq, eq_by_cmp, match_ordering, ordering_reverse}
-use Rattle.std.specs.Cmp.{IsEquivalence, IsTotalOrder, eq_by_cmp_equiv}
-use Rattle.std.specs.Cmp.Lexicographic.{on_texts}
+use Rattle.std.specs.Ordering.{is_eq, eq_by_cmp, match_ordering}
+use Rattle.std.specs.Cmp.{IsEquivalence, eq_by_cmp_equiv}
 use Rattle.std.specs.declared.cmp.Ordering.{Ordering}
 use Rattle.std.specs.declared.cmp.Ordering.TheVariants.{Less, Equal, Greater}
 use Rattle.far_object.specs.Buckets.{key_cmp, bucket, hash_of}
 use Rattle.far_object.specs.Objects.{cut}
+use Rattle.far_object.proofs.Rising.{total, all_above, rising_insert, rising_filter}
 use Rattle.table_core.specs.declared.operation.Operation.{Operation}
 use Rattle.table_core.specs.declared.operation.Operation.TheVariants.{Put, Get, Remove, PutIf}
 use Rattle.table_core.specs.Maps.{key_of, value_at, at_bucket, is_met, after}
 
 module _ {K : Type 0} (ek : K → List ℕ) where
-  pub total : IsTotalOrder (key_cmp ek)
-  total = on_texts ek
-
   pub equivalence : IsEquivalence (eq_by_cmp (key_cmp ek))
-  equivalence = eq_by_cmp_equiv total
+  equivalence = eq_by_cmp_equiv (total ek)
 
   -- keys that are written alike are in one bucket
   pub same_bucket : (buckets : ℕ) (x y : K) → key_cmp ek x y ≡ Equal → bucket ek buckets x ≡ bucket ek buckets y
   same_bucket buckets x y is = ap (λ (bytes : List ℕ). hash_of bytes % buckets) (exact_bytes (ek x) (ek y) is)
 
-  -- what is below a key is below all that are above it
-  pub all_above : (k q : K) (ks : List K) → key_cmp ek k q ≡ Less → AllByRecursion (λ y. key_cmp ek q y ≡ Less) ks → AllByRecursion (λ y. key_cmp ek k y ≡ Less) ks
-  all_above k q [] h a = tt
-  all_above k q (y ∷ ks) h a = (total.trans k q y h a.0, all_above k q ks h a.1)
-
 -- ---- sorted lists
 
 module _ {K V : Type 0} (ek : K → List ℕ) where
-  keys_filter : (t : K → Bool) (es : List (K × V)) → keys_of (filter (λ e. t e.0) es) ≡ filter t (keys_of es)
-  keys_filter t [] = refl
-  keys_filter t (e ∷ es) = go (keys_filter t es) (t e.0)
-    where
-      go : keys_of (filter (λ e. t e.0) es) ≡ filter t (keys_of es) → (b : Bool) → keys_of (cond b (e ∷ filter (λ e. t e.0) es) (filter (λ e. t e.0) es)) ≡ cond b (e.0 ∷ filter t (keys_of es)) (filter t (keys_of es))
-      go next true = ap (λ (z : List K). e.0 ∷ z) next
-      go next false = next
-
-  pub rising_filter : (t : K → Bool) (es : List (K × V)) → IsStrictlySortedBy (key_cmp ek) (keys_of es) → IsStrictlySortedBy (key_cmp ek) (keys_of (filter (λ e. t e.0) es))
-  rising_filter t es so = rw (keys_filter t es) (IsStrictlySortedBy-filter (key_cmp ek) t (keys_of es) so)
-
-  all_insert : (P : K → Type 0) (k : K) (v : V) (es : List (K × V)) → P k → AllByRecursion P (keys_of es) → AllByRecursion P (keys_of (insert_entry (key_cmp ek) es k v))
-  all_insert P k v [] p a = (p, tt)
-  all_insert P k v (e ∷ es) p a = go (all_insert P k v es p a.1) (key_cmp ek k e.0)
-    where
-      go : AllByRecursion P (keys_of (insert_entry (key_cmp ek) es k v)) → (o : Ordering) → AllByRecursion P (keys_of (match_ordering o ((k, v) ∷ e ∷ es) ((e.0, v) ∷ es) (e ∷ insert_entry (key_cmp ek) es k v)))
-      go next Less = (p, (a.0, a.1))
-      go next Equal = (a.0, a.1)
-      go next Greater = (a.0, next)
-
-  pub rising_insert : (k : K) (v : V) (es : List (K × V)) → IsStrictlySortedBy (key_cmp ek) (keys_of es) → IsStrictlySortedBy (key_cmp ek) (keys_of (insert_entry (key_cmp ek) es k v))
-  unfolding IsStrictlySortedBy
-  rising_insert k v [] so = (tt, tt)
-  rising_insert k v (e ∷ es) so = go (rising_insert k v es so.1) (key_cmp ek k e.0) refl
-    where
-      go : IsStrictlySortedBy (key_cmp ek) (keys_of (insert_entry (key_cmp ek) es k v)) → (o : Ordering) → key_cmp ek k e.0 ≡ o → IsStrictlySortedBy (key_cmp ek) (keys_of (match_ordering o ((k, v) ∷ e ∷ es) ((e.0, v) ∷ es) (e ∷ insert_entry (key_cmp ek) es k v)))
-      go next Less is = ((is, all_above ek k e.0 (keys_of es) is so.0), so)
-      go next Equal is = so
-      go next Greater is = (all_insert (λ y. key_cmp ek e.0 y ≡ Less) k v es ((total ek).antisymm e.0 k ∙ ap ordering_reverse is) so.0, next)
-
   -- a new key below all goes first
   insert_first : (k : K) (v : V) (es : List (K × V)) → AllByRecursion (λ y. key_cmp ek k y ≡ Less) (keys_of es) → insert_entry (key_cmp ek) es k v ≡ (k, v) ∷ es
   insert_first k v [] a = refl

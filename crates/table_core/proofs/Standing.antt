@@ -13,6 +13,7 @@ use Rattle.table_core.specs.declared.event.Event.TheVariants.{Enter, Named, Done
 use Rattle.table_core.specs.declared.limits.Limits.{Limits}
 use Rattle.table_core.specs.declared.operation.Operation.{Operation}
 use Rattle.table_core.specs.BucketWords.{name_of}
+use Rattle.table_core.specs.Limits.{last_pass}
 use Rattle.table_core.specs.Maps.{key_of, value_at, at_bucket, map_of, reply}
 use Rattle.table_core.specs.Logs.{history, passes_of, names_of, naming, contents, pairs_of, installed, replaced, word}
 use Rattle.table_core.specs.Lawful.{standing, IsDrawn, MayFollow, IsLawful, widest}
@@ -20,7 +21,7 @@ use Rattle.table_core.specs.Machines.{MachineView, buckets_of, namings, numbered
 use Rattle.table_core.specs.Changes.{standing_at, with_name, with_word}
 use Rattle.table_core.proofs.Logs.{passes-append, names-append, naming-append, or_else, lawful_more, lawful_keeps, word-more}
 use Rattle.table_core.proofs.Histories.{agree, answer}
-use Rattle.table_core.proofs.Maps.{rising_filter}
+use Rattle.far_object.proofs.Rising.{rising_filter}
 use Rattle.table_core.proofs.Keys.{rising}
 
 -- ---- names
@@ -231,7 +232,7 @@ module _ {K V : Type 0} (ek : K → List ℕ) (ev : V → List ℕ) (m : Machine
 
   -- ---- the same of a machine that shows its fields
 
-  pub entered : (inside : MachineView K V) → inside ≡ m → (p : ℕ) → p ≡ passes_of log + 1 → p ≤ 65535 → GoesOn ek ev m (record { words = inside.words; names = inside.names; passes = p }) log (Enter p)
+  pub entered : (inside : MachineView K V) → inside ≡ m → (p : ℕ) → p ≡ passes_of log + 1 → p ≤ last_pass → GoesOn ek ev m (record { words = inside.words; names = inside.names; passes = p }) log (Enter p)
   entered inside is p next few =
       let new : MachineView K V → MachineView K V = λ n. record { words = n.words; names = n.names; passes = p } in
       subst (λ (n : MachineView K V). GoesOn ek ev m n log (Enter p)) (ap new (sym is)) (goes_enter p (record { pass = (next, few); number = tt; drawn = tt; newer = tt; contents_kept = tt }))

@@ -1,6 +1,5 @@
 -- A machine's tests of contents, one pair after another.
 use Rattle.std.specs.Prelude.{◌≡◌, ℕ, ◌+◌, ◌<◌, ◌≤◌, ◌==◌, ◌&&◌, Bool, true, List, [], ◌∷◌, ◌++◌, Option, Some, None, option_map, slice_index, slice_set}
-use denote.Ref.{Bor}
 use Rattle.std.specs.Ordering.{is_lt, match_ordering}
 use Rattle.std.specs.BTreeMap.{insert_entry}
 use Rattle.far_object.specs.Buckets.{key_cmp, bucket}
@@ -10,31 +9,15 @@ use Rattle.table_core.specs.Logs.{pairs_of}
 use Rattle.table_core.specs.Machines.{MachineView, numbered}
 use Rattle.table_core.specs.declared.fault.Rule.{Rule}
 use Rattle.table_core.specs.declared.fault.Rule.TheVariants.{NotNewer, WrongContents}
-use Rattle.table_core.specs.declared.asked.Asked.{Asked}
-use Rattle.table_core.specs.declared.asked.Asked.TheVariants as asked
-use Rattle.table_core.specs.declared.asked.Effect.{Effect}
-use Rattle.table_core.specs.declared.asked.Effect.TheVariants as effect
-use Rattle.table_core.specs.declared.pairs.Place.{Place}
-use Rattle.table_core.specs.declared.pairs.Place.TheVariants.{Gap, Here}
-use Rattle.table_core.specs.declared.operation.Operation.{Operation}
-use Rattle.table_core.specs.declared.operation.Operation.TheVariants.{Put, Get, Remove, PutIf}
-
--- the value that is lent
-abbrev pub lent_value : {V : Type 0} → Option (Bor V) → Option V
-lent_value o = option_map (λ r. r.now) o
+use Rattle.table_core.specs.declared.lent_operation.Effect.{Effect}
+use Rattle.table_core.specs.declared.lent_operation.Effect.TheVariants as effect
+use Rattle.table_core.specs.declared.contents.Place.{Place}
+use Rattle.table_core.specs.declared.contents.Place.TheVariants.{Gap, Here}
 
 -- a place among so many pairs
 abbrev pub IsWithin : ℕ → Place → Type 0
 IsWithin count (Gap at) = at ≤ count
 IsWithin count (Here at) = at < count
-
-module _ {K V : Type 0} where
-  -- the operation whose key and values are lent
-  abbrev pub lent : Asked K V → Operation K V
-  lent (asked.Put k v) = Put k.now v.now
-  lent (asked.Get k) = Get k.now
-  lent (asked.Remove k) = Remove k.now
-  lent (asked.PutIf k expected v) = PutIf k.now (lent_value expected) v.now
 
 module _ {K : Type 0} (ek : K → List ℕ) where
   -- the key is above the last one, if there is one

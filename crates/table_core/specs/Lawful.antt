@@ -1,9 +1,10 @@
 -- Which logs are lawful: five rules, each of one event behind those before it.
-use Rattle.std.specs.Prelude.{◌≡◌, ℕ, ◌+◌, ◌-◌, ◌<◌, ◌≤◌, ◌^◌, true, IsTrue, List, [], ◌∷◌, ◌++◌, Some, None, option_map, ⊤, MatchOption, All}
+use Rattle.std.specs.Prelude.{◌≡◌, ℕ, ◌+◌, ◌<◌, ◌≤◌, true, IsTrue, List, [], ◌∷◌, ◌++◌, Some, None, option_map, ⊤, MatchOption, All}
 use Rattle.std.specs.Map.{keys_of}
 use Rattle.std.specs.List.Sorted.{IsStrictlySortedBy}
 use Rattle.far_object.specs.Buckets.{key_cmp, bucket}
 use Rattle.table_core.specs.BucketWords.{name_of, place_of, empty_place}
+use Rattle.table_core.specs.Limits.{last_name, last_pass}
 use Rattle.table_core.specs.Maps.{key_of, after}
 use Rattle.table_core.specs.Logs.{passes_of, names_of, naming, contents, installed, word}
 use Rattle.table_core.specs.declared.event.Event.{Event}
@@ -81,4 +82,4 @@ module _ {K V : Type 0} (ek : K → List ℕ) (ev : V → List ℕ) (l : Limits)
 
 -- the limits of a log that no row of words bounds more narrowly
 abbrev pub widest : ℕ → Limits
-widest buckets = record { buckets = buckets; names = 2 ^ 40 - 1; passes = 65535; honest = true }
+widest buckets = record { buckets = buckets; names = last_name; passes = last_pass; honest = true }

@@ -4,6 +4,8 @@ pub mod Logs
 pub mod Lawful
 pub mod Laws
 pub mod Machines
+pub mod Limits
+pub mod Lent
 pub mod Changes
 pub use Rattle.far_object.specs.Encodings
 pub use Rattle.far_object.specs.Buckets

@@ -1,8 +1,8 @@
 -- What contracts see of a machine, and what its calls do.
-use Rattle.std.specs.Prelude.{zero, suc, ◌≡◌, ℕ, ◌+◌, ◌<◌, List, [], ◌∷◌, ◌++◌, length, slice_index, slice_get, Option, None, ⊤, ◌⊎◌}
+use Rattle.std.specs.Prelude.{zero, suc, ◌≡◌, ℕ, ◌+◌, ◌<◌, List, [], ◌∷◌, ◌++◌, length, slice_index, slice_get, Option, None, ◌⊎◌}
 use Rattle.table_core.specs.Maps.{map_of, reply}
 use Rattle.table_core.specs.Logs.{history, passes_of, word}
-use Rattle.table_core.specs.Lawful.{PassRule, NumberRule, DrawnRule, NewerRule, ContentsRule, IsLawful, widest}
+use Rattle.table_core.specs.Lawful.{PassRule, NumberRule, DrawnRule, NewerRule, ContentsRule, MayFollow, IsLawful, widest}
 use Rattle.table_core.specs.declared.event.Event.{Event}
 use Rattle.table_core.specs.declared.event.Event.TheVariants.{Named, Done}
 use Rattle.table_core.specs.declared.fault.CoreFault.{CoreFault}
@@ -50,7 +50,7 @@ module _ {K V : Type 0} (ek : K → List ℕ) (ev : V → List ℕ) where
     pub goes_on : GoesOn old new log (Done pass op w)
     pub answered : answer ≡ reply ek (map_of ek ev (history log)) op
 
--- the event breaks the rule, and none that is looked at before it; want of memory may come instead of an Ok
+-- the event breaks the rule, and none that is looked at before it; want of memory comes only where the event may follow
 module _ {K V : Type 0} (ek : K → List ℕ) (ev : V → List ℕ) (l : Limits) where
   abbrev pub Breaks : List (Event K V) → Event K V → Rule → Type 0
   Breaks log e WrongPass = PassRule ek ev l log e → ⊥
@@ -59,7 +59,7 @@ module _ {K V : Type 0} (ek : K → List ℕ) (ev : V → List ℕ) (l : Limits)
   Breaks log e WrongContents =
       PassRule ek ev l log e × NumberRule ek ev l log e
       × ((DrawnRule ek ev l log e → ⊥) ⊎ (DrawnRule ek ev l log e × NewerRule ek ev l log e × (ContentsRule ek ev l log e → ⊥)))
-  Breaks log e Memory = ⊤
+  Breaks log e Memory = MayFollow ek ev l log e
 
 module _ {K V : Type 0} (ek : K → List ℕ) (ev : V → List ℕ) where
   -- a call is refused: its own fault has the place 0, and the event breaks the rule that it names

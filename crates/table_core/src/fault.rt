@@ -5,7 +5,8 @@ use far_object::Memory;
 use thiserror::Error;
 
 /// The rule that an event breaks, or want of memory. Where it breaks more than one, the first is named in this order:
-/// its pass, its number, the naming of its word, that its word is newer, its contents.
+/// its pass, its number, the naming of its word, that its word is newer, its contents. Want of memory comes last, only
+/// where the event may follow.
 #[derive(Clone, Copy, Debug, PartialEq, Eq, Error)]
 pub enum Rule {
     /// The name isn't the next one, or none is left.
@@ -21,7 +22,7 @@ pub enum Rule {
     /// The pass isn't the next one or none is left, or the pass of a call has not entered.
     #[error("the pass is wrong")]
     WrongPass,
-    /// A growth was refused.
+    /// A growth was refused, for an event that may follow.
     #[error("memory")]
     Memory,
 }

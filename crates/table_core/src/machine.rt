@@ -5,12 +5,14 @@ ghost use Rattle.table_core.specs.declared.event.Event.{Event};
 ghost use Rattle.table_core.specs.declared.fault.Rule.{Rule};
 ghost use Rattle.table_core.specs.declared.operation.Operation.{Operation};
 ghost use Rattle.table_core.specs.Logs.{names_of, passes_of};
-ghost use Rattle.table_core.specs.Changes.{lent_value};
+ghost use Rattle.table_core.specs.Lent.{lent_value};
+ghost use Rattle.table_core.specs.Limits.{most_buckets};
 ghost use Rattle.table_core.specs.Machines.{buckets_of, StandsAt, GoesOn, Answers, Refuses};
 
-use crate::asked::Asked;
-use crate::event::Pairs;
 use crate::fault::{CoreFault, Rule};
+use crate::lent_operation::LentOperation;
+use crate::limits::LAST_PASS;
+use crate::pairs::Pairs;
 use far_object::FarObject;
 use std::alloc::Global;
 use std::marker::Model;
@@ -20,12 +22,6 @@ mod gathering;
 mod judging;
 mod reading;
 mod replaying;
-
-/// The last pass.
-const LAST_PASS: u32 = 65_535;
-
-/// The last name.
-const LAST_NAME: u64 = 1_099_511_627_775;
 
 /// Where a table stands after the events of a log. Contracts see its words, the bucket and the contents of each name, and
 /// the last pass.
@@ -41,20 +37,21 @@ pub struct Machine<K, V> {
 
 impl<K, V> Model for Machine<K, V> {
     ghost use Rattle.std.specs.Prelude.{◌<◌, ◌≤◌, length};
+    ghost use Rattle.table_core.specs.Limits.{most_buckets};
     ghost use Rattle.table_core.specs.Machines.{MachineView};
 
     ghost Value = { MachineView K V };
 
     ghost view = { λ m. record { words = m.words.items; names = m.names.items; passes = m.passes } };
 
-    ghost invariant = { λ m. (0 < length m.words.items) × (length m.words.items ≤ 65536) };
+    ghost invariant = { λ m. (0 < length m.words.items) × (length m.words.items ≤ most_buckets) };
 }
 
 impl<K: FarObject, V: FarObject> Machine<K, V> {
     /// The machine of a table to which nothing has happened.
     pub fn new(alloc: Global, buckets: u32) -> Result<Machine<K, V>, CoreFault>
         requires some { 0 < buckets }
-        requires few { buckets ≤ 65536 }
+        requires few { buckets ≤ most_buckets }
         ensures stands { IfOk result (λ m. StandsAt K.enc V.enc m []) }
         ensures buckets { IfOk result (λ m. buckets_of m ≡ buckets) }
         ensures memory { IfErr result (λ fault. fault ≡ record { place = 0; rule = Rule.Memory }) }
@@ -107,7 +104,7 @@ impl<K: FarObject, V: FarObject> Machine<K, V> {
         ensures refused { IfErr result (λ fault. (log : List (Event K V)) → StandsAt K.enc V.enc self.old log → Refuses K.enc V.enc self.old log (Event.Done pass (Operation.Put key.now value.now) (Some word)) fault) }
         ensures err { OnErr result (self.new ≡ self.old) }
     {
-        self.done(alloc, pass, &Asked::Put(key, value), Some(word))
+        self.done(alloc, pass, &LentOperation::Put(key, value), Some(word))
     }
 
     /// A copy of the value of the key. The machine stands where it stood, and at the log with this call as well.
@@ -115,7 +112,7 @@ impl<K: FarObject, V: FarObject> Machine<K, V> {
         ensures ok { IfOk result (λ answer. (log : List (Event K V)) → StandsAt K.enc V.enc self.now log → Answers K.enc V.enc self.now self.now log pass (Operation.Get key.now) None answer) }
         ensures refused { IfErr result (λ fault. (log : List (Event K V)) → StandsAt K.enc V.enc self.now log → Refuses K.enc V.enc self.now log (Event.Done pass (Operation.Get key.now) None) fault) }
     {
-        let bucket = self.judge_done(pass, &Asked::Get(key), None)?;
+        let bucket = self.judge_done(pass, &LentOperation::Get(key), None)?;
         self.answer(alloc, bucket, key)
     }
 
@@ -131,7 +128,7 @@ impl<K: FarObject, V: FarObject> Machine<K, V> {
         ensures refused { IfErr result (λ fault. (log : List (Event K V)) → StandsAt K.enc V.enc self.old log → Refuses K.enc V.enc self.old log (Event.Done pass (Operation.Remove key.now) word) fault) }
         ensures err { OnErr result (self.new ≡ self.old) }
     {
-        self.done(alloc, pass, &Asked::Remove(key), word)
+        self.done(alloc, pass, &LentOperation::Remove(key), word)
     }
 
     /// Sets the key to the value where its value is the expected one, installing the word if there is one. The answer is a
@@ -149,7 +146,12 @@ impl<K: FarObject, V: FarObject> Machine<K, V> {
         ensures refused { IfErr result (λ fault. (log : List (Event K V)) → StandsAt K.enc V.enc self.old log → Refuses K.enc V.enc self.old log (Event.Done pass (Operation.PutIf key.now (lent_value expected.entry) value.now) word) fault) }
         ensures err { OnErr result (self.new ≡ self.old) }
     {
-        self.done(alloc, pass, &Asked::PutIf(key, expected, value), word)
+        self.done(
+            alloc,
+            pass,
+            &LentOperation::PutIf(key, expected, value),
+            word,
+        )
     }
 
     /// Installs a word whose contents are those that stand in the bucket. It takes no memory.

@@ -3,10 +3,11 @@
 ghost use Rattle.std.specs.Prelude.{◌≡◌};
 ghost use Rattle.table_core.specs.Machines.{buckets_of};
 
-use crate::event::{Event, Pairs};
+use crate::event::Event;
 use crate::fault::{CoreFault, Rule};
 use crate::machine::Machine;
 use crate::operation::Operation;
+use crate::pairs::Pairs;
 use crate::word::{EMPTY_PLACE, FAR_PLACE, name_of, pack, place_of};
 use far_object::Text;
 use std::alloc::Global;
@@ -216,6 +217,23 @@ fn a_removal_that_takes_too_much(rt: HostRuntime) {
         remove(&rt, alloc, b"a", Some(67108862)),
     ];
     refuses(&rt, alloc, &events, 7, Rule::WrongContents);
+}
+
+/// Events that break two rules at once: the one that is looked at first is named.
+#[test]
+fn two_rules_at_once(rt: HostRuntime) {
+    let alloc = rt.alloc();
+    let no_pass_and_no_name = [put(&rt, alloc, b"a", b"1", Some(16777216))];
+    refuses(&rt, alloc, &no_pass_and_no_name, 1, Rule::WrongPass);
+    let old_name_and_contents = [
+        Event::Enter(1),
+        named(&rt, alloc, 1, 0, b"a1"),
+        put(&rt, alloc, b"a", b"1", Some(16777216)),
+        put(&rt, alloc, b"a", b"2", Some(16777217)),
+    ];
+    refuses(&rt, alloc, &old_name_and_contents, 4, Rule::NotNewer);
+    let number_and_bucket = [named(&rt, alloc, 2, 4, b"a1")];
+    refuses(&rt, alloc, &number_and_bucket, 1, Rule::NameUsed);
 }
 
 #[test]

@@ -13,7 +13,7 @@ use Rattle.table_core.specs.BucketWords.{name_of, place_of, empty_place}
 use Rattle.table_core.specs.Maps.{value_at, is_met, after, map_of, reply}
 use Rattle.table_core.specs.Logs.{history, passes_of, word}
 use Rattle.table_core.specs.Lawful.{IsDrawn, IsLawful}
-use Rattle.table_core.specs.Changes.{lent_value}
+use Rattle.table_core.specs.Lent.{lent_value}
 use Rattle.version_words.specs.declared.change.Change.{Change}
 use Rattle.version_words.specs.declared.change.Change.TheVariants as change
 use Rattle.version_words.specs.declared.change.Probe.{Probe}

@@ -6,13 +6,14 @@ ghost use Rattle.std.specs.List.Sorted.{IsStrictlySortedBy};
 ghost use Rattle.std.specs.Map.{keys_of};
 ghost use Rattle.far_object.specs.Buckets.{key_cmp};
 ghost use Rattle.table_core.specs.Machines.{buckets_of, StandsAt, Answers, Refuses};
-ghost use Rattle.table_core.specs.Changes.{lent, standing_at, with_name, with_word};
+ghost use Rattle.table_core.specs.Changes.{standing_at, with_name, with_word};
+ghost use Rattle.table_core.specs.Lent.{lent};
 
-use crate::asked::Asked;
-use crate::event::Pairs;
+use crate::contents::value_of;
 use crate::fault::{CoreFault, Rule};
+use crate::lent_operation::LentOperation;
 use crate::machine::Machine;
-use crate::pairs::value_of;
+use crate::pairs::Pairs;
 use far_object::{FarObject, Memory};
 use std::alloc::Global;
 
@@ -48,12 +49,13 @@ impl<K: FarObject, V: FarObject> Machine<K, V> {
         }
     }
 
-    /// A call that may install a word. The answer is copied before anything is changed.
+    /// A call that may install a word. It is judged before the answer is copied, so that want of memory comes only for a
+    /// call that may follow, and the answer is copied before anything is changed.
     pub(crate) fn done(
         &mut self,
         alloc: Global,
         pass: u32,
-        asked: &Asked<K, V>,
+        asked: &LentOperation<K, V>,
         word: Option<u64>,
     ) -> Result<Option<V>, CoreFault>
         ensures ok { IfOk result (λ answer. (log : List (Event K V)) → StandsAt K.enc V.enc self.old log → Answers K.enc V.enc self.old self.new log pass (lent asked.now) word answer) }

@@ -8,13 +8,15 @@ ghost use Rattle.table_core.specs.Maps.{key_of};
 ghost use Rattle.table_core.specs.Logs.{names_of};
 ghost use Rattle.table_core.specs.Lawful.{MayFollow, widest};
 ghost use Rattle.table_core.specs.Machines.{buckets_of, numbered, StandsAt, Breaks};
-ghost use Rattle.table_core.specs.Changes.{lent, standing_at, Installs, IsUnfit};
+ghost use Rattle.table_core.specs.Changes.{standing_at, Installs, IsUnfit};
+ghost use Rattle.table_core.specs.Lent.{lent};
 
-use crate::asked::Asked;
-use crate::event::Pairs;
+use crate::contents::{are_same, belong, is_changed, is_left};
 use crate::fault::Rule;
-use crate::machine::{LAST_NAME, Machine};
-use crate::pairs::{are_same, belong, is_changed, is_left};
+use crate::lent_operation::LentOperation;
+use crate::limits::LAST_NAME;
+use crate::machine::Machine;
+use crate::pairs::Pairs;
 use crate::word::{EMPTY_PLACE, name_of, place_of};
 use far_object::{FarObject, bucket_of};
 
@@ -69,7 +71,7 @@ impl<K: FarObject, V: FarObject> Machine<K, V> {
     pub(crate) fn judge_done(
         &self,
         pass: u32,
-        asked: &Asked<K, V>,
+        asked: &LentOperation<K, V>,
         word: Option<u64>,
     ) -> Result<u32, Rule>
         ensures bucket { IfOk result (λ b. (b ≡ bucket K.enc (buckets_of self.now) (key_of (lent asked.now))) × (b < buckets_of self.now)) }

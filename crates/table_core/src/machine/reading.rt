@@ -2,6 +2,7 @@
 ghost use Rattle.std.specs.Prelude.{◌≡◌, ◌<◌, ◌≤◌, List, MatchOption};
 ghost use Rattle.table_core.specs.declared.event.Event.{Event};
 ghost use Rattle.table_core.specs.Logs.{names_of, passes_of, contents, word};
+ghost use Rattle.table_core.specs.Limits.{most_buckets};
 ghost use Rattle.table_core.specs.Machines.{buckets_of, StandsAt};
 
 use crate::machine::Machine;
@@ -12,7 +13,7 @@ impl<K: FarObject, V: FarObject> Machine<K, V> {
     pub fn buckets(&self) -> u32
         ensures is { result ≡ buckets_of self.now }
         ensures some { 0 < result }
-        ensures few { result ≤ 65536 }
+        ensures few { result ≤ most_buckets }
     {
         self.words.len() as u32
     }

@@ -5,12 +5,15 @@ ghost use Rattle.table_core.specs.declared.event.Event.{Event};
 ghost use Rattle.table_core.specs.declared.fault.Rule.{Rule};
 ghost use Rattle.table_core.specs.Machines.{buckets_of, StandsAt, GoesOn, Breaks, Stops};
 ghost use Rattle.table_core.specs.Lawful.{widest};
+ghost use Rattle.table_core.specs.Limits.{most_buckets};
 
-use crate::asked::Asked;
-use crate::event::{Event, Pairs};
+use crate::contents::copied;
+use crate::event::Event;
 use crate::fault::{CoreFault, Rule};
-use crate::machine::{LAST_PASS, Machine};
-use crate::pairs::copied;
+use crate::lent_operation::LentOperation;
+use crate::limits::LAST_PASS;
+use crate::machine::Machine;
+use crate::pairs::Pairs;
 use far_object::FarObject;
 use std::alloc::Global;
 
@@ -23,7 +26,7 @@ impl<K: FarObject, V: FarObject> Machine<K, V> {
         events: &[Event<K, V>],
     ) -> Result<Machine<K, V>, CoreFault>
         requires some { 0 < buckets }
-        requires few { buckets ≤ 65536 }
+        requires few { buckets ≤ most_buckets }
         ensures stands { IfOk result (λ m. StandsAt K.enc V.enc m events.now) }
         ensures buckets { IfOk result (λ m. buckets_of m ≡ buckets) }
         ensures refused { IfErr result (λ fault. Stops K.enc V.enc (widest buckets) events.now fault) }
@@ -47,7 +50,7 @@ impl<K: FarObject, V: FarObject> Machine<K, V> {
             Event::Enter(pass) => self.follow_entry(*pass),
             Event::Named(name, bucket, pairs) => self.follow_naming(alloc, *name, *bucket, pairs),
             Event::Done(pass, operation, word) => {
-                let bucket = self.judge_done(*pass, &Asked::of(operation), *word)?;
+                let bucket = self.judge_done(*pass, &LentOperation::of(operation), *word)?;
                 self.install(bucket, *word);
                 Ok(())
             }
@@ -72,7 +75,7 @@ impl<K: FarObject, V: FarObject> Machine<K, V> {
         Ok(())
     }
 
-    /// Goes on by the drawing of this name. The pairs are copied.
+    /// Goes on by the drawing of this name. The pairs are copied, once the naming is judged.
     fn follow_naming(
         &mut self,
         alloc: Global,

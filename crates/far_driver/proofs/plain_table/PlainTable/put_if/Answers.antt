@@ -1,6 +1,6 @@
 use Rattle.std.proofs.Common.{◌∙◌, refl}
 use Rattle.table_core.specs.declared.operation.Operation.TheVariants.{PutIf}
-use Rattle.table_core.specs.Changes.{lent_value}
+use Rattle.table_core.specs.Lent.{lent_value}
 use Rattle.far_driver.proofs.Going.{below, some_buckets, met_after, met_sets, unmet_after, no_set, checked, check_refused, vain_same, found_bucket, not_made, is_contents, not_long, install_refused, installed}
 use Rattle.far_driver.proofs.plain_table.PlainTable.put_if.Goals as goal
 

@@ -1,5 +1,6 @@
 use Rattle.std.proofs.Common.{ap, ◌∙◌}
-use Rattle.table_core.specs.Changes.{lent, standing_at}
+use Rattle.table_core.specs.Changes.{standing_at}
+use Rattle.table_core.specs.Lent.{lent}
 use Rattle.table_core.specs.Maps.{value_at}
 use Rattle.table_core.proofs.Standing.{done}
 use Rattle.table_core.proofs.machine.Machine.done.Goals as goal

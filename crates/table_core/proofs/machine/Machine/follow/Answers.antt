@@ -1,4 +1,4 @@
-use Rattle.table_core.specs.Changes.{lent}
+use Rattle.table_core.specs.Lent.{lent}
 use Rattle.table_core.proofs.Standing.{followed, followed_move}
 use Rattle.table_core.proofs.machine.Machine.follow.Goals as goal
 

@@ -2,7 +2,7 @@ use Rattle.std.proofs.Common.{◌≡◌, ◌<◌, ◌≤◌, ℕ, Option, Some, 
 use Rattle.std.specs.Option.{option_map}
 use Rattle.std.proofs.lemmas.Result.{err_from_is_err_and}
 use Rattle.far_object.specs.Buckets.{bucket}
-use Rattle.table_core.specs.Changes.{lent}
+use Rattle.table_core.specs.Lent.{lent}
 use Rattle.table_core.specs.Logs.{passes_of}
 use Rattle.table_core.specs.Maps.{key_of}
 use Rattle.table_core.specs.Lawful.{MayFollow, widest}

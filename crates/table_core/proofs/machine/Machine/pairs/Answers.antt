@@ -8,7 +8,7 @@ use Rattle.table_core.specs.Machines.{buckets_of}
 use Rattle.table_core.specs.Maps.{map_of}
 use Rattle.table_core.proofs.Gathering.{gathered_is}
 use Rattle.table_core.proofs.Keys.{rising}
-use Rattle.table_core.proofs.Maps.{total}
+use Rattle.far_object.proofs.Rising.{total}
 use Rattle.table_core.proofs.Standing.{gathers_there}
 use Rattle.table_core.proofs.machine.Machine.pairs.Goals as goal
 

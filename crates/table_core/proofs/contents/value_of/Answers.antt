@@ -1,7 +1,7 @@
 use Rattle.std.proofs.Common.{ap, sym, ◌∙◌}
 use Rattle.std.specs.Prelude.{Some}
 use Rattle.table_core.proofs.Places.{gap_at, here_at}
-use Rattle.table_core.proofs.pairs.value_of.Goals as goal
+use Rattle.table_core.proofs.contents.value_of.Goals as goal
 
 pub returns-in-Gap : goal.returns-in-Gap
 returns-in-Gap g c = λ so.

@@ -1,6 +1,6 @@
 use Rattle.std.proofs.Common.{sym, ◌∙◌}
 use Rattle.table_core.proofs.Changing.{left_by_new, left_by_same, left_by_none, left_by_cut}
-use Rattle.table_core.proofs.pairs.is_left.Goals as goal
+use Rattle.table_core.proofs.contents.is_left.Goals as goal
 
 pub returns-in-Gap : goal.returns-in-Gap
 returns-in-Gap g c = λ so. left_by_new g.K.FarObject.enc c.args.pairs.now c.args.effect.now c.in-Puts.key c.in-Gap.field-0 c.in-Puts.value c.in-Puts.is (sym c.find.ensures.place ∙ c.in-Gap.is)

@@ -1,6 +1,6 @@
 use Rattle.std.proofs.Common.{sym, ◌∙◌}
 use Rattle.table_core.proofs.Changing.{put_in_gap, put_here, cut_in_gap, cut_here}
-use Rattle.table_core.proofs.pairs.is_changed.Goals as goal
+use Rattle.table_core.proofs.contents.is_changed.Goals as goal
 
 pub returns-in-Gap : goal.returns-in-Gap
 returns-in-Gap g c = λ so.

@@ -1,8 +1,8 @@
 use Rattle.std.proofs.Common.{◌≡◌, length, refl, ap, sym, ◌∙◌, arith}
 use Rattle.std.specs.declared.cmp.Ordering.TheVariants.{Less, Equal, Greater}
-use Rattle.table_core.specs.declared.pairs.Place.TheVariants.{Gap}
+use Rattle.table_core.specs.declared.contents.Place.TheVariants.{Gap}
 use Rattle.table_core.proofs.Places.{from_step, from_end}
-use Rattle.table_core.proofs.pairs.find.Goals as goal
+use Rattle.table_core.proofs.contents.find.Goals as goal
 
 pub loop-at-init : goal.loop-at-init
 loop-at-init g c = refl

@@ -1,8 +1,8 @@
 use Rattle.std.proofs.Common.{refl}
-use Rattle.table_core.specs.Changes.{lent_value}
+use Rattle.table_core.specs.Lent.{lent_value}
 use Rattle.table_core.proofs.Belonging.{belong_more, belong_apart, belong_low, belong_all}
-use Rattle.table_core.proofs.pairs.belong.Goals as goal
-use Rattle.table_core.proofs.pairs.belong.Goals.{then-bucket_of-bucket-via-then-bucket_of-bucket, then-bucket_of-bucket-via-else-bucket_of-bucket+then-not-is_above}
+use Rattle.table_core.proofs.contents.belong.Goals as goal
+use Rattle.table_core.proofs.contents.belong.Goals.{then-bucket_of-bucket-via-then-bucket_of-bucket, then-bucket_of-bucket-via-else-bucket_of-bucket+then-not-is_above}
 
 pub loop-pair-init : goal.loop-pair-init
 loop-pair-init g c = refl

@@ -1,5 +1,5 @@
 use Rattle.std.proofs.Common.{◌≡◌, take}
-use Rattle.table_core.proofs.pairs.are_same.Given as goal
+use Rattle.table_core.proofs.contents.are_same.Given as goal
 
 abbrev pub invariant-loop-at : goal.invariant-loop-at
 invariant-loop-at g l = take l.at l.one ≡ take l.at l.other

@@ -1,5 +1,5 @@
 use Rattle.table_core.proofs.Comparing.{same_is}
-use Rattle.table_core.proofs.pairs.is_same.Goals as goal
+use Rattle.table_core.proofs.contents.is_same.Goals as goal
 
 pub returns : goal.returns
 returns g c =

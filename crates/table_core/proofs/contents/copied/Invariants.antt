@@ -1,5 +1,5 @@
 use Rattle.std.proofs.Common.{◌≡◌, take}
-use Rattle.table_core.proofs.pairs.copied.Given as goal
+use Rattle.table_core.proofs.contents.copied.Given as goal
 
 abbrev pub invariant-loop-key : goal.invariant-loop-key
 invariant-loop-key g l = l.copies.items ≡ take l.key-index l.pairs

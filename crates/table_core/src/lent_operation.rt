@@ -4,15 +4,16 @@ ghost use Rattle.std.specs.Map.{keys_of};
 ghost use Rattle.std.specs.List.Sorted.{IsStrictlySortedBy};
 ghost use Rattle.far_object.specs.Buckets.{key_cmp};
 ghost use Rattle.table_core.specs.Maps.{after, key_of};
-ghost use Rattle.table_core.specs.Changes.{lent, with_effect};
+ghost use Rattle.table_core.specs.Changes.{with_effect};
+ghost use Rattle.table_core.specs.Lent.{lent};
 
+use crate::contents::{is_expected, value_of};
 use crate::operation::Operation;
-use crate::pairs::{is_expected, value_of};
 use far_object::FarObject;
 
 /// An operation whose key and values are lent.
 #[derive(Drop)]
-pub enum Asked<'a, K, V> {
+pub enum LentOperation<'a, K, V> {
     Put(&'a K, &'a V),
     Get(&'a K),
     Remove(&'a K),
@@ -27,16 +28,20 @@ pub enum Effect<'a, K, V> {
     Leaves,
 }
 
-impl<'a, K: FarObject, V: FarObject> Asked<'a, K, V> {
+impl<'a, K: FarObject, V: FarObject> LentOperation<'a, K, V> {
     /// The operation that was kept.
-    pub fn of(operation: &'a Operation<K, V>) -> Asked<'a, K, V>
+    pub fn of(operation: &'a Operation<K, V>) -> LentOperation<'a, K, V>
         ensures { lent result ≡ operation.now }
     {
         match operation {
-            Operation::Put(key, value) => Asked::Put(key, value),
-            Operation::Get(key) => Asked::Get(key),
-            Operation::Remove(key) => Asked::Remove(key),
-            Operation::PutIf(key, expected, value) => Asked::PutIf(key, expected.as_ref(), value),
+            Operation::Put(key, value) => LentOperation::Put(key, value),
+            Operation::Get(key) => LentOperation::Get(key),
+            Operation::Remove(key) => LentOperation::Remove(key),
+            Operation::PutIf(key, expected, value) => LentOperation::PutIf(
+                key,
+                expected.as_ref(),
+                value,
+            ),
         }
     }
 
@@ -45,10 +50,10 @@ impl<'a, K: FarObject, V: FarObject> Asked<'a, K, V> {
         ensures { result.now ≡ key_of (lent self.now) }
     {
         match self {
-            Asked::Put(key, _) => key,
-            Asked::Get(key) => key,
-            Asked::Remove(key) => key,
-            Asked::PutIf(key, _, _) => key,
+            LentOperation::Put(key, _) => key,
+            LentOperation::Get(key) => key,
+            LentOperation::Remove(key) => key,
+            LentOperation::PutIf(key, _, _) => key,
         }
     }
 
@@ -57,10 +62,10 @@ impl<'a, K: FarObject, V: FarObject> Asked<'a, K, V> {
         ensures { IsStrictlySortedBy (key_cmp K.enc) (keys_of contents.now) → with_effect K.enc contents.now result ≡ after K.enc V.enc contents.now (lent self.now) }
     {
         match self {
-            Asked::Put(key, value) => Effect::Puts(key, value),
-            Asked::Get(_) => Effect::Leaves,
-            Asked::Remove(key) => Effect::Cuts(key),
-            Asked::PutIf(key, expected, value) => {
+            LentOperation::Put(key, value) => Effect::Puts(key, value),
+            LentOperation::Get(_) => Effect::Leaves,
+            LentOperation::Remove(key) => Effect::Cuts(key),
+            LentOperation::PutIf(key, expected, value) => {
                 if is_expected(*expected, value_of(contents, *key)) {
                     Effect::Puts(key, value)
                 } else {

@@ -1,6 +1,6 @@
 use Rattle.std.proofs.Common.{refl}
 use Rattle.table_core.proofs.Comparing.{same_more, same_all}
-use Rattle.table_core.proofs.pairs.are_same.Goals as goal
+use Rattle.table_core.proofs.contents.are_same.Goals as goal
 
 pub loop-at-init : goal.loop-at-init
 loop-at-init g c = refl
