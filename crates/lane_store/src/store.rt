@@ -17,6 +17,7 @@ use crossbeam_utils::CachePadded;
 use far_device::Device;
 use far_object::{FarObject, Format, Object};
 use std::alloc::Global;
+use std::marker::Model;
 use std::sync::{Mutex, Wait};
 use table_core::word::name_of;
 use version_words::{Name, Naming, Spare};
@@ -30,11 +31,21 @@ fn lane_of(name: u64, lanes: usize) -> usize
 }
 
 /// Lanes, each behind a lock of its own and alone on its cache lines. Every call takes `&self`, and threads share it. A
-/// call waits while another thread has the name's lane, which is the name's number modulo the count of lanes.
+/// call but `count` waits while another thread has the name's lane, which is the name's number modulo the count of lanes.
+/// Contracts see that count.
 #[derive(Drop)]
 pub struct LaneStore<K: FarObject, V: FarObject, J: Naming, D: Device> {
     lanes: Vec<CachePadded<Mutex<Lane<K, V, J, D>>>>,
-    ghost some: { 0 < vec_len lanes },
+}
+
+impl<K: FarObject, V: FarObject, J: Naming, D: Device> Model for LaneStore<K, V, J, D> {
+    ghost use Rattle.std.specs.Prelude.{ℕ, ◌<◌, vec_len};
+
+    ghost Value = { ℕ };
+
+    ghost view = { λ s. vec_len s.lanes };
+
+    ghost invariant = { λ s. 0 < vec_len s.lanes };
 }
 
 impl<K: FarObject, V: FarObject, J: Naming, D: Device> LaneStore<K, V, J, D> {
@@ -44,6 +55,7 @@ impl<K: FarObject, V: FarObject, J: Naming, D: Device> LaneStore<K, V, J, D> {
     pub fn open(alloc: Global, devices: Vec<D>) -> Result<LaneStore<K, V, J, D>, LaneFault>
         requires some { 0 < vec_len devices }
         requires most { vec_len devices ≤ 64 }
+        ensures count { IfOk result (λ lanes. lanes ≡ vec_len devices) }
     {
         let mut lanes = Vec::with_capacity(alloc, devices.len())?;
         for device in devices {
@@ -51,6 +63,14 @@ impl<K: FarObject, V: FarObject, J: Naming, D: Device> LaneStore<K, V, J, D> {
             lanes.push(CachePadded::new(Mutex::new(lane)))?;
         }
         Ok(LaneStore { lanes })
+    }
+
+    /// How many lanes there are: as many as devices were handed in.
+    pub fn count(&self) -> usize
+        ensures count { result ≡ self.now }
+        ensures some { 0 < result }
+    {
+        self.lanes.len()
     }
 
     fn lane(&self, name: u64) -> &Mutex<Lane<K, V, J, D>> {
