@@ -43,6 +43,14 @@ impl Bits {
         }
     }
 
+    /// Sets the bit where it is 0. A bit that is set costs one load, so that threads which set it again and again share its
+    /// cache line.
+    pub fn ensure(&self, number: u32) {
+        if self.load((number / WORD) as usize) & bit_of(number) == 0 {
+            self.set(number);
+        }
+    }
+
     /// The bits of the word of this number as they were. The number's own is 0 afterwards.
     pub fn clear(&self, number: u32) -> u64 {
         match self.words.get((number / WORD) as usize) {
@@ -83,7 +91,7 @@ impl Vacant {
     /// The frame is free.
     pub fn set(&self, frame: u32) {
         self.frames.set(frame);
-        self.words.set(frame / WORD);
+        self.words.ensure(frame / WORD);
     }
 
     /// The frame is taken.

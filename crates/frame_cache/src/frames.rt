@@ -1,17 +1,24 @@
 //! Frames: a bounded row of places for versions.
 //!
-//! # A frame is emptied for a spare alone
+//! # A version ends for its own spare
 //!
-//! `reclaim` takes a `Spare`: a word that its bucket never holds again. It compares the frame's version with the spare's
-//! name under a claim to read, leaves that, and claims the right to write where the word is still the one compared and
-//! nobody reads. `empty` then ends the version through `laws::retire`, which ends it exactly where it is the spare's.
+//! `reclaim` alone takes a version out of a frame, and takes a `Spare`: a word that its bucket never holds again. It
+//! compares the frame's version with the spare's name under a claim to read, leaves that, and claims the right to write
+//! where the word is still the one compared and nobody reads. That word has 32 bits of the name, so `empty` compares again
+//! what it took out: `laws::retire` ends it exactly where it is the spare's, and another version is put back.
+//!
+//! # A claim is of the frame that it names
+//!
+//! Each slot is made with the frame's number as its tag, which takes no room. A claim has its slot's tag, so that nobody
+//! can give out a frame under the number of another.
 //!
 //! # Hints
 //!
 //! Which frames are free is found by two layers of bits. Nothing is claimed of them: a call that finds no bit looks at
 //! each frame before it answers `NoFrame`.
-ghost use Rattle.std.specs.Prelude.{◌≡◌, ◌<◌, ◌≤◌, IfOk, IfErr, IfSome, vec_len};
+ghost use Rattle.std.specs.Prelude.{◌≡◌, ◌<◌, ◌≤◌, IfOk, IfErr, IfSome, IsTrue};
 ghost use Rattle.table_core.specs.BucketWords.{place_of, empty_place};
+ghost use Rattle.frame_cache.specs.Slots.{IsOfVersion};
 
 use crate::bits::{Bits, Vacant, WORD};
 use crate::fault::{Missed, NoFrame};
@@ -19,11 +26,12 @@ use crate::laws::retire;
 use crate::reserved::Reserved;
 use crate::scope::Scope;
 use crate::slot::{Slot, SlotClaim, read, reader_count, take, unread, word_of};
-use crate::version::Lodged;
+use crate::version::{Lodged, Version};
 use counted_slot::{Counted, FREE};
 use crossbeam_utils::CachePadded;
 use far_object::{FarObject, Memory};
 use std::alloc::Global;
+use std::marker::Model;
 use std::mem::forget;
 use std::sync::atomic::AtomicU32;
 use std::sync::atomic::Ordering::SeqCst;
@@ -34,26 +42,52 @@ use version_words::{Naming, Spare};
 /// remainder.
 const UPPER_WORDS: u32 = 17;
 
-/// A row of frames. Every call takes `&self`, and threads share it. Each frame lies alone on its cache lines.
+// The bucket and the name of the version that the claim shows.
+fn told<K: FarObject, V: FarObject, J: Naming>(
+    claim: &SlotClaim<'_, K, V, J>,
+) -> Option<(u32, u64)>
+    requires { claim.now.right ≡ 1 }
+    ensures bucket { IfSome result (λ found. found.0 < J.limits.buckets) }
+    ensures own { IfSome result (λ found. IsOfVersion K.enc V.enc J.limits found.0 found.1) }
+{
+    match claim.get() {
+        Some(lodged) => Some(lodged.version.naming()),
+        None => None,
+    }
+}
+
+/// A row of frames, whose numbers are those below their count. Every call takes `&self`, and threads share it. Each frame
+/// lies alone on its cache lines. Contracts see the count, which is the most versions that lie in frames at once.
 ///
-/// A frame number that is not below the count is that of an empty frame to every call.
+/// A number that is not below the count is that of an empty frame to every call.
 #[derive(Drop)]
 pub struct Frames<K: FarObject, V: FarObject, J: Naming> {
     slots: Vec<CachePadded<Slot<K, V, J>>>,
     vacant: Vacant,
     free: CachePadded<AtomicU32>,
     touched: Bits,
-    ghost most: { vec_len slots ≤ 65536 },
+}
+
+impl<K: FarObject, V: FarObject, J: Naming> Model for Frames<K, V, J> {
+    ghost use Rattle.std.specs.Prelude.{ℕ, ◌≤◌, vec_len};
+    ghost use Rattle.frame_cache.specs.Slots.{AreNumbered};
+
+    ghost Value = { ℕ };
+
+    ghost view = { λ f. vec_len f.slots };
+
+    ghost invariant = { λ f. (vec_len f.slots ≤ 65536) × AreNumbered f.slots.items };
 }
 
 impl<K: FarObject, V: FarObject, J: Naming> Frames<K, V, J> {
     /// So many empty frames. `Memory` comes where a growth is refused.
     pub fn open(alloc: Global, count: u32) -> Result<Frames<K, V, J>, Memory>
         requires few { count ≤ 65536 }
+        ensures count { IfOk result (λ frames. frames ≡ count) }
     {
         let mut slots = Vec::with_capacity(alloc, count as usize)?;
-        for _ in 0..count {
-            slots.push(CachePadded::new(Counted::new(None, &())))?;
+        for frame in 0..count {
+            slots.push(CachePadded::new(Counted::new(None, &frame)))?;
         }
         Ok(Frames {
             slots,
@@ -63,15 +97,26 @@ impl<K: FarObject, V: FarObject, J: Naming> Frames<K, V, J> {
         })
     }
 
-    fn slot(&self, frame: u32) -> Option<&Slot<K, V, J>>
-        ensures { IfSome result (λ _. frame < 65536) }
+    /// How many frames there are.
+    pub fn count(&self) -> u32
+        ensures { result ≡ self.now }
+    {
+        self.slots.len() as u32
+    }
+
+    pub(crate) fn slot(&self, frame: u32) -> Option<&Slot<K, V, J>>
+        ensures number { IfSome result (λ slot. slot.now ≡ frame) }
+        ensures here { IfSome result (λ _. frame < self.now) }
+        ensures few { self.now ≤ 65536 }
     {
         let padded = self.slots.get(frame as usize)?;
         Some(padded)
     }
 
     // The frame where it is free.
-    fn try_reserve(&self, frame: u32) -> Option<Reserved<'_, K, V, J>> {
+    fn try_reserve(&self, frame: u32) -> Option<Reserved<'_, K, V, J>>
+        ensures { IfSome result (λ reserved. reserved < self.now) }
+    {
         let slot = self.slot(frame)?;
         if slot.load() != FREE {
             return None;
@@ -89,6 +134,7 @@ impl<K: FarObject, V: FarObject, J: Naming> Frames<K, V, J> {
     // The first of the 64 frames from `64 * at` that is named as free, and is.
     fn reserve_in(&self, at: u32) -> Option<Reserved<'_, K, V, J>>
         requires { at < 65536 }
+        ensures { IfSome result (λ reserved. reserved < self.now) }
     {
         let mut bits = self.vacant.frames(at as usize);
         for _ in 0..WORD {
@@ -107,6 +153,7 @@ impl<K: FarObject, V: FarObject, J: Naming> Frames<K, V, J> {
     // The first frame of those that the 64 words from `64 * at` name.
     fn reserve_below(&self, at: u32) -> Option<Reserved<'_, K, V, J>>
         requires { at < 1000 }
+        ensures { IfSome result (λ reserved. reserved < self.now) }
     {
         let mut bits = self.vacant.words(at as usize);
         for _ in 0..WORD {
@@ -121,9 +168,13 @@ impl<K: FarObject, V: FarObject, J: Naming> Frames<K, V, J> {
         None
     }
 
-    /// A free frame for this call alone: the first that the hints name, which is the first free one at rest. `NoFrame` is
-    /// answered behind a look at each frame. No clause says either.
-    pub fn reserve(&self) -> Result<Reserved<'_, K, V, J>, NoFrame> {
+    /// A free frame for this call alone: the first that the hints name and that is free, which is the first free one at
+    /// rest. `NoFrame` comes after a look at each frame in turn, none of which was free when it was looked at, or was gone
+    /// before it was claimed; a frame that the hints named was looked at twice then. No clause says which frame comes, nor
+    /// when `NoFrame` does.
+    pub fn reserve(&self) -> Result<Reserved<'_, K, V, J>, NoFrame>
+        ensures here { IfOk result (λ reserved. reserved < self.now) }
+    {
         for at in 0..UPPER_WORDS {
             if let Some(reserved) = self.reserve_below(at) {
                 return Ok(reserved);
@@ -144,9 +195,10 @@ impl<K: FarObject, V: FarObject, J: Naming> Frames<K, V, J> {
     }
 
     /// A scope on the version of this name. `Missed` comes where the frame has no version, one of another name, or is
-    /// being filled or emptied.
+    /// being filled or emptied, or has as many readers as can be counted. No clause says when it comes.
     pub fn enter(&self, frame: u32, name: u64) -> Result<Scope<'_, K, V, J>, Missed>
         ensures name { IfOk result (λ s. s.name ≡ name) }
+        ensures here { IfOk result (λ _. frame < self.now) }
     {
         let slot = self.slot(frame).ok_or(Missed)?;
         match read(slot, Some(name)) {
@@ -155,22 +207,25 @@ impl<K: FarObject, V: FarObject, J: Naming> Frames<K, V, J> {
         }
     }
 
-    /// The bucket and the name of what lies there.
-    pub fn seen(&self, frame: u32) -> Option<(u32, u64)> {
+    /// The bucket and the name of what lay there at a moment of the call. None where nothing did, and where `enter` would
+    /// miss it for its readers or since it was being filled or emptied. No clause says when none comes.
+    pub fn seen(&self, frame: u32) -> Option<(u32, u64)>
+        ensures bucket { IfSome result (λ found. found.0 < J.limits.buckets) }
+        ensures own { IfSome result (λ found. IsOfVersion K.enc V.enc J.limits found.0 found.1) }
+        ensures here { IfSome result (λ _. frame < self.now) }
+    {
         let claim = read(self.slot(frame)?, None)?;
-        let found = match claim.get() {
-            Some(lodged) => Some((lodged.version.bucket(), lodged.version.name())),
-            None => None,
-        };
+        let found = told(&claim);
         claim.leave();
         found
     }
 
     /// Empties the frame of the spare's word where the spare's version lies there. False where another version or none
-    /// does. The spare comes back while a reader is in.
+    /// does, or where `enter` would miss it. The spare comes back while a reader is in.
     pub fn reclaim(&self, spare: Spare<K, V, J>) -> Result<bool, Spare<K, V, J>>
         requires frame { place_of spare.word < empty_place }
         ensures back { IfErr result (λ s. s ≡ spare) }
+        ensures here { IfOk result (λ emptied. IsTrue emptied → place_of spare.word < self.now) }
     {
         let frame = place_of(spare.word());
         let name = name_of(spare.word());
@@ -197,10 +252,15 @@ impl<K: FarObject, V: FarObject, J: Naming> Frames<K, V, J> {
         }
     }
 
-    // Takes out what lies there, and ends it where it is the spare's. Another version is put back by a claim of its own,
-    // or stays in memory for good where that is lost: it is never dropped.
-    fn empty(&self, claim: SlotClaim<'_, K, V, J>, spare: Spare<K, V, J>, frame: u32) -> bool
-        requires { claim.right ≡ 2 }
+    // Takes out what lies there, and ends it where it is the spare's. Else it is put back.
+    pub(crate) fn empty(
+        &self,
+        claim: SlotClaim<'_, K, V, J>,
+        spare: Spare<K, V, J>,
+        frame: u32,
+    ) -> bool
+        requires writes { claim.right ≡ 2 }
+        requires number { claim.tag ≡ frame }
     {
         let found = claim.put(None, FREE);
         self.vacate(frame);
@@ -210,14 +270,20 @@ impl<K: FarObject, V: FarObject, J: Naming> Frames<K, V, J> {
         match retire(lodged.into_version(), &spare) {
             Ok(()) => true,
             Err(other) => {
-                match self.try_reserve(frame) {
-                    Some(reserved) => {
-                        reserved.fill(other);
-                    }
-                    None => forget(Lodged { version: other }),
-                }
+                self.put_back(other, frame);
                 false
             }
+        }
+    }
+
+    // Puts the version where it lay. Where another call has the frame by now the version stays in memory for good: it is
+    // never dropped, since its bucket may still name it.
+    pub(crate) fn put_back(&self, version: Version<K, V, J>, frame: u32) {
+        match self.try_reserve(frame) {
+            Some(reserved) => {
+                reserved.fill(version);
+            }
+            None => forget(Lodged { version }),
         }
     }
 
@@ -229,7 +295,7 @@ impl<K: FarObject, V: FarObject, J: Naming> Frames<K, V, J> {
     /// Says that the frame was read. Nothing is claimed of it.
     pub fn touch(&self, frame: u32) {
         if (frame as usize) < self.slots.len() {
-            self.touched.set(frame);
+            self.touched.ensure(frame);
         }
     }
 

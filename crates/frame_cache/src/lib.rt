@@ -1,4 +1,5 @@
-//! Frames in which versions lie, and scopes that keep one in its place while it is read. No call waits.
+//! Frames in which versions lie, and scopes that keep one in its place while it is read. No call takes a lock; a claim to
+//! read is tried again while other threads change the frame's word.
 #![tactic(auto)]
 
 mod bits;

@@ -11,12 +11,13 @@ use std::mem::forget;
 use version_words::Naming;
 
 /// A free frame that no other call gets. It has to be spent, in its own thread, by `fill` or by `cancel`. Contracts see its
-/// number.
+/// number, which is that of the slot it claims.
 pub struct Reserved<'a, K: FarObject, V: FarObject, J: Naming> {
     pub(crate) frames: &'a Frames<K, V, J>,
     pub(crate) claim: SlotClaim<'a, K, V, J>,
     pub(crate) frame: u32,
     ghost writes: { claim.right ≡ 2 },
+    ghost number: { claim.tag ≡ frame },
     ghost below: { frame < 65536 },
 }
 

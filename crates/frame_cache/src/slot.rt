@@ -1,6 +1,6 @@
 //! One frame: a counted slot with a version in it, or none.
 //!
-//! The word of a free frame is 0. That of a filled one has the last 32 bits of the name in its high half and the number
+//! The slot's tag is the frame's number. The word of a free frame is 0. That of a filled one has the last 32 bits of the name in its high half and the number
 //! of readers in its low half, so that a claim to write meets the very version that was compared before, unread.
 ghost use Rattle.std.specs.Prelude.{◌≡◌, ◌/◌, ◌%◌, ◌^◌, ◌<◌, IfOk, IfSome};
 ghost use Rattle.counted_slot.specs.Counting.{readers};
@@ -11,7 +11,8 @@ use far_object::FarObject;
 use version_words::Naming;
 
 impl<K: FarObject, V: FarObject, J: Naming> Fits for Lodged<K, V, J> {
-    type Tag = ();
+    // The frame's number.
+    type Tag = u32;
 
     ghost fits = { λ _ _. Unit {0} };
 }
@@ -49,7 +50,8 @@ pub fn take<K: FarObject, V: FarObject, J: Naming>(
     seen: u64,
 ) -> Result<SlotClaim<'_, K, V, J>, u64>
     requires { (seen % 4 < 3) × (readers seen ≡ 0) }
-    ensures { IfOk result (λ c. c.right ≡ 2) }
+    ensures right { IfOk result (λ c. c.right ≡ 2) }
+    ensures tag { IfOk result (λ c. c.tag ≡ slot.now) }
 {
     let (found, claim) = slot.turn(seen, seen - seen % 4 + TAKEN);
     if found == seen {
@@ -59,7 +61,8 @@ pub fn take<K: FarObject, V: FarObject, J: Naming>(
     Err(found)
 }
 
-/// The right to read a version, whose name may be the one given, if one is: the word says so by its last 32 bits.
+/// The right to read a version, whose name may be the one given, if one is: the word says so by its last 32 bits. It is
+/// tried again where another thread changed the word meanwhile: each such change is a step of that thread.
 pub fn read<K: FarObject, V: FarObject, J: Naming>(
     slot: &Slot<K, V, J>,
     name: Option<u64>,

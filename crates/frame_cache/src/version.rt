@@ -1,7 +1,8 @@
 //! The contents of a bucket under one name.
-ghost use Rattle.std.specs.Prelude.{◌≡◌};
+ghost use Rattle.std.specs.Prelude.{◌≡◌, ◌<◌};
 ghost use Rattle.table_core.specs.Logs.{contents};
 ghost use Rattle.version_words.specs.Shown.{shown, IsOwn};
+ghost use Rattle.frame_cache.specs.Slots.{IsOfVersion};
 
 use far_object::{FarObject, Object};
 use std::marker::Model;
@@ -62,6 +63,14 @@ impl<K: FarObject, V: FarObject, J: Naming> Version<K, V, J> {
         ensures { result ≡ self.now.name }
     {
         self.name
+    }
+
+    // The bucket and the name: of which naming this is the object.
+    pub(crate) fn naming(&self) -> (u32, u64)
+        ensures bucket { result.0 < J.limits.buckets }
+        ensures own { IsOfVersion K.enc V.enc J.limits result.0 result.1 }
+    {
+        (self.bucket, self.name)
     }
 
     /// The mark of the log in which the name was drawn.
