@@ -1,5 +1,5 @@
 -- A run of one file's commands on the map of one thread, and what it writes.
-use Rattle.std.specs.Prelude.{◌≡◌, ℕ, ◌<◌, Bool, true, false, IsTrue, List, [], ◌∷◌, ◌++◌, length, map, codes, Option, Some, None, ◌⊎◌, ⊤}
+use Rattle.std.specs.Prelude.{◌≡◌, ℕ, ◌<◌, Bool, true, false, IsTrue, List, [], ◌∷◌, ◌++◌, length, map, codes, Option, Some, None, IfSome, Result, Err, ◌⊎◌, ⊤}
 use Rattle.std.specs.Io.KnownBytes.{Keeps}
 use Rattle.far_object.specs.Encodings.{enc_text}
 use Rattle.far_object.specs.Buckets.{bucket}
@@ -18,7 +18,6 @@ use Rattle.far_driver.specs.declared.fault.Refusal.{Refusal}
 use Rattle.far_driver.specs.declared.fault.Refusal.TheVariants as refusal
 use Rattle.far_driver.specs.declared.fault.RunFault.{RunFault}
 use Rattle.far_driver.specs.declared.fault.RunFault.TheVariants as fault
-use Rattle.far_driver.specs.Configs.{first_bad}
 
 -- texts are lists of bytes
 abbrev pub Texts : Type 0
@@ -105,15 +104,18 @@ pub record Ran (config : Config) (bytes text : List ℕ) : Type 0 where
 
 -- ---- why a run ends early
 
--- the fault fits the settings and the file's bytes
-abbrev pub IsFaultOf : Config → List ℕ → RunFault → Type 0
-IsFaultOf c bytes (fault.BadConfig n) = first_bad c ≡ Some n
-IsFaultOf c bytes (fault.BadLine file line) = (first_bad c ≡ None) × (file ≡ 1) × IsBadLine (lines_of bytes) line
-IsFaultOf c bytes (fault.TooManyLines file) = (first_bad c ≡ None) × (file ≡ 1) × IsTooMany (lines_of bytes)
-IsFaultOf c bytes (fault.Read file) = (first_bad c ≡ None) × (file ≡ 1)
-IsFaultOf c bytes fault.Memory = first_bad c ≡ None
-IsFaultOf c bytes fault.Write = first_bad c ≡ None
-IsFaultOf c bytes (fault.Contents r) = (first_bad c ≡ None) × (r ≡ refusal.Memory)
+-- the field of the settings that a run names as outside its limits
+abbrev pub told_field : Result (Unit {0}) RunFault → Option ℕ
+told_field (Err (fault.BadConfig n)) = Some n
+told_field _ = None
+
+-- the fault names the one file, and fits its bytes where they are known
+abbrev pub IsFaultOf : Option (List ℕ) → RunFault → Type 0
+IsFaultOf known (fault.BadLine file line) = (file ≡ 1) × IfSome known (λ bytes. IsBadLine (lines_of bytes) line)
+IsFaultOf known (fault.TooManyLines file) = (file ≡ 1) × IfSome known (λ bytes. IsTooMany (lines_of bytes))
+IsFaultOf known (fault.Read file) = file ≡ 1
+IsFaultOf known (fault.Contents r) = r ≡ refusal.Memory
+IsFaultOf known _ = ⊤
 
 -- the fault of a run for that of a file
 abbrev pub file_fault : ℕ → FileFault → RunFault

@@ -9,7 +9,7 @@ pub mod reference;
 
 pub use config::Config;
 pub use fault::{Refusal, RunFault};
-pub use program::{ProgramFault, run_program};
+pub use program::{ProgramFault, read_words, run_program};
 
 #[cfg(test)]
 mod tests;

@@ -1,15 +1,17 @@
 //! The program `fartable BUCKETS FRAMES LIMIT FILE`: its arguments, the opening of its file, its texts and statuses.
-ghost use Rattle.std.specs.Prelude.{◌≡◌, ◌≤◌};
+ghost use Rattle.std.specs.Prelude.{◌≡◌, ◌≤◌, false, map, is_some, string_bytes, Err, IfErr};
 ghost use Rattle.std.specs.List.{list_all};
-ghost use Rattle.far_driver.specs.Programs.{is_digit, number_of, run_status, status_of};
+ghost use Rattle.far_driver.specs.Programs.{is_digit, number_of, are_arguments, status_of, IsOfWords};
 
 use crate::config::Config;
 use crate::fault::RunFault;
 use crate::reference::run_file;
 use far_object::Memory;
 use std::alloc::Global;
+use std::env;
+use std::env::Env;
 use std::fs::File;
-use std::io::{BufRead, BufReader, Read, Write};
+use std::io::{BufReader, ErrorKind, Read, Write};
 use std::rt::Files;
 use thiserror::Error;
 
@@ -42,24 +44,47 @@ impl From<Memory> for ProgramFault {
     }
 }
 
-/// The status that the program ends with: 2 for wrong arguments, settings and command files, and 1 for what the system
-/// refused.
-fn status(fault: ProgramFault) -> u8
-    ensures { result ≡ status_of fault }
-{
-    match fault {
-        ProgramFault::Usage => 2,
-        ProgramFault::CannotOpen(_) => 1,
-        ProgramFault::Run(fault) => match fault {
-            RunFault::BadConfig(_) => 2,
-            RunFault::BadLine(_, _) => 2,
-            RunFault::TooManyLines(_) => 2,
-            RunFault::Read(_) => 1,
-            RunFault::Memory => 1,
-            RunFault::Write => 1,
-            RunFault::Contents(_) => 1,
-        },
+impl ProgramFault {
+    /// The status that the program ends with: 2 for wrong arguments, settings and command files, and 1 for what the
+    /// system refused.
+    pub fn status(self) -> u8
+        ensures { result ≡ status_of self }
+    {
+        match self {
+            ProgramFault::Usage => 2,
+            ProgramFault::CannotOpen(_) => 1,
+            ProgramFault::Run(fault) => match fault {
+                RunFault::BadConfig(_) => 2,
+                RunFault::BadLine(_, _) => 2,
+                RunFault::TooManyLines(_) => 2,
+                RunFault::Read(_) => 1,
+                RunFault::Memory => 1,
+                RunFault::Write => 1,
+                RunFault::Contents(_) => 1,
+            },
+        }
     }
+}
+
+/// The words behind the program's name.
+///
+/// `Usage` comes where a word, or the program's name, is no UTF-8 text: a path is text here. Want of memory is
+/// `RunFault::Memory`.
+pub fn read_words<R: Env + AllocGlobal>(rt: &R) -> Result<Vec<String>, ProgramFault>
+    ensures fault { IfErr result IsOfWords }
+{
+    let all = match env::args(rt) {
+        Ok(all) => all,
+        Err(fault) if fault.kind() == ErrorKind::InvalidData => return Err(ProgramFault::Usage),
+        Err(_) => return Err(ProgramFault::Run(RunFault::Memory)),
+    };
+    let mut words = Vec::new(rt.alloc());
+    for word in all.skip(1) {
+        if words.push(word).is_err() {
+            return Err(ProgramFault::Run(RunFault::Memory));
+        }
+    }
+    Ok(words)
 }
 
 /// Whether each byte is a decimal digit.
@@ -90,7 +115,9 @@ struct Arguments<'a> {
 }
 
 /// The arguments: three numbers and one file.
-fn read_arguments(words: &[String]) -> Option<Arguments<'_>> {
+fn read_arguments(words: &[String]) -> Option<Arguments<'_>>
+    ensures { is_some result ≡ are_arguments (map string_bytes words.now) }
+{
     match words {
         [buckets, frames, limit, file] => Some(Arguments {
             config: settings(
@@ -138,6 +165,7 @@ fn run_words<R, W>(rt: &R, words: &[String], out: &mut W) -> Result<(), ProgramF
 where
     R: Files + Input + AllocGlobal,
     W: Write,
+    ensures usage { are_arguments (map string_bytes words.now) ≡ false → (result ≡ Err ProgramFault.Usage) × (out.new ≡ out.old) }
 {
     let Some(arguments) = read_arguments(words) else {
         return Err(ProgramFault::Usage);
@@ -161,13 +189,14 @@ where
     R: Files + Input + AllocGlobal,
     W: Write,
     E: Write,
-    ensures { result ≤ 2 }
+    ensures status { result ≤ 2 }
+    ensures usage { are_arguments (map string_bytes words.now) ≡ false → (result ≡ 2) × (out.new ≡ out.old) }
 {
     match run_words(rt, words, out) {
         Ok(()) => 0,
         Err(fault) => {
             let _ = writeln!(err, "{fault}");
-            status(fault)
+            fault.status()
         }
     }
 }

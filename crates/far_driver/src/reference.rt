@@ -15,13 +15,12 @@ ghost use Rattle.std.specs.Prelude.{
   IfErr,
   IfSome,
   OnOk,
-  None,
 };
 ghost use Rattle.std.specs.Io.KnownBytes.{Appends};
 ghost use Rattle.far_object.specs.Encodings.{enc_text};
 ghost use Rattle.table_core.specs.Maps.{map_of};
 ghost use Rattle.table_core.specs.Logs.{history, names_of};
-ghost use Rattle.far_driver.specs.Runs.{written, pair_line, Ran, IsFaultOf, IsOfWriting, KeepsBefore, file_fault};
+ghost use Rattle.far_driver.specs.Runs.{written, pair_line, Ran, told_field, IsFaultOf, IsOfWriting, KeepsBefore, file_fault};
 ghost use Rattle.far_driver.specs.Configs.{first_bad};
 ghost use Rattle.far_driver.specs.Tables.{Log, IsAt, line_of, RunsTo};
 
@@ -167,8 +166,8 @@ pub fn run_file<R: BufRead, W: Write>(
     out: &mut W,
 ) -> Result<(), RunFault>
     ensures ran { OnOk result (IfSome (R.remaining file.old) (λ bytes. (text : List ℕ) × Ran config.now bytes text × Appends (W.contents out.old) (W.contents out.new) text)) }
-    ensures config { OnOk result (first_bad config.now ≡ None) }
-    ensures fault { IfErr result (λ fault. IfSome (R.remaining file.old) (λ bytes. IsFaultOf config.now bytes fault)) }
+    ensures settings { told_field result ≡ first_bad config.now }
+    ensures fault { IfErr result (IsFaultOf (R.remaining file.old)) }
     ensures before { IfErr result (λ fault. KeepsBefore (W.contents out.old) (W.contents out.new) fault) }
 {
     if let Some(field) = config.first_bad() {

@@ -1,7 +1,7 @@
 //! The program's words, the texts of its faults, and its statuses.
 use super::inputs::FailingWriter;
-use super::runtime::InputAlone;
-use crate::program::run_program;
+use super::runtime::{InputAlone, WordsAlone};
+use crate::program::{ProgramFault, read_words, run_program};
 use std::alloc::{AllocError, Global};
 use std::fs;
 use std::process::Abort;
@@ -55,6 +55,45 @@ fn wrong_words(rt: HostRuntime) -> Result<(), Fail> {
         assert_ends(&rt, &rt, words, 2, "", usage)?;
     }
     Ok(())
+}
+
+/// Reads the words of a process that has these arguments, and checks them.
+fn assert_words(
+    rt: &impl Abort,
+    alloc: Global,
+    words: &[&[u8]],
+    wanted: &[&str],
+) -> Result<(), Fail> {
+    let read = read_words(&WordsAlone { alloc, words })?;
+    let wanted = owned_words(alloc, wanted)?;
+    assert!(rt; read == wanted);
+    Ok(())
+}
+
+#[test]
+fn words_of_the_process(rt: HostRuntime) -> Result<(), Fail> {
+    assert_words(&rt, rt.alloc(), &[], &[])?;
+    assert_words(&rt, rt.alloc(), &[b"fartable"], &[])?;
+    let words: [&[u8]; 4] = [b"fartable", b"4", b"", b"-"];
+    assert_words(&rt, rt.alloc(), &words, &["4", "", "-"])
+}
+
+#[test]
+fn words_that_are_no_text(rt: HostRuntime) {
+    let rows: [&[&[u8]]; 3] = [
+        &[b"fartable", b"4", b"2", b"4096", b"\xff"],
+        &[b"fartable", b"\xc3", b"2", b"4096", b"-"],
+        &[b"far\x80table", b"4", b"2", b"4096", b"-"],
+    ];
+    for words in rows {
+        let alone = WordsAlone {
+            alloc: rt.alloc(),
+            words,
+        };
+        let fault = read_words(&alone).err();
+        assert_eq!(&rt; fault, Some(ProgramFault::Usage));
+        assert_eq!(&rt; fault.map_or(0, |fault| fault.status()), 2);
+    }
 }
 
 #[test]

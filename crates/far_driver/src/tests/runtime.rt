@@ -1,6 +1,7 @@
-//! A runtime without files, whose standard input is in memory and may fail.
+//! Runtimes for tests: one without files, whose standard input is in memory and may fail; and one that has arguments alone.
 use super::inputs::Faltering;
 use std::alloc::{Alloc, Allocator, Global};
+use std::env::{Env, FillError};
 use std::fs::{File, Metadata, OpenOptions};
 use std::io;
 use std::io::{BufRead, ErrorKind, Lines};
@@ -85,5 +86,37 @@ impl Files for InputAlone {
 
     fn remove_dir_all<B: Allocator>(&self, _alloc: B, _path: &str) -> io::Result<()> {
         Err(unsupported())
+    }
+}
+
+/// The arguments of the process, the program's name first, and no variables.
+#[derive(Clone, Copy)]
+pub struct WordsAlone<'a> {
+    pub alloc: Global,
+    pub words: &'a [&'a [u8]],
+}
+
+impl Alloc for WordsAlone<'_> {
+    type A = Global;
+
+    fn alloc(&self) -> Global {
+        self.alloc
+    }
+}
+
+impl Env for WordsAlone<'_> {
+    fn arg(&self, i: usize, buf: &mut [u8]) -> Result<usize, FillError> {
+        let word = self.words.get(i).ok_or(FillError::NotPresent)?;
+        let room = buf.get_mut(..word.len()).ok_or(FillError::TooLong)?;
+        room.copy_from_slice(word);
+        Ok(word.len())
+    }
+
+    fn var(&self, _name: &str, _buf: &mut [u8]) -> Result<usize, FillError> {
+        Err(FillError::NotPresent)
+    }
+
+    fn var_at(&self, _i: usize, _buf: &mut [u8]) -> Result<usize, FillError> {
+        Err(FillError::NotPresent)
     }
 }
