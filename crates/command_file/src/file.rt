@@ -22,8 +22,9 @@ const MOST_LINES: u32 = 65_536;
 /// whether there is one more byte. Where the reader then stands is said for `Ok` alone. Of a line it
 /// keeps at most 1,025 bytes, whatever the reader gives, in one buffer for all lines.
 ///
-/// `FileFault::Read` comes only where a read of the reader failed, other than by an interruption, after
-/// which it is tried again; `FileFault::Memory` only where a growth was refused.
+/// `FileFault::Read` is answered where a read of the reader fails, other than by an interruption, after
+/// which it is tried again; `FileFault::Memory` where a growth is refused. No clause says that they come
+/// nowhere else.
 pub fn read_file<R: BufRead>(alloc: Global, file: &mut R) -> Result<Vec<Command>, FileFault>
     // Where the reader tells its bytes.
     ensures said { IfOk result (λ commands. IfSome (R.remaining file.old) (λ bytes. IsFile (lines_of bytes) commands.items)) }

@@ -14,8 +14,8 @@ pub(crate) const LONGEST_LINE: usize = 1024;
 
 /// The command that the line, given without its LF, says; `None` for the empty line.
 ///
-/// `LineFault::Bad` where the line is of no good form, and `LineFault::Memory` only where it is good
-/// and a growth was refused.
+/// `LineFault::Bad` comes only where the line is of no good form, and `LineFault::Memory` only where it
+/// is good; that a growth was refused there no clause can say.
 pub fn parse_line(alloc: Global, line: &[u8]) -> Result<Option<Command>, LineFault>
     ensures said { IfOk result (λ said. MatchOption said (line.now ≡ []) (λ command. Says line.now command)) }
     ensures fault { IfErr result (λ fault. IsLineFault line.now fault) }

@@ -156,9 +156,10 @@ fn fault_of(file: u32, fault: FileFault) -> RunFault
 /// Of the settings it obeys `buckets` and `limit`. A put whose object would be longer than the limit is replied
 /// `too long`, and a command that is refused a growth `memory`; either leaves the table as it was.
 ///
-/// The faults come in the order of the work: `BadConfig`; `BadLine`, `TooManyLines` and `Read` of the file; `Write` where
-/// a write or the last flush fails; `Contents` where there is no memory to put the pairs in order. `Memory` is any other
-/// growth that was refused: for the commands, the table, or a reply's line. Before the first write nothing is written.
+/// The faults come in the order of the work: `BadConfig`, whatever the reader; `BadLine`, `TooManyLines` and `Read` of the
+/// file; `Write` where a write or the last flush fails; `Contents` where there is no memory to put the pairs in order.
+/// `Memory` is any other growth that was refused: for the commands, the table, or a reply's line. No clause says when
+/// `Read`, `Memory`, `Write` and `Contents` come. Before the first write nothing is written.
 pub fn run_file<R: BufRead, W: Write>(
     alloc: Global,
     config: &Config,
