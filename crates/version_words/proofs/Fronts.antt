@@ -1,5 +1,5 @@
 -- Beginnings of one log, and what they have seen.
-use Rattle.std.proofs.Common.{◌≡◌, ℕ, ◌+◌, ◌<◌, ◌≤◌, ◌==◌, ltb, true, false, List, [], ◌∷◌, ◌++◌, Option, Some, None, refl, ap, sym, ◌∙◌, subst, arith, append_assoc}
+use Rattle.std.proofs.Common.{◌≡◌, ℕ, ◌+◌, ◌<◌, ◌≤◌, ◌==◌, ltb, true, false, List, [], ◌∷◌, ◌++◌, Option, Some, None, refl, ap, sym, ◌∙◌, subst, arith, append_assoc, inl, inr, ◌⊎◌}
 use Rattle.std.proofs.lemmas.Bool.Decides.{nat_tests}
 use Rattle.std.proofs.lemmas.List.{append-nil}
 use Rattle.std.specs.Option.{option_map}
@@ -22,6 +22,20 @@ prefix_trans xs ys zs p q = (p.0 ++ q.0, sym (append_assoc xs p.0 q.0) ∙ (ap (
 -- a log that begins with another begins with each beginning of it, also behind one event more
 pub prefix_last : {A : Type 0} (xs before ys : List A) (e : A) → IsPrefix xs before → ys ≡ before ++ e ∷ [] → IsPrefix xs ys
 prefix_last xs before ys e p is = prefix_trans xs before ys p (e ∷ [], sym is)
+
+-- of two beginnings of one list one begins the other
+pub one_begins : {A : Type 0} (xs ys zs : List A) → IsPrefix xs zs → IsPrefix ys zs → IsPrefix xs ys ⊎ IsPrefix ys xs
+one_begins [] ys zs p q = inl (ys, refl)
+one_begins (x ∷ xs) [] zs p q = inr (x ∷ xs, refl)
+one_begins (x ∷ xs) (y ∷ ys) [] p q = absurd (cc p.1)
+one_begins {A} (x ∷ xs) (y ∷ ys) (z ∷ zs) p q = longer (one_begins xs ys zs (p.0, (let e = p.1 in cc)) (q.0, (let e = q.1 in cc)))
+  where
+    heads : x ≡ y
+    heads = let e : x ∷ (xs ++ p.0) ≡ z ∷ zs = p.1 in let f : y ∷ (ys ++ q.0) ≡ z ∷ zs = q.1 in cc
+
+    longer : IsPrefix xs ys ⊎ IsPrefix ys xs → IsPrefix (x ∷ xs) (y ∷ ys) ⊎ IsPrefix (y ∷ ys) (x ∷ xs)
+    longer (inl r) = inl (r.0, let e = r.1 in cc heads)
+    longer (inr r) = inr (r.0, let e = r.1 in cc heads)
 
 module _ {K V : Type 0} where
   pub names_grow : (xs ys : List (Event K V)) → IsPrefix xs ys → names_of xs ≤ names_of ys

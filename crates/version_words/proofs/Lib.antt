@@ -18,3 +18,4 @@ pub mod Probing
 pub mod Opening
 pub mod Holding
 pub mod Gathering
+pub mod Histories

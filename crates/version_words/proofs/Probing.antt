@@ -1,5 +1,6 @@
 -- Changes and probes of a pass, told by what the pass and the name have seen.
-use Rattle.std.proofs.Common.{◌≡◌, ℕ, ◌<◌, ◌≤◌, ◌^◌, Bool, true, false, not, cond, List, [], ◌∷◌, Option, Some, None, refl, ap, sym, ◌∙◌, subst, arith, IsTrue}
+use Rattle.std.proofs.Common.{◌≡◌, ◌≢◌, ◌==◌, ℕ, ◌<◌, ◌≤◌, ◌^◌, Bool, true, false, not, cond, List, [], ◌∷◌, Option, Some, None, refl, ap, sym, ◌∙◌, subst, arith, IsTrue}
+use Rattle.std.proofs.lemmas.Bool.Decides.{nat_tests}
 use Rattle.std.specs.Map.{lookup}
 use Rattle.std.specs.List.{filter}
 use Rattle.std.specs.BTreeMap.{is_at}
@@ -17,13 +18,20 @@ use Rattle.table_core.specs.Lawful.{IsDrawn, IsLawful}
 use Rattle.table_core.proofs.Logs.{names_below, naming_kept}
 use Rattle.version_words.specs.declared.change.Probe.{Probe}
 use Rattle.version_words.specs.Rows.{CanAdd}
-use Rattle.version_words.specs.Views.{WasSeen, IsOfBucket, changed, probed, ChangesNothing, installing}
+use Rattle.version_words.specs.Views.{WasSeen, IsOfBucket, changed, probed, ChangesNothing, installing, has_object}
 use Rattle.version_words.proofs.Fronts.{passes_grow, lawful_prefix, seen_kept, seen_later}
 use Rattle.version_words.proofs.Gone.{name_of-pack}
 use Rattle.version_words.proofs.Writing.{IsPrepared, can_done, can_move, can_check}
 
 place_of-pack : (n p : ℕ) → p < 2 ^ 24 → place_of (pack n p) ≡ p
 place_of-pack n p lt = omega arith
+
+-- a name's word with a place below EMPTY has an object
+pub packed_object : (n p : ℕ) → 0 < n → p < empty_place → has_object (pack n p) ≡ true
+packed_object n p some small =
+    let one : (pack n p == 0) ≡ false = let other : pack n p ≢ 0 = omega arith in grind (arith, nat_tests) in
+    let two : (place_of (pack n p) == empty_place) ≡ false = let other : place_of (pack n p) ≢ empty_place = omega arith in grind (arith, nat_tests) in
+    rw (one, two) refl
 
 -- a removal of a key that isn't there
 cut_absent : {K X : Type 0} (test : K → Bool) (es : List (K × X)) → lookup test es ≡ None → filter (λ (e : K × X). not (test e.0)) es ≡ es
@@ -60,7 +68,7 @@ module _ {K V : Type 0} (ek : K → List ℕ) (ev : V → List ℕ) (l : Limits)
       → IsLawful ek ev l front → IsPrefix mine front → IsPrefix named front
       → b < l.buckets → IsOfBucket ek l.buckets b o → place < 2 ^ 24 → 0 < pass → pass ≤ passes_of mine
       → WasSeen ek l.buckets mine b old → IsDrawn named n b → name_of old < n
-      → (place ≡ empty_place → contents named n ≡ [])
+      → (IsTrue l.honest → place ≡ empty_place → contents named n ≡ [])
       → (IsTrue l.honest → contents named n ≡ changed ek ev (contents mine (name_of old)) o)
       → CanAdd ek ev l front b old (pack n place) (installing pass b (pack n place) o)
   can_change mine named front b old n place pass o lawful pre pre_name here key small first last seen drawn newer none same =
@@ -77,6 +85,6 @@ module _ {K V : Type 0} (ek : K → List ℕ) (ev : V → List ℕ) (l : Limits)
         drawn = subst (λ (x : ℕ). IsDrawn front x b) (sym n_is) (rw naming_is drawn);
         newer = omega (arith, n_is, newer);
         contents_are = refl;
-        none = λ e. contents_is ∙ none (sym p_is ∙ e);
+        none = λ honest e. contents_is ∙ none honest (sym p_is ∙ e);
       })
       (λ honest. contents_is ∙ (same honest ∙ ap (λ (es : List (K × V)). changed ek ev es o) (sym old_is)))

@@ -80,7 +80,7 @@ module _ {K V : Type 0} (ek : K → List ℕ) (ev : V → List ℕ) (l : Limits)
     pub drawn : IsDrawn front (name_of w) b
     pub newer : name_of old < name_of w
     pub contents_are : contents front (name_of w) ≡ es
-    pub none : place_of w ≡ empty_place → es ≡ []
+    pub none : IsTrue l.honest → place_of w ≡ empty_place → es ≡ []
 
   -- where the word is still the old one
   record IsReady (front log : List (Event K V)) (b old w : ℕ) : Type 0 where
@@ -129,7 +129,7 @@ module _ {K V : Type 0} (ek : K → List ℕ) (ev : V → List ℕ) (l : Limits)
           newer = subst Newer (sym key) r.newer;
           contents_kept = subst Kept (sym key) (λ honest. record {
             same = r.new_same ∙ (same honest ∙ ap (λ (es : List (K × V)). after ek ev es o) (sym r.old_same));
-            none = λ empty. ap (λ (es : List (K × V)). after ek ev es o) r.old_same ∙ (sym (same honest) ∙ p.none empty);
+            none = λ empty. ap (λ (es : List (K × V)). after ek ev es o) r.old_same ∙ (sym (same honest) ∙ p.none honest empty);
           });
         })
         (λ j within. ap (λ (x : ℕ). if x == j then w else word ek l.buckets log j) key ∙ ap (λ (q : Bool). if q then w else word ek l.buckets log j) (flip_eq b j))
@@ -156,7 +156,7 @@ module _ {K V : Type 0} (ek : K → List ℕ) (ev : V → List ℕ) (l : Limits)
             here,
             λ honest. record {
               same = r.new_same ∙ (same honest ∙ sym r.old_same);
-              none = λ empty. r.old_same ∙ (sym (same honest) ∙ p.none empty);
+              none = λ empty. r.old_same ∙ (sym (same honest) ∙ p.none honest empty);
             },
           );
         })

@@ -1,11 +1,13 @@
 -- What the faults of a row tell.
-use Rattle.std.specs.Prelude.{◌≡◌, ◌<◌, ℕ, List}
+use Rattle.std.specs.Prelude.{◌≡◌, ◌<◌, ⊤, ℕ, List}
 use Rattle.table_core.specs.declared.event.Event.{Event}
 use Rattle.table_core.specs.declared.limits.Limits.{Limits}
 use Rattle.table_core.specs.Logs.{names_of, passes_of}
 use Rattle.table_core.specs.Lawful.{IsLawful}
 use Rattle.version_words.specs.declared.fault.EnterFault.{EnterFault}
 use Rattle.version_words.specs.declared.fault.EnterFault.TheVariants as enter
+use Rattle.version_words.specs.declared.fault.GatherFault.{GatherFault}
+use Rattle.version_words.specs.declared.fault.GatherFault.TheVariants as gather
 use Rattle.version_words.specs.declared.fault.NameFault.{NameFault}
 use Rattle.version_words.specs.declared.fault.NameFault.TheVariants as name
 
@@ -14,6 +16,11 @@ module _ {K V J : Type 0} (ek : K → List ℕ) (ev : V → List ℕ) (l : Limit
   abbrev pub IsEnterFault : EnterFault K V J → Type 0
   IsEnterFault (enter.PassesSpent mark) = IsLawful ek ev l mark × (passes_of mark ≡ l.passes)
   IsEnterFault (enter.Moved mark) = IsLawful ek ev l mark × (0 < passes_of mark)
+
+  -- at the mark's front more passes were drawn than were handed in; of a refused growth nothing is said
+  abbrev pub IsGatherFault : ℕ → GatherFault K V J → Type 0
+  IsGatherFault count (gather.Missing mark) = IsLawful ek ev l mark × (count < passes_of mark)
+  IsGatherFault count gather.Memory = ⊤
 
 module _ {K V : Type 0} (l : Limits) where
   -- the last name was drawn, or the front has more names than what had been seen before the call

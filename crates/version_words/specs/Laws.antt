@@ -1,5 +1,5 @@
 -- Laws of lawful logs, which public functions state.
-use Rattle.std.specs.Prelude.{◌≡◌, ℕ, IsTrue, false, List, [], Option}
+use Rattle.std.specs.Prelude.{◌≡◌, ◌<◌, ℕ, IsTrue, false, List, [], Option, length, slice_index_or}
 use mathlib.Core.List.{IsPrefix}
 use Rattle.far_object.specs.Buckets.{bucket}
 use Rattle.table_core.specs.declared.event.Event.{Event}
@@ -8,9 +8,9 @@ use Rattle.table_core.specs.declared.operation.Operation.{Operation}
 use Rattle.table_core.specs.declared.limits.Limits.{Limits}
 use Rattle.table_core.specs.BucketWords.{name_of}
 use Rattle.table_core.specs.Maps.{key_of, reply}
-use Rattle.table_core.specs.Logs.{contents}
+use Rattle.table_core.specs.Logs.{contents, history}
 use Rattle.table_core.specs.Lawful.{IsDrawn, AreContents, IsLawful}
-use Rattle.version_words.specs.Views.{WasSeen, Follows, IsAnswered, IsOfBucket, changed, has_object}
+use Rattle.version_words.specs.Views.{PassView, AreNone, calls_of, WasSeen, Follows, IsAnswered, IsOfBucket, changed, has_object}
 
 module _ (K V : Type 0) (ek : K → List ℕ) (ev : V → List ℕ) where
   -- the contents of a name that was drawn stay
@@ -39,3 +39,11 @@ module _ (K V : Type 0) (ek : K → List ℕ) (ev : V → List ℕ) where
   SeenAnswers = (l : Limits) (seen log : List (Event K V)) (b w pass : ℕ) (o : Operation K V) (new : Option ℕ) → IsTrue l.honest → IsLawful ek ev l log
       → bucket ek l.buckets (key_of o) ≡ b → WasSeen ek l.buckets seen b w → Follows ek l.buckets seen b w (Done pass o new) log
       → IsAnswered ek ev seen pass o (reply ek (contents seen (name_of w)) o) log
+
+module _ (K V : Type 0) where
+  -- a log with the calls that its beginning has of each of the passes, and with none of another pass, has the beginning's history, and so has each log between them
+  abbrev pub SameHistory : Type 0
+  SameHistory = (front log : List (Event K V)) (passes : List (PassView K V)) → IsPrefix front log
+      → ((k : ℕ) (d : PassView K V) → k < length passes → calls_of (slice_index_or passes k d).number log ≡ calls_of (slice_index_or passes k d).number front)
+      → ((pass : PassView K V) → AreNone pass passes → calls_of pass.number log ≡ [])
+      → (between : List (Event K V)) → IsPrefix front between → IsPrefix between log → history between ≡ history front

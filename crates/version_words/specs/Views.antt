@@ -1,5 +1,5 @@
 -- What contracts see of passes, names and spares, and what calls tell of the logs that they have seen.
-use Rattle.std.specs.Prelude.{◌≡◌, ◌≢◌, ℕ, ◌+◌, ◌<◌, ◌≤◌, ◌^◌, ◌==◌, Bool, true, false, if◌then◌else◌, List, [], ◌∷◌, ◌++◌, length, Option, Some, None, ⊤, map}
+use Rattle.std.specs.Prelude.{◌≡◌, ◌≢◌, ℕ, ◌+◌, ◌<◌, ◌≤◌, ◌^◌, ◌==◌, Bool, true, false, if◌then◌else◌, List, [], ◌∷◌, ◌++◌, length, Option, Some, None, ⊤, ◌⊎◌, map}
 use Rattle.std.specs.List.{filter, All, AllByRecursion}
 use Rattle.std.specs.Map.{keys_of}
 use mathlib.Core.List.{IsPrefix}
@@ -9,7 +9,7 @@ use Rattle.table_core.specs.declared.event.Event.TheVariants.{Done, Moved}
 use Rattle.table_core.specs.declared.operation.Operation.{Operation}
 use Rattle.table_core.specs.declared.operation.Operation.TheVariants as op
 use Rattle.table_core.specs.declared.limits.Limits.{Limits}
-use Rattle.table_core.specs.BucketWords.{name_of, place_of, empty_place}
+use Rattle.table_core.specs.BucketWords.{name_of, place_of, empty_place, far_place}
 use Rattle.table_core.specs.Maps.{value_at, is_met, after, map_of, reply}
 use Rattle.table_core.specs.Logs.{history, passes_of, word}
 use Rattle.table_core.specs.Lawful.{IsDrawn, IsLawful}
@@ -76,6 +76,10 @@ module _ {K V : Type 0} where
   pub record IsWhole (log : List (Event K V)) (pass : PassView K V) : Type 0 where
     pub seen : IsPrefix pass.front log
     pub all : calls_of pass.number log ≡ calls pass
+
+  -- the pass is one of the first n that were drawn
+  abbrev pub IsNumbered : ℕ → PassView K V → Type 0
+  IsNumbered n pass = (0 < pass.number) × (pass.number ≤ n)
 
   -- the pass is none of the others, by its number
   abbrev pub AreNone : PassView K V → List (PassView K V) → Type 0
@@ -162,6 +166,13 @@ module _ {K V : Type 0} (ek : K → List ℕ) (ev : V → List ℕ) where
 -- whether the word's place is a frame or the device
 abbrev pub has_object : ℕ → Bool
 has_object w = if w == 0 then false else (if place_of w == empty_place then false else true)
+
+-- a change that is no call moves an object: from the device to a frame, or from a frame to the device
+abbrev pub MovesObject : {K V : Type 0} → Option (Operation K V) → ℕ → ℕ → Type 0
+MovesObject (Some o) old place = ⊤
+MovesObject None old place =
+    (has_object old ≡ true)
+    × (((place_of old ≡ far_place) × (place < empty_place)) ⊎ ((place_of old < empty_place) × (place ≡ far_place)))
 
 module _ {K V : Type 0} where
   -- the old word as a spare, where it has an object

@@ -1,5 +1,5 @@
 //! Laws of lawful logs, which the crates above cite. Each is the contract of a function that does nothing.
-ghost use Rattle.version_words.specs.Laws.{ContentsStay, SeenStay, ChangesFit, EmptyHolds, SeenAnswers};
+ghost use Rattle.version_words.specs.Laws.{ContentsStay, SeenStay, ChangesFit, EmptyHolds, SeenAnswers, SameHistory};
 
 use far_object::FarObject;
 
@@ -26,4 +26,10 @@ pub fn empty_holds<K: FarObject, V: FarObject>()
 /// A call that was added behind a word that was seen is answered, at the new front, from that word's contents.
 pub fn seen_answers<K: FarObject, V: FarObject>()
     ensures { SeenAnswers K V K.enc V.enc }
+{}
+
+/// Between two fronts at which `Words::gather` finds the same calls of all passes, the history stays. The log may grow there
+/// by names and moves.
+pub fn same_history<K: FarObject, V: FarObject>()
+    ensures { SameHistory K V }
 {}

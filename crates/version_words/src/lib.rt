@@ -5,6 +5,7 @@
 mod change;
 mod entry;
 mod fault;
+mod holder;
 mod laws;
 mod mark;
 mod name;
@@ -18,8 +19,9 @@ mod tally;
 mod words;
 
 pub use change::{Change, Probe};
-pub use fault::{EnterFault, Moved, NameFault};
-pub use laws::{changes_fit, contents_stay, empty_holds, seen_answers, seen_stay};
+pub use fault::{EnterFault, GatherFault, Moved, NameFault};
+pub use holder::PassHolder;
+pub use laws::{changes_fit, contents_stay, empty_holds, same_history, seen_answers, seen_stay};
 pub use mark::Mark;
 pub use name::Name;
 pub use naming::Naming;

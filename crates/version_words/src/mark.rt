@@ -1,5 +1,5 @@
 //! A beginning of the log that was seen.
-ghost use Rattle.std.specs.Prelude.{◌≡◌};
+ghost use Rattle.std.specs.Prelude.{◌≡◌, ◌⊎◌};
 ghost use mathlib.Core.List.{IsPrefix};
 ghost use Rattle.table_core.specs.Lawful.{IsLawful};
 
@@ -50,5 +50,13 @@ impl<K: FarObject, V: FarObject, J: Naming> Mark<K, V, J> {
         ensures lawful { IsLawful K.enc V.enc J.limits self.new }
     {
         self.seen.learn(&other.seen);
+    }
+
+    /// A law, without a step: of two marks one begins the other.
+    pub fn compare(&self, other: &Mark<K, V, J>)
+        ensures { IsPrefix self.now other.now ⊎ IsPrefix other.now self.now }
+    {
+        let mut both = self.again();
+        both.learn(other);
     }
 }

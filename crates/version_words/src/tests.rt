@@ -1,9 +1,10 @@
-//! Rows as callers use them: the worked run of one thread, several passes, contents that are vouched for, and threads
-//! that share a row.
+//! Rows as callers use them: the worked run of one thread, several passes, passes that are handed in together, contents that
+//! are vouched for, and threads that share a row.
 ghost use Rattle.std.specs.Prelude.{◌≡◌, ◌<◌, false};
 ghost use Rattle.far_object.specs.Encodings.{enc_text};
 ghost use Rattle.far_object.specs.Buckets.{bucket as bucket_at};
 
+mod gathered;
 mod passes;
 mod shared;
 mod vouched;

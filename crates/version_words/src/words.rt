@@ -3,7 +3,7 @@
 //! # Two functions touch it
 //!
 //! `look_at` loads a word, and `step` exchanges one if it is still what it was. A step that succeeds is one event of the
-//! row's log; nothing else changes a word. Every public call stands over these two, is one try, and never waits.
+//! row's log; nothing else changes a word. Every public call stands over these two, and none tries a step again.
 //!
 //! # The log
 //!

@@ -1,78 +1,97 @@
 //! All passes at one front, as the end of a table needs them.
-ghost use Rattle.std.specs.Prelude.{◌≡◌, ◌≢◌, ◌<◌, ℕ, length, slice_index_or, IfOk, IfErr, MatchResult};
+ghost use Rattle.std.specs.Prelude.{◌≡◌, ◌≢◌, ◌<◌, ◌≤◌, ℕ, [], length, map, slice_index_or, IfOk, IfErr};
+ghost use mathlib.Core.List.{IsPrefix};
 ghost use Rattle.table_core.specs.Logs.{passes_of};
 ghost use Rattle.table_core.specs.Lawful.{IsLawful};
-ghost use Rattle.version_words.specs.Views.{PassView, Goes, IsWhole, AreApart, AreNone};
+ghost use Rattle.version_words.specs.Views.{PassView, Goes, IsWhole, AreApart, AreNone, IsNumbered, calls_of};
+ghost use Rattle.version_words.specs.Faults.{IsGatherFault};
 
 use super::Words;
+use crate::fault::GatherFault;
+use crate::holder::PassHolder;
 use crate::mark::Mark;
 use crate::naming::Naming;
-use crate::pass::Pass;
 use crate::tally::Tally;
-use far_object::FarObject;
+use far_object::{FarObject, Memory};
+use std::alloc::Global;
 
-// The pass is none of the others.
-fn is_none_of<K: FarObject, V: FarObject, J: Naming>(
-    pass: &mut Pass<K, V, J>,
-    others: &mut [Pass<K, V, J>],
+// A law, without a step: two holders' passes have different numbers.
+fn differ_at<K: FarObject, V: FarObject, J: Naming, H: PassHolder<K, V, J>>(
+    holders: &mut [H],
+    one: usize,
+    other: usize,
 )
-    ensures none { AreNone pass.old others.old }
-    ensures same { (pass.new ≡ pass.old) × (others.new ≡ others.old) }
+    requires order { one < other }
+    requires there { other < length holders.old }
+    ensures numbers { (d : H) → (H.pass_of (slice_index_or holders.old one d)).number ≢ (H.pass_of (slice_index_or holders.old other d)).number }
 {
-    match others.split_first_mut() {
-        None => {}
-        Some((first, rest)) => {
-            pass.differ(first);
-            is_none_of(pass, rest)
-        }
-    }
+    let (before, from) = holders.split_at_mut(other);
+    before[one].differs_from(&mut from[0]);
 }
 
-// No two of the passes have one number.
-fn are_apart<K: FarObject, V: FarObject, J: Naming>(passes: &mut [Pass<K, V, J>])
-    ensures apart { AreApart passes.old }
-    ensures same { passes.new ≡ passes.old }
+// No two holders have one pass. They are looked up by number: passes that all differ cost one look each.
+fn are_apart<K: FarObject, V: FarObject, J: Naming, H: PassHolder<K, V, J>>(
+    alloc: Global,
+    drawn: usize,
+    holders: &mut [H],
+) -> Result<(), Memory>
+    requires numbered { (k : ℕ) (d : H) → k < length holders.old → IsNumbered drawn (H.pass_of (slice_index_or holders.old k d)) }
+    ensures apart { IfOk result (λ _. AreApart (map H.pass_of holders.old)) }
+    ensures same { holders.new ≡ holders.old }
 {
-    match passes.split_first_mut() {
-        None => {}
-        Some((first, rest)) => {
-            is_none_of(first, rest);
-            are_apart(rest)
+    let mut holder_of: Vec<Option<usize>> = vec![in alloc; None; drawn]?;
+    for k in 0..holders.len() {
+        let at = holders[k].pass().number() as usize - 1;
+        if let Some(other) = holder_of[at] {
+            differ_at(holders, other, k);
+            unreachable!();
         }
+        holder_of[at] = Some(k);
     }
+    Ok(())
 }
 
 impl<K: FarObject, V: FarObject, J: Naming> Words<K, V, J> {
-    /// One front, at which as many passes were drawn as are handed in, and each has just the calls that it made.
+    /// One front, at which the passes that are handed in are all that were drawn, and each has just the calls that it made.
+    /// They come in any order.
     ///
-    /// The mark of an `Err` has more passes than were handed in. Each pass has made no call and its front has grown.
-    pub fn gather(&self, passes: &mut [Pass<K, V, J>]) -> Result<Mark<K, V, J>, Mark<K, V, J>>
-        ensures lawful { MatchResult result (λ m. IsLawful K.enc V.enc J.limits m) (λ m. IsLawful K.enc V.enc J.limits m) }
-        ensures all { IfOk result (λ m. passes_of m ≡ length passes.old) }
-        ensures whole { IfOk result (λ m. (k : ℕ) (d : PassView K V) → k < length passes.old → IsWhole m (slice_index_or passes.old k d)) }
-        ensures count { length passes.new ≡ length passes.old }
-        ensures goes { (k : ℕ) (d : PassView K V) → k < length passes.old → Goes (slice_index_or passes.old k d) (slice_index_or passes.new k d) }
-        ensures missing { IfErr result (λ m. length passes.old < passes_of m) }
+    /// `Missing` comes where more passes were drawn than are handed in, as the mark says, and `Memory` where the room for a
+    /// number for each pass is refused. On every answer each pass has made no call, its front has grown, and all else that
+    /// its holder holds stays.
+    pub fn gather<H: PassHolder<K, V, J>>(
+        &self,
+        alloc: Global,
+        holders: &mut [H],
+    ) -> Result<Mark<K, V, J>, GatherFault<K, V, J>>
+        ensures lawful { IfOk result (λ m. IsLawful K.enc V.enc J.limits m) }
+        ensures all { IfOk result (λ m. passes_of m ≡ length holders.old) }
+        ensures apart { IfOk result (λ _. AreApart (map H.pass_of holders.old)) }
+        ensures numbered { IfOk result (λ m. (k : ℕ) (d : H) → k < length holders.old → IsNumbered (passes_of m) (H.pass_of (slice_index_or holders.old k d))) }
+        ensures whole { IfOk result (λ m. (k : ℕ) (d : H) → k < length holders.old → IsWhole m (H.pass_of (slice_index_or holders.old k d))) }
+        ensures no_other { IfOk result (λ m. (pass : PassView K V) → AreNone pass (map H.pass_of holders.old) → calls_of pass.number m ≡ []) }
+        ensures told { IfOk result (λ m. (k : ℕ) (d : H) → k < length holders.old → IsPrefix m (H.pass_of (slice_index_or holders.new k d)).front) }
+        ensures count { length holders.new ≡ length holders.old }
+        ensures goes { (k : ℕ) (d : H) → k < length holders.old → Goes (H.pass_of (slice_index_or holders.old k d)) (H.pass_of (slice_index_or holders.new k d)) }
+        ensures rest { (k : ℕ) (d : H) → k < length holders.old → slice_index_or holders.new k d ≡ H.with_pass (slice_index_or holders.old k d) (H.pass_of (slice_index_or holders.new k d)) }
+        ensures fault { IfErr result (λ e. IsGatherFault K.enc V.enc J.limits (length holders.old) e) }
     {
-        let count = passes.len();
+        let count = holders.len();
         let mut mark = self.start.again();
         for k in 0..count {
-            mark.learn(&passes[k].mark());
+            mark.learn(&holders[k].pass().mark());
         }
         let mut none = Tally::none();
         let mut no_name = Tally::none();
         let at = self.sizes.buckets as usize + 1;
         let drawn = self.look_at(at, &mut mark, &mut none, &mut no_name);
         if drawn > count as u64 {
-            return Err(mark);
+            return Err(GatherFault::Missing(mark));
         }
-        if drawn < count as u64 {
-            // Two of more passes than were drawn would have one number, and no two have.
-            are_apart(passes);
-            unreachable!();
-        }
+        let Ok(()) = are_apart(alloc, drawn as usize, holders) else {
+            return Err(GatherFault::Memory);
+        };
         for k in 0..count {
-            self.learn(&mut passes[k], &mark);
+            holders[k].tell(self, &mark);
         }
         Ok(mark)
     }

@@ -6,7 +6,7 @@ ghost use Rattle.table_core.specs.BucketWords.{name_of, pack, empty_place};
 ghost use Rattle.table_core.specs.Maps.{key_of};
 ghost use Rattle.table_core.specs.Logs.{contents, word};
 ghost use Rattle.table_core.specs.Lawful.{IsLawful};
-ghost use Rattle.version_words.specs.Views.{Goes, Calls, MakesCall, WasSeen, Follows, IsOfBucket, changed, operation_of, installing, probed, ChangesNothing, spare_of, IsGone, has_object};
+ghost use Rattle.version_words.specs.Views.{Goes, Calls, MakesCall, WasSeen, Follows, IsOfBucket, changed, operation_of, installing, probed, ChangesNothing, spare_of, IsGone, has_object, MovesObject};
 
 use super::Words;
 use super::asking::{Check, Checking, Install, Installing};
@@ -37,8 +37,8 @@ fn has_object(word: u64) -> bool
 impl<K: FarObject, V: FarObject, J: Naming> Words<K, V, J> {
     /// Installs the name with this place where the bucket's word is still the old one.
     ///
-    /// The pass has seen the old word there, and the name's contents are the old ones with the change. The pass learns
-    /// the name's mark. `Moved` comes where another word stands there, and the name is handed back.
+    /// The pass has seen the old word there, and the name's contents are the old ones with the change. A move takes an
+    /// object from the device to a frame or back. The pass learns the name's mark. `Moved` comes where another word stands there, and the name is handed back.
     pub fn install(
         &self,
         pass: &mut Pass<K, V, J>,
@@ -52,7 +52,8 @@ impl<K: FarObject, V: FarObject, J: Naming> Words<K, V, J> {
         requires place { place < 2 ^ 24 }
         requires seen { WasSeen K.enc J.limits.buckets pass.old.front b old }
         requires newer { name_of old < name.number }
-        requires empty { place ≡ empty_place → contents name.front name.number ≡ [] }
+        requires empty { IsTrue J.limits.honest → place ≡ empty_place → contents name.front name.number ≡ [] }
+        requires moves { MovesObject (operation_of change.now) old place }
         requires contents { IsTrue J.limits.honest → contents name.front name.number ≡ changed K.enc V.enc (contents pass.old.front (name_of old)) (operation_of change.now) }
         ensures pass { MatchResult result (λ _. MakesCall (operation_of change.now) pass.old pass.new) (λ _. Goes pass.old pass.new) }
         ensures named { IsPrefix name.front pass.new.front }
