@@ -88,7 +88,8 @@ impl Vacant {
         Ok(vacant)
     }
 
-    /// The frame is free.
+    /// The frame is free. Whoever clears the upper bit looks at the lower word after that, so that none is lost where the
+    /// upper bit is found set here.
     pub fn set(&self, frame: u32) {
         self.frames.set(frame);
         self.words.ensure(frame / WORD);

@@ -2,10 +2,11 @@
 //!
 //! # A version ends for its own spare
 //!
-//! `reclaim` alone takes a version out of a frame, and takes a `Spare`: a word that its bucket never holds again. It
-//! compares the frame's version with the spare's name under a claim to read, leaves that, and claims the right to write
-//! where the word is still the one compared and nobody reads. That word has 32 bits of the name, so `empty` compares again
-//! what it took out: `laws::retire` ends it exactly where it is the spare's, and another version is put back.
+//! Of the calls `reclaim` alone takes a version out of a frame, and it takes a `Spare`: a word that its bucket never holds
+//! again. It compares the frame's version with the spare's name under a claim to read, leaves that, and claims the right to
+//! write where the word is still the one compared and nobody reads. That word has 32 bits of the name, so `empty` compares
+//! again what it took out: `laws::retire` ends it exactly where it is the spare's, and another version is put back. No
+//! clause says so of a shared frame.
 //!
 //! # A claim is of the frame that it names
 //!
@@ -43,9 +44,7 @@ use version_words::{Naming, Spare};
 const UPPER_WORDS: u32 = 17;
 
 // The bucket and the name of the version that the claim shows.
-fn told<K: FarObject, V: FarObject, J: Naming>(
-    claim: &SlotClaim<'_, K, V, J>,
-) -> Option<(u32, u64)>
+fn told<K: FarObject, V: FarObject, J: Naming>(claim: &SlotClaim<'_, K, V, J>) -> Option<(u32, u64)>
     requires { claim.now.right ≡ 1 }
     ensures bucket { IfSome result (λ found. found.0 < J.limits.buckets) }
     ensures own { IfSome result (λ found. IsOfVersion K.enc V.enc J.limits found.0 found.1) }
@@ -169,9 +168,9 @@ impl<K: FarObject, V: FarObject, J: Naming> Frames<K, V, J> {
     }
 
     /// A free frame for this call alone: the first that the hints name and that is free, which is the first free one at
-    /// rest. `NoFrame` comes after a look at each frame in turn, none of which was free when it was looked at, or was gone
-    /// before it was claimed; a frame that the hints named was looked at twice then. No clause says which frame comes, nor
-    /// when `NoFrame` does.
+    /// rest. `NoFrame` comes after a look at each frame in turn, where each was taken at that look, or was taken by another
+    /// call before this one could. A frame that the hints name is looked at twice then. No clause says which frame comes,
+    /// nor when `NoFrame` does.
     pub fn reserve(&self) -> Result<Reserved<'_, K, V, J>, NoFrame>
         ensures here { IfOk result (λ reserved. reserved < self.now) }
     {

@@ -1,7 +1,8 @@
 //! One frame: a counted slot with a version in it, or none.
 //!
-//! The slot's tag is the frame's number. The word of a free frame is 0. That of a filled one has the last 32 bits of the name in its high half and the number
-//! of readers in its low half, so that a claim to write meets the very version that was compared before, unread.
+//! The slot's tag is the frame's number. The word of a free frame is 0. That of a filled one has the last 32 bits of the
+//! name in its high half and the number of readers in its low half, so that a claim to write meets a version of the name
+//! that was compared before, up to these bits, and unread.
 ghost use Rattle.std.specs.Prelude.{◌≡◌, ◌/◌, ◌%◌, ◌^◌, ◌<◌, IfOk, IfSome};
 ghost use Rattle.counted_slot.specs.Counting.{readers};
 
