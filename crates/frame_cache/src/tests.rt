@@ -1,9 +1,10 @@
-//! Frames as callers use them: the worked run of one frame, numbers past the last frame, hints, which version ends, and
-//! threads that share frames.
+//! Frames as callers use them: the worked run of one frame, numbers past the last frame, hints, which version ends and
+//! which is put back, and threads that share frames.
 ghost use Rattle.std.specs.Prelude.{◌≡◌, ◌<◌, false};
 
 mod absent;
 mod hints;
+mod put_back;
 mod readers;
 mod retired;
 mod shared;

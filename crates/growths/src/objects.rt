@@ -92,6 +92,19 @@ fn empty(alloc: Global) -> Outcome {
     Outcome::after_memory(again.is_ok_and(|object| object.as_bytes() == [0, 0, 0, 0].as_slice()))
 }
 
+/// The object of `a -> 1`.
+const ONE: [u8; 10] = [0, 0, 0, 1, 0, 1, 97, 0, 1, 49];
+
+fn of_pair(alloc: Global) -> Result<Outcome, Memory> {
+    let key = text(alloc, b"a")?;
+    let value = text(alloc, b"1")?;
+    if let Ok(object) = Object::of_pair(alloc, &key, &value) {
+        return Ok(Outcome::at_once(object.as_bytes() == ONE.as_slice()));
+    }
+    let again = Object::of_pair(alloc, &key, &value);
+    Ok(Outcome::after_memory(again.is_ok_and(|object| object.as_bytes() == ONE.as_slice())))
+}
+
 /// Puts a pair beside `a -> 1` and `e -> 2`, or in place of one.
 fn with(alloc: Global, key: &[u8], value: &[u8], wanted: &[u8]) -> Result<Outcome, Memory> {
     let object = two(alloc)?;
@@ -162,6 +175,25 @@ fn entries(alloc: Global) -> Result<Outcome, Memory> {
     ))
 }
 
+fn is_one(value: &Option<Text>) -> bool {
+    match value {
+        Some(value) => is_text(value, b"1"),
+        None => false,
+    }
+}
+
+fn value(alloc: Global) -> Result<Outcome, Memory> {
+    let object = two(alloc)?;
+    let key = text(alloc, b"a")?;
+    if let Ok(value) = object.value(alloc, &key) {
+        return Ok(Outcome::at_once(is_one(&value)));
+    }
+    let again = object.value(alloc, &key);
+    Ok(Outcome::after_memory(
+        object.as_bytes() == TWO.as_slice() && again.is_ok_and(|value| is_one(&value)),
+    ))
+}
+
 /// Writes behind the byte 9, which stands after a refusal.
 fn write_at(alloc: Global, format: Format, header: &[u8]) -> Result<Outcome, Memory> {
     let object = two(alloc)?;
@@ -195,6 +227,7 @@ pub fn tell_all(rt: &HostRuntime) -> io::Result<()> {
     tell(rt, "Text::decode", Ok(decode_text(alloc)))?;
     tell(rt, "Text::copy", copy_text(alloc))?;
     tell(rt, "Object::empty", Ok(empty(alloc)))?;
+    tell(rt, "Object::of_pair", of_pair(alloc))?;
     tell(rt, "Object::with, a new key", with_new(alloc))?;
     tell(rt, "Object::with, a known key", with_known(alloc))?;
     tell(rt, "Object::without, a known key", without_known(alloc))?;
@@ -204,6 +237,7 @@ pub fn tell_all(rt: &HostRuntime) -> io::Result<()> {
         without_unknown(alloc),
     )?;
     tell(rt, "Object::entries", entries(alloc))?;
+    tell(rt, "Object::value", value(alloc))?;
     tell(rt, "Object::write_at, format one", write_one(alloc))?;
     tell(rt, "Object::write_at, format two", write_two(alloc))
 }

@@ -3,7 +3,7 @@ ghost use Rattle.std.specs.Prelude.{◌≡◌, false};
 ghost use Rattle.version_words.specs.Rows.{limits_of};
 
 use super::{Unvouched, entered, misses, object, opened, reclaimed};
-use crate::Frames;
+use crate::{Frames, NoFrame};
 use far_object::Text;
 use std::alloc::Global;
 use std::marker::Brand;
@@ -31,6 +31,7 @@ fn past_the_last<J: Naming, R: Abort>(
     let words = opened.named::<J>();
     let mut pass = entered(&words).ok_or("no pass")?;
     let frames: Frames<Text, Text, J> = Frames::open(alloc, COUNT)?;
+    assert_eq!(rt; frames.count(), COUNT);
     for frame in [COUNT, 64, 65_535, 65_536, u32::MAX] {
         assert!(rt; misses(&frames, frame, 1));
         assert_eq!(rt; frames.seen(frame), None);
@@ -47,4 +48,17 @@ fn past_the_last<J: Naming, R: Abort>(
     assert_eq!(rt; reclaimed(&frames, name.give_up(last)).ok(), Some(false));
     assert_eq!(rt; frames.free(), COUNT);
     Ok(())
+}
+
+#[test]
+fn no_frame_at_all(rt: HostRuntime) -> Result<(), Fail> {
+    let frames: Frames<Text, Text, Brand> = Frames::open(rt.alloc(), 0)?;
+    assert_eq!(rt; (frames.count(), frames.free()), (0, 0));
+    match frames.reserve() {
+        Ok(reserved) => {
+            reserved.cancel();
+            Err(Fail::from("a frame of none"))
+        }
+        Err(NoFrame) => Ok(()),
+    }
 }

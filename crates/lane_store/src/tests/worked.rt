@@ -45,6 +45,7 @@ fn whole_run<J: Naming, R: Wait + Abort>(
     let mut pass = entered(&words).ok_or("no pass")?;
     let devices = Vec::from_array(alloc, [FakeDevice::new(alloc), FakeDevice::new(alloc)])?;
     let lanes: LaneStore<Text, Text, J, FakeDevice> = LaneStore::open(alloc, devices)?;
+    assert_eq!(rt; lanes.count(), 2);
     draw(alloc, &words, &mut pass, 0, b'1').ok_or("no name")?;
     draw(alloc, &words, &mut pass, 0, b'1').ok_or("no name")?;
     let third = draw(alloc, &words, &mut pass, 0, b'1').ok_or("no name")?;
