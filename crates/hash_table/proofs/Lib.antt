@@ -1,0 +1,9 @@
+pub mod Limbos
+pub mod Values
+pub mod Fronts
+pub mod Refused
+pub mod Places
+pub mod Moves
+pub mod Meeting
+pub mod Settings
+pub mod Ends

@@ -1,0 +1,44 @@
+-- What the end of a table tells.
+use Rattle.std.specs.Prelude.{◌≡◌, ℕ, ◌<◌, IsTrue, List, [], length, map, slice_index_or, ⊤}
+use mathlib.Core.List.{IsPrefix}
+use Rattle.table_core.specs.declared.event.Event.{Event}
+use Rattle.table_core.specs.declared.limits.Limits.{Limits}
+use Rattle.table_core.specs.Maps.{map_of}
+use Rattle.table_core.specs.Logs.{history, passes_of}
+use Rattle.table_core.specs.Lawful.{IsLawful}
+use Rattle.version_words.specs.Views.{PassView, Goes, IsWhole, AreNone, calls_of}
+use Rattle.hash_table.specs.declared.caller.Caller.{Caller}
+use Rattle.hash_table.specs.declared.closing.CloseFault.{CloseFault}
+use Rattle.hash_table.specs.declared.closing.CloseFault.TheVariants.{PassMissing, Memory, Device, Damaged, Missed}
+
+-- no call was added between the two
+abbrev pub HistoryStays : {K V : Type 0} → List (Event K V) → List (Event K V) → Type 0
+HistoryStays {K} {V} first last = (between : List (Event K V)) → IsPrefix first between → IsPrefix between last → history between ≡ history first
+
+module _ {K V J : Type 0} where
+  abbrev pub passes : List (Caller K V J) → List (PassView K V)
+  passes callers = map (λ caller. caller.pass) callers
+
+  -- the callers come back, with no call more
+  pub record AreBack (old new : List (Caller K V J)) : Type 0 where
+    pub count : length new ≡ length old
+    pub goes : (k : ℕ) (d : Caller K V J) → k < length old → Goes (slice_index_or old k d).pass (slice_index_or new k d).pass
+    pub limbos : (k : ℕ) (d : Caller K V J) → k < length old → (slice_index_or new k d).limbo ≡ (slice_index_or old k d).limbo
+
+module _ {K V J : Type 0} (ek : K → List ℕ) (ev : V → List ℕ) (l : Limits) where
+  -- a lawful log begins with the front of every caller, has as many passes, their calls and no others, and the pairs are its map
+  pub record IsClosed (callers : List (Caller K V J)) (pairs : List (K × V)) : Type 0 where
+    pub log : List (Event K V)
+    pub lawful : IsLawful ek ev l log
+    pub all : passes_of log ≡ length callers
+    pub whole : (k : ℕ) (d : Caller K V J) → k < length callers → IsWhole log (slice_index_or callers k d).pass
+    pub no_other : (pass : PassView K V) → AreNone pass (passes callers) → calls_of pass.number log ≡ []
+    pub pairs_are : IsTrue l.honest → pairs ≡ map_of ek ev (history log)
+
+  -- why a table is not closed: at the mark's front more passes were drawn than callers are handed in; what was read is damaged over no honest device; of the others nothing is said
+  abbrev pub IsCloseFault : ℕ → CloseFault K V J → Type 0
+  IsCloseFault count (PassMissing mark) = IsLawful ek ev l mark × (count < passes_of mark)
+  IsCloseFault count Memory = ⊤
+  IsCloseFault count Device = ⊤
+  IsCloseFault count Damaged = IsTrue l.honest → ⊥
+  IsCloseFault count Missed = ⊤

@@ -1,0 +1,12 @@
+pub mod Configs
+pub mod Openings
+pub mod Limbos
+pub mod Refusals
+pub mod Edits
+pub mod Stages
+pub mod Calls
+pub mod Rounds
+pub mod Scopes
+pub mod Reclaims
+pub mod States
+pub mod Closes

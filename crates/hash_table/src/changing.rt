@@ -1,0 +1,372 @@
+//! Changes: put, remove and put_if.
+ghost use Rattle.std.specs.Prelude.{◌≡◌, ◌<◌, ◌≤◌, IsTrue, IfOk, IfErr, IfNone, length};
+ghost use mathlib.Core.List.{IsPrefix};
+ghost use Rattle.far_object.specs.Buckets.{bucket};
+ghost use Rattle.table_core.specs.declared.operation.Operation.TheVariants as op;
+ghost use Rattle.table_core.specs.BucketWords.{name_of};
+ghost use Rattle.table_core.specs.Maps.{key_of, reply};
+ghost use Rattle.table_core.specs.Lent.{lent_value};
+ghost use Rattle.table_core.specs.Logs.{contents};
+ghost use Rattle.table_core.specs.Lawful.{IsLawful};
+ghost use Rattle.version_words.specs.Views.{Goes, WasSeen};
+ghost use Rattle.hash_table.specs.Calls.{most_spares, AtMostOneMore, IsFinished, IsUnchanged, IsFull};
+ghost use Rattle.hash_table.specs.Edits.{edited, MayLeave, Leaves};
+ghost use Rattle.hash_table.specs.Refusals.{OfLocalChange, OfChange};
+ghost use Rattle.hash_table.specs.Rounds.{IsRound};
+ghost use Rattle.hash_table.specs.Stages.{IsUnbuilt, IsUnbuiltFar, IsUnpublished};
+
+use crate::caller::Caller;
+use crate::edit::Edit;
+use crate::limbo::Limbo;
+use crate::refusal::Refusal;
+use crate::round::{Round, after};
+use crate::stages::build::{Built, build, build_first};
+use crate::stages::seen::{Place, split};
+use crate::table::FarTable;
+use far_device::Device;
+use far_object::FarObject;
+use std::alloc::Global;
+use std::sync::Wait;
+use version_words::{Naming, Pass, empty_holds, seen_answers};
+
+impl<K: FarObject, V: FarObject, J: Naming, D: Device> FarTable<K, V, J, D> {
+    /// What the operation makes of the contents of a word that was seen, which lie in a frame.
+    fn build_local(
+        &self,
+        alloc: Global,
+        pass: &Pass<K, V, J>,
+        b: u32,
+        old: u64,
+        edit: &Edit<'_, K, V>,
+    ) -> Result<Built<K, V>, Refusal>
+        requires lawful { IsLawful K.enc V.enc J.limits pass.now.front }
+        requires seen { WasSeen K.enc J.limits.buckets pass.now.front b old }
+        ensures answer { IfOk result (λ t. IsTrue J.limits.honest → t.answer ≡ reply K.enc (contents pass.now.front (name_of old)) (edited edit.now)) }
+        ensures object { IfOk result (λ t. IsTrue J.limits.honest → Leaves K.enc V.enc (contents pass.now.front (name_of old)) (edited edit.now) t.object) }
+        ensures may { IfOk result (λ t. IfNone t.object (MayLeave edit.now)) }
+        ensures why { IfErr result (λ e. IsUnbuilt K.enc V.enc J.limits.honest self.now.limit old (contents pass.now.front (name_of old)) (edited edit.now) e) }
+    {
+        match split(old) {
+            Place::Device => Err(Refusal::Far),
+            Place::Nothing => {
+                empty_holds::<K, V>();
+                match build_first(alloc, edit, self.limit) {
+                    Ok(built) => Ok(built),
+                    Err(refusal) => Err(refusal),
+                }
+            }
+            Place::Frame(frame) => {
+                let Ok(scope) = self.enter_frame(pass, b, old, frame) else {
+                    return Err(Refusal::Missed);
+                };
+                let built = build(alloc, scope.object(), edit, self.limit);
+                scope.close();
+                match built {
+                    Ok(built) => Ok(built),
+                    Err(refusal) => Err(refusal),
+                }
+            }
+        }
+    }
+
+    /// Installs what was built over the word that was seen, or finds that word still there where it is left.
+    fn settle(
+        &self,
+        pass: &mut Pass<K, V, J>,
+        limbo: &mut Limbo<K, V, J>,
+        b: u32,
+        old: u64,
+        built: Built<K, V>,
+        edit: &Edit<'_, K, V>,
+    ) -> Result<Option<V>, Refusal>
+        requires bucket { (b < J.limits.buckets) × (bucket K.enc J.limits.buckets (key_of (edited edit.now)) ≡ b) }
+        requires lawful { IsLawful K.enc V.enc J.limits pass.old.front }
+        requires seen { WasSeen K.enc J.limits.buckets pass.old.front b old }
+        requires answer { IsTrue J.limits.honest → built.answer ≡ reply K.enc (contents pass.old.front (name_of old)) (edited edit.now) }
+        requires object { IsTrue J.limits.honest → Leaves K.enc V.enc (contents pass.old.front (name_of old)) (edited edit.now) built.object }
+        requires may { IfNone built.object (MayLeave edit.now) }
+        requires room { length limbo.old < most_spares }
+        ensures lawful { IsLawful K.enc V.enc J.limits pass.new.front }
+        ensures limbo { AtMostOneMore limbo.old limbo.new }
+        ensures finished { IfOk result (λ r. IsFinished K.enc V.enc J.limits pass.old (edited edit.now) r pass.new) }
+        ensures goes { IfErr result (λ _. Goes pass.old pass.new) }
+        ensures why { IfErr result (λ e. IsUnpublished K.enc J.limits b old pass.old pass.new e) }
+    {
+        seen_answers::<K, V>();
+        let Built { answer, object } = built;
+        let Some(object) = object else {
+            return match self.words.check(pass, b, old, &edit.probe()) {
+                Ok(()) => Ok(answer),
+                Err(_) => Err(Refusal::Moved),
+            };
+        };
+        let change = edit.change();
+        if object.count() == 0 {
+            return match self.publish_empty(pass, limbo, b, old, &object, &change) {
+                Ok(()) => Ok(answer),
+                Err(refusal) => Err(refusal),
+            };
+        }
+        match self.publish_local(pass, limbo, b, old, object, &change) {
+            Ok(()) => Ok(answer),
+            Err(refusal) => Err(refusal),
+        }
+    }
+
+    /// One try of a change, from a frame.
+    fn try_change(
+        &self,
+        alloc: Global,
+        caller: &mut Caller<K, V, J>,
+        edit: &Edit<'_, K, V>,
+    ) -> Result<Option<V>, Refusal>
+        ensures lawful { IsLawful K.enc V.enc J.limits caller.new.pass.front }
+        ensures limbo { AtMostOneMore caller.old.limbo caller.new.limbo }
+        ensures finished { IfOk result (λ r. IsFinished K.enc V.enc J.limits caller.old.pass (edited edit.now) r caller.new.pass) }
+        ensures goes { IfErr result (λ _. Goes caller.old.pass caller.new.pass) }
+        ensures refused { IfErr result (λ e. IsUnchanged K.enc V.enc J.limits self.now.limit (bucket K.enc J.limits.buckets (key_of (edited edit.now))) (edited edit.now) caller.old.pass caller.new.pass e) }
+        ensures full { IfErr result (λ e. IsFull e (length caller.old.limbo)) }
+        ensures only { IfErr result (λ e. OfLocalChange e) }
+    {
+        let _front = caller.pass.mark();
+        if caller.limbo.is_full() {
+            return Err(Refusal::LimboFull);
+        }
+        let b = self.bucket(edit.key());
+        let word = self.words.look(&mut caller.pass, b);
+        let built = match self.build_local(alloc, &caller.pass, b, word, edit) {
+            Ok(built) => built,
+            Err(refusal) => return Err(refusal),
+        };
+        match self.settle(&mut caller.pass, &mut caller.limbo, b, word, built, edit) {
+            Ok(answer) => Ok(answer),
+            Err(refusal) => Err(refusal),
+        }
+    }
+
+    // What the operation makes of the contents of a word that was seen, wherever they lie.
+    fn build_anywhere<R: Wait>(
+        &self,
+        rt: &R,
+        alloc: Global,
+        pass: &Pass<K, V, J>,
+        b: u32,
+        old: u64,
+        edit: &Edit<'_, K, V>,
+    ) -> Result<Built<K, V>, Refusal>
+        requires lawful { IsLawful K.enc V.enc J.limits pass.now.front }
+        requires seen { WasSeen K.enc J.limits.buckets pass.now.front b old }
+        ensures answer { IfOk result (λ t. IsTrue J.limits.honest → t.answer ≡ reply K.enc (contents pass.now.front (name_of old)) (edited edit.now)) }
+        ensures object { IfOk result (λ t. IsTrue J.limits.honest → Leaves K.enc V.enc (contents pass.now.front (name_of old)) (edited edit.now) t.object) }
+        ensures may { IfOk result (λ t. IfNone t.object (MayLeave edit.now)) }
+        ensures why { IfErr result (λ e. IsUnbuiltFar K.enc V.enc J.limits.honest self.now.limit (contents pass.now.front (name_of old)) (edited edit.now) e) }
+    {
+        match split(old) {
+            Place::Device => {}
+            Place::Nothing => {
+                return match self.build_local(alloc, pass, b, old, edit) {
+                    Ok(built) => Ok(built),
+                    Err(refusal) => Err(refusal),
+                };
+            }
+            Place::Frame(_) => {
+                return match self.build_local(alloc, pass, b, old, edit) {
+                    Ok(built) => Ok(built),
+                    Err(refusal) => Err(refusal),
+                };
+            }
+        }
+        let object = match self.read_device(rt, alloc, pass, b, old) {
+            Ok(object) => object,
+            Err(refusal) => return Err(refusal),
+        };
+        match build(alloc, &object, edit, self.limit) {
+            Ok(built) => Ok(built),
+            Err(refusal) => Err(refusal),
+        }
+    }
+
+    // One round of a change, wherever the contents lie.
+    fn change_round<R: Wait>(
+        &self,
+        rt: &R,
+        alloc: Global,
+        caller: &mut Caller<K, V, J>,
+        edit: &Edit<'_, K, V>,
+    ) -> Result<Round<V>, Refusal>
+        ensures lawful { IsLawful K.enc V.enc J.limits caller.new.pass.front }
+        ensures limbo { AtMostOneMore caller.old.limbo caller.new.limbo }
+        ensures round { IfOk result (λ r. IsRound K.enc V.enc J.limits caller.old.pass (edited edit.now) r caller.new.pass) }
+        ensures goes { IfErr result (λ _. Goes caller.old.pass caller.new.pass) }
+        ensures refused { IfErr result (λ e. IsUnchanged K.enc V.enc J.limits self.now.limit (bucket K.enc J.limits.buckets (key_of (edited edit.now))) (edited edit.now) caller.old.pass caller.new.pass e) }
+        ensures full { IfErr result (λ e. IsFull e (length caller.new.limbo)) }
+        ensures only { IfErr result (λ e. OfChange e) }
+    {
+        let _front = caller.pass.mark();
+        if caller.limbo.is_full() {
+            return Err(Refusal::LimboFull);
+        }
+        let b = self.bucket(edit.key());
+        let word = self.words.look(&mut caller.pass, b);
+        let built = match self.build_anywhere(rt, alloc, &caller.pass, b, word, edit) {
+            Ok(built) => built,
+            Err(refusal) => {
+                return match after(refusal) {
+                    Ok(round) => Ok(round),
+                    Err(refusal) => Err(refusal),
+                };
+            }
+        };
+        match self.settle(&mut caller.pass, &mut caller.limbo, b, word, built, edit) {
+            Ok(answer) => Ok(Round::Finished(answer)),
+            Err(refusal) => match after(refusal) {
+                Ok(round) => Ok(round),
+                Err(refusal) => Err(refusal),
+            },
+        }
+    }
+
+    // A change that goes on until it is done.
+    fn change<R: Wait>(
+        &self,
+        rt: &R,
+        alloc: Global,
+        caller: &mut Caller<K, V, J>,
+        edit: &Edit<'_, K, V>,
+    ) -> Result<Option<V>, Refusal>
+        ensures lawful { IsLawful K.enc V.enc J.limits caller.new.pass.front }
+        ensures limbo { IsPrefix caller.old.limbo caller.new.limbo }
+        ensures finished { IfOk result (λ r. IsFinished K.enc V.enc J.limits caller.old.pass (edited edit.now) r caller.new.pass) }
+        ensures goes { IfErr result (λ _. Goes caller.old.pass caller.new.pass) }
+        ensures refused { IfErr result (λ e. IsUnchanged K.enc V.enc J.limits self.now.limit (bucket K.enc J.limits.buckets (key_of (edited edit.now))) (edited edit.now) caller.old.pass caller.new.pass e) }
+        ensures full { IfErr result (λ e. IsFull e (length caller.new.limbo)) }
+        ensures only { IfErr result (λ e. OfChange e) }
+    {
+        for _ in rt.forever() {
+            match self.change_round(rt, alloc, caller, edit) {
+                Ok(Round::Finished(answer)) => return Ok(answer),
+                Ok(Round::Again) => {}
+                Err(refusal) => return Err(refusal),
+            }
+        }
+        unreachable!()
+    }
+
+    /// One try of a put, over a frame.
+    pub fn try_put(
+        &self,
+        alloc: Global,
+        caller: &mut Caller<K, V, J>,
+        key: &K,
+        value: &V,
+    ) -> Result<Option<V>, Refusal>
+        ensures lawful { IsLawful K.enc V.enc J.limits caller.new.pass.front }
+        ensures limbo { AtMostOneMore caller.old.limbo caller.new.limbo }
+        ensures finished { IfOk result (λ r. IsFinished K.enc V.enc J.limits caller.old.pass (op.Put key.now value.now) r caller.new.pass) }
+        ensures goes { IfErr result (λ _. Goes caller.old.pass caller.new.pass) }
+        ensures refused { IfErr result (λ e. IsUnchanged K.enc V.enc J.limits self.now.limit (bucket K.enc J.limits.buckets key.now) (op.Put key.now value.now) caller.old.pass caller.new.pass e) }
+        ensures full { IfErr result (λ e. IsFull e (length caller.old.limbo)) }
+        ensures only { IfErr result (λ e. OfLocalChange e) }
+    {
+        self.try_change(alloc, caller, &Edit::Put(key, value))
+    }
+
+    /// One try of a removal, over a frame.
+    pub fn try_remove(
+        &self,
+        alloc: Global,
+        caller: &mut Caller<K, V, J>,
+        key: &K,
+    ) -> Result<Option<V>, Refusal>
+        ensures lawful { IsLawful K.enc V.enc J.limits caller.new.pass.front }
+        ensures limbo { AtMostOneMore caller.old.limbo caller.new.limbo }
+        ensures finished { IfOk result (λ r. IsFinished K.enc V.enc J.limits caller.old.pass (op.Remove key.now) r caller.new.pass) }
+        ensures goes { IfErr result (λ _. Goes caller.old.pass caller.new.pass) }
+        ensures refused { IfErr result (λ e. IsUnchanged K.enc V.enc J.limits self.now.limit (bucket K.enc J.limits.buckets key.now) (op.Remove key.now) caller.old.pass caller.new.pass e) }
+        ensures full { IfErr result (λ e. IsFull e (length caller.old.limbo)) }
+        ensures only { IfErr result (λ e. OfLocalChange e) }
+    {
+        self.try_change(alloc, caller, &Edit::Remove(key))
+    }
+
+    /// One try of a put where the key's value is the expected one, over a frame.
+    pub fn try_put_if<'a>(
+        &self,
+        alloc: Global,
+        caller: &mut Caller<K, V, J>,
+        key: &'a K,
+        expected: Option<&'a V>,
+        value: &'a V,
+    ) -> Result<Option<V>, Refusal>
+        ensures lawful { IsLawful K.enc V.enc J.limits caller.new.pass.front }
+        ensures limbo { AtMostOneMore caller.old.limbo caller.new.limbo }
+        ensures finished { IfOk result (λ r. IsFinished K.enc V.enc J.limits caller.old.pass (op.PutIf key.now (lent_value expected.entry) value.now) r caller.new.pass) }
+        ensures goes { IfErr result (λ _. Goes caller.old.pass caller.new.pass) }
+        ensures refused { IfErr result (λ e. IsUnchanged K.enc V.enc J.limits self.now.limit (bucket K.enc J.limits.buckets key.now) (op.PutIf key.now (lent_value expected.entry) value.now) caller.old.pass caller.new.pass e) }
+        ensures full { IfErr result (λ e. IsFull e (length caller.old.limbo)) }
+        ensures only { IfErr result (λ e. OfLocalChange e) }
+    {
+        self.try_change(alloc, caller, &Edit::PutIf(key, expected, value))
+    }
+
+    /// A put that goes on until it is done: it repeats while it is moved or missed, and reads a far bucket through. Its refusals
+    /// are those of `try_put` but `Far`, `Moved` and `Missed`, and those of `read_through`.
+    pub fn put<R: Wait>(
+        &self,
+        rt: &R,
+        alloc: Global,
+        caller: &mut Caller<K, V, J>,
+        key: &K,
+        value: &V,
+    ) -> Result<Option<V>, Refusal>
+        ensures lawful { IsLawful K.enc V.enc J.limits caller.new.pass.front }
+        ensures limbo { IsPrefix caller.old.limbo caller.new.limbo }
+        ensures finished { IfOk result (λ r. IsFinished K.enc V.enc J.limits caller.old.pass (op.Put key.now value.now) r caller.new.pass) }
+        ensures goes { IfErr result (λ _. Goes caller.old.pass caller.new.pass) }
+        ensures refused { IfErr result (λ e. IsUnchanged K.enc V.enc J.limits self.now.limit (bucket K.enc J.limits.buckets key.now) (op.Put key.now value.now) caller.old.pass caller.new.pass e) }
+        ensures full { IfErr result (λ e. IsFull e (length caller.new.limbo)) }
+        ensures only { IfErr result (λ e. OfChange e) }
+    {
+        self.change(rt, alloc, caller, &Edit::Put(key, value))
+    }
+
+    /// A removal that goes on until it is done, as `put` does.
+    pub fn remove<R: Wait>(
+        &self,
+        rt: &R,
+        alloc: Global,
+        caller: &mut Caller<K, V, J>,
+        key: &K,
+    ) -> Result<Option<V>, Refusal>
+        ensures lawful { IsLawful K.enc V.enc J.limits caller.new.pass.front }
+        ensures limbo { IsPrefix caller.old.limbo caller.new.limbo }
+        ensures finished { IfOk result (λ r. IsFinished K.enc V.enc J.limits caller.old.pass (op.Remove key.now) r caller.new.pass) }
+        ensures goes { IfErr result (λ _. Goes caller.old.pass caller.new.pass) }
+        ensures refused { IfErr result (λ e. IsUnchanged K.enc V.enc J.limits self.now.limit (bucket K.enc J.limits.buckets key.now) (op.Remove key.now) caller.old.pass caller.new.pass e) }
+        ensures full { IfErr result (λ e. IsFull e (length caller.new.limbo)) }
+        ensures only { IfErr result (λ e. OfChange e) }
+    {
+        self.change(rt, alloc, caller, &Edit::Remove(key))
+    }
+
+    /// A put_if that goes on until it is done, as `put` does.
+    pub fn put_if<'a, R: Wait>(
+        &self,
+        rt: &R,
+        alloc: Global,
+        caller: &mut Caller<K, V, J>,
+        key: &'a K,
+        expected: Option<&'a V>,
+        value: &'a V,
+    ) -> Result<Option<V>, Refusal>
+        ensures lawful { IsLawful K.enc V.enc J.limits caller.new.pass.front }
+        ensures limbo { IsPrefix caller.old.limbo caller.new.limbo }
+        ensures finished { IfOk result (λ r. IsFinished K.enc V.enc J.limits caller.old.pass (op.PutIf key.now (lent_value expected.entry) value.now) r caller.new.pass) }
+        ensures goes { IfErr result (λ _. Goes caller.old.pass caller.new.pass) }
+        ensures refused { IfErr result (λ e. IsUnchanged K.enc V.enc J.limits self.now.limit (bucket K.enc J.limits.buckets key.now) (op.PutIf key.now (lent_value expected.entry) value.now) caller.old.pass caller.new.pass e) }
+        ensures full { IfErr result (λ e. IsFull e (length caller.new.limbo)) }
+        ensures only { IfErr result (λ e. OfChange e) }
+    {
+        self.change(rt, alloc, caller, &Edit::PutIf(key, expected, value))
+    }
+}

@@ -1,0 +1,34 @@
+//! A table whose buckets lie in frames or on devices, and which threads share.
+//!
+//! # One put, from here to the bucket's word
+//!
+//! `changing.rt` has the public call. It looks at the bucket's word (`stages/seen.rt`), reads the object under it
+//! (`stages/local.rt`, `stages/far.rt`), makes the new one (`stages/build.rt`), and publishes it under a new name
+//! (`stages/publish.rt`). Gets take the first two stages (`reading.rt`, `scope.rt`), and moves between frames and devices
+//! all but the third (`moving.rt`). `telling.rt` only looks, and `closing.rt` takes the table back.
+#![tactic(auto, using(crate::proofs::Fronts::goes_trans))]
+
+mod caller;
+mod changing;
+mod closing;
+mod config;
+mod edit;
+mod limbo;
+mod moving;
+mod opening;
+mod reading;
+mod refusal;
+mod round;
+mod scope;
+mod stages;
+mod table;
+mod telling;
+
+pub use caller::Caller;
+pub use closing::CloseFault;
+pub use config::Config;
+pub use opening::{Opening, Vouched};
+pub use refusal::{OpenFault, ReclaimFault, Refusal};
+pub use scope::TableScope;
+pub use table::FarTable;
+pub use telling::BucketState;

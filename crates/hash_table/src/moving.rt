@@ -1,0 +1,188 @@
+//! Moves of a bucket's contents between frames and devices, and the removal of old versions. They are no calls of the
+//! history.
+ghost use Rattle.std.specs.Prelude.{◌≡◌, ◌<◌, ℕ, IsTrue, IfOk, IfErr, OnOk, MatchBool, length};
+ghost use mathlib.Core.List.{IsPrefix};
+ghost use Rattle.far_object.specs.Buckets.{bucket};
+ghost use Rattle.table_core.specs.BucketWords.{far_place};
+ghost use Rattle.table_core.specs.Lawful.{IsLawful};
+ghost use Rattle.version_words.specs.Views.{Goes};
+ghost use Rattle.hash_table.specs.Calls.{AtMostOneMore, SeenInCall, IsNear, IsMoved, IsRefused, IsFull};
+ghost use Rattle.hash_table.specs.Reclaims.{IsReclaimed};
+ghost use Rattle.hash_table.specs.Refusals.{OfFetch, OfSwapOut};
+
+use crate::caller::Caller;
+use crate::refusal::{ReclaimFault, Refusal};
+use crate::stages::seen::{Place, split};
+use crate::table::FarTable;
+use far_device::Device;
+use far_object::FarObject;
+use lane_store::LaneFault;
+use std::alloc::Global;
+use std::sync::Wait;
+use table_core::word::{EMPTY_PLACE, FAR_PLACE, name_of, place_of};
+use version_words::{Change, Moved, Naming, Spare};
+
+impl<K: FarObject, V: FarObject, J: Naming, D: Device> FarTable<K, V, J, D> {
+    /// One try of a swap-in of the key's bucket: its object goes from the device into a frame of the table, under a new name. False
+    /// where the bucket's word does not say that its object lies on the device.
+    ///
+    /// `LimboFull` comes before all; `Missed` where the lane has no receipt, `Device` where the device fails, `Damaged`
+    /// where what it gives is no object of this bucket and name, `Memory` where a growth is refused, `NoFrame` where no
+    /// frame is found free, `NamesSpent` where the last name was drawn, `Moved` where another name was drawn at that
+    /// moment or the bucket's word is another one at the end.
+    pub fn fetch<R: Wait>(
+        &self,
+        rt: &R,
+        alloc: Global,
+        caller: &mut Caller<K, V, J>,
+        key: &K,
+    ) -> Result<bool, Refusal>
+        ensures lawful { IsLawful K.enc V.enc J.limits caller.new.pass.front }
+        ensures goes { Goes caller.old.pass caller.new.pass }
+        ensures limbo { AtMostOneMore caller.old.limbo caller.new.limbo }
+        ensures fetched { IfOk result (λ done. MatchBool done
+            (IsMoved (bucket K.enc J.limits.buckets key.now) (λ p. p < self.now.frames) caller.old.pass caller.new.pass)
+            (IsNear K.enc V.enc J.limits (bucket K.enc J.limits.buckets key.now) caller.new.pass.front)) }
+        ensures refused { IfErr result (λ e. IsRefused K.enc V.enc J.limits (bucket K.enc J.limits.buckets key.now) caller.old.pass caller.new.pass e) }
+        ensures full { IfErr result (λ e. IsFull e (length caller.old.limbo)) }
+        ensures only { IfErr result (λ e. OfFetch e) }
+    {
+        let _front = caller.pass.mark();
+        if caller.limbo.is_full() {
+            return Err(Refusal::LimboFull);
+        }
+        let b = self.bucket(key);
+        let word = self.words.look(&mut caller.pass, b);
+        match split(word) {
+            Place::Nothing => return Ok(false),
+            Place::Frame(_) => return Ok(false),
+            Place::Device => {}
+        }
+        let object = match self.read_device(rt, alloc, &caller.pass, b, word) {
+            Ok(object) => object,
+            Err(refusal) => return Err(refusal),
+        };
+        match self.publish_local(
+            &mut caller.pass,
+            &mut caller.limbo,
+            b,
+            word,
+            object,
+            &Change::Move,
+        ) {
+            Ok(()) => Ok(true),
+            Err(refusal) => Err(refusal),
+        }
+    }
+
+    /// One try of a swap-out of what lies in a frame: its object goes to the device under a new name. False where what
+    /// lies there is not what its bucket's word names.
+    ///
+    /// `LimboFull` comes before all; `Missed` where the frame has another version by now, `NamesSpent` where the last name
+    /// was drawn, `Memory` where a growth of the lane or its device is refused, `Device` where the device fails, `Moved`
+    /// where another name was drawn at that moment or the bucket's word is another one at the end.
+    pub fn swap_out<R: Wait>(
+        &self,
+        rt: &R,
+        caller: &mut Caller<K, V, J>,
+        frame: u32,
+    ) -> Result<bool, Refusal>
+        ensures lawful { IsLawful K.enc V.enc J.limits caller.new.pass.front }
+        ensures goes { Goes caller.old.pass caller.new.pass }
+        ensures limbo { AtMostOneMore caller.old.limbo caller.new.limbo }
+        ensures swapped { IfOk result (λ done. IsTrue done → (b : ℕ) × IsMoved b (λ p. p ≡ far_place) caller.old.pass caller.new.pass) }
+        ensures refused { IfErr result (λ e. (b : ℕ) × IsRefused K.enc V.enc J.limits b caller.old.pass caller.new.pass e) }
+        ensures full { IfErr result (λ e. IsFull e (length caller.old.limbo)) }
+        ensures only { IfErr result (λ e. OfSwapOut e) }
+    {
+        let _front = caller.pass.mark();
+        if caller.limbo.is_full() {
+            return Err(Refusal::LimboFull);
+        }
+        let Some((b, name)) = self.frames.seen(frame) else {
+            return Ok(false);
+        };
+        let word = self.words.look(&mut caller.pass, b);
+        if name_of(word) != name {
+            return Ok(false);
+        }
+        match split(word) {
+            Place::Nothing => return Ok(false),
+            Place::Device => return Ok(false),
+            Place::Frame(place) => {
+                if place != frame {
+                    return Ok(false);
+                }
+            }
+        }
+        let Ok(scope) = self.enter_frame(&caller.pass, b, word, frame) else {
+            return Err(Refusal::Missed);
+        };
+        let name = match self.draw(&mut caller.pass, b, word, scope.object(), &Change::Move) {
+            Ok(name) => name,
+            Err(refusal) => {
+                scope.close();
+                return Err(refusal);
+            }
+        };
+        let written = self.lanes.write(rt, &name, scope.object(), self.format);
+        scope.close();
+        match written {
+            Ok(()) => {}
+            Err(LaneFault::Memory) => {
+                caller.limbo.keep(Some(name.give_up(FAR_PLACE)));
+                return Err(Refusal::Memory);
+            }
+            Err(LaneFault::Device) => {
+                caller.limbo.keep(Some(name.give_up(FAR_PLACE)));
+                return Err(Refusal::Device);
+            }
+        }
+        match self
+            .words
+            .install(&mut caller.pass, b, word, name, FAR_PLACE, &Change::Move)
+        {
+            Ok(installed) => {
+                caller.limbo.keep(installed.spare);
+                Ok(true)
+            }
+            Err((Moved, name)) => {
+                caller.limbo.keep(Some(name.give_up(FAR_PLACE)));
+                Err(Refusal::Moved)
+            }
+        }
+    }
+
+    /// Removes what the spare's word says the place of, and answers whether it was there: the version in its frame, or the
+    /// object on the device. False for a word without an object. The caller learns the spare's mark.
+    ///
+    /// The spare comes back with `Held` where a reader is in its frame, with `Device` where the device fails, with `Memory`
+    /// where a growth of it is refused. That it is handed back where what it names is still there is tested, not proved.
+    pub fn reclaim<R: Wait>(
+        &self,
+        rt: &R,
+        caller: &mut Caller<K, V, J>,
+        spare: Spare<K, V, J>,
+    ) -> Result<bool, (Spare<K, V, J>, ReclaimFault)>
+        ensures lawful { IsLawful K.enc V.enc J.limits caller.new.pass.front }
+        ensures goes { Goes caller.old.pass caller.new.pass }
+        ensures limbo { caller.new.limbo ≡ caller.old.limbo }
+        ensures told { IsPrefix spare.front caller.new.pass.front }
+        ensures reclaimed { OnOk result (IsReclaimed spare) }
+        ensures back { IfErr result (λ e. e.0 ≡ spare) }
+    {
+        self.words.learn(&mut caller.pass, &spare.mark());
+        match place_of(spare.word()) {
+            EMPTY_PLACE => Ok(false),
+            FAR_PLACE => match self.lanes.remove(rt, &spare) {
+                Ok(there) => Ok(there),
+                Err(LaneFault::Memory) => Err((spare, ReclaimFault::Memory)),
+                Err(LaneFault::Device) => Err((spare, ReclaimFault::Device)),
+            },
+            _ => match self.frames.reclaim(spare) {
+                Ok(there) => Ok(there),
+                Err(back) => Err((back, ReclaimFault::Held)),
+            },
+        }
+    }
+}

@@ -1,0 +1,145 @@
+//! A table is opened in two steps, since what proofs call its log is known only once the row of words is there.
+ghost use Rattle.std.specs.Prelude.{◌≡◌, [], None, IfOk, IfErr, vec_len};
+ghost use Rattle.table_core.specs.declared.event.Event.TheVariants.{Enter};
+ghost use Rattle.table_core.specs.Lawful.{IsLawful};
+ghost use Rattle.version_words.specs.Rows.{limits_of};
+ghost use Rattle.version_words.specs.Views.{EndsWith, calls};
+ghost use Rattle.version_words.specs.Faults.{IsEnterFault};
+ghost use Rattle.hash_table.specs.Configs.{first_bad_with, sizes_of};
+ghost use Rattle.hash_table.specs.Openings.{IsOpenFault, IsNamedFault};
+
+use crate::caller::Caller;
+use crate::config::Config;
+use crate::limbo::Limbo;
+use crate::refusal::OpenFault;
+use crate::table::FarTable;
+use far_device::Device;
+use far_object::{FarObject, Format};
+use frame_cache::Frames;
+use lane_store::{LaneFault, LaneStore};
+use std::alloc::Global;
+use std::marker::{Model, PhantomData};
+use version_words::{EnterFault, Honesty, Naming, Opened, Sizes};
+
+/// Contents are vouched for as far as the device's type is honest.
+pub struct Vouched<D> {
+    of: PhantomData<D>,
+}
+
+impl<D: Device> Honesty for Vouched<D> {
+    ghost honest = { D.HONEST };
+}
+
+/// Settings that are within their limits, a row of words for them, and their devices. It has no name yet. Contracts see
+/// what proofs call the row, and the settings.
+#[derive(Drop)]
+pub struct Opening<K: FarObject, V: FarObject, D: Device> {
+    config: Config,
+    row: Opened<K, V, Vouched<D>>,
+    devices: Vec<D>,
+    ghost within: { first_bad_with (vec_len devices) config ≡ None },
+    ghost sizes: { row.sizes ≡ sizes_of config },
+}
+
+impl<K: FarObject, V: FarObject, D: Device> Model for Opening<K, V, D> {
+    ghost use Rattle.hash_table.specs.Openings.{OpeningView};
+
+    ghost Value = { OpeningView };
+
+    ghost view = { λ o. record { row = o.row; config = o.config } };
+}
+
+impl<K: FarObject, V: FarObject, D: Device> Opening<K, V, D> {
+    /// A row of words for these settings, whose words are all 0. There have to be as many devices as lanes.
+    ///
+    /// `BadConfig` comes where a setting is outside its limits, and names the first one; `Memory` where a growth is refused.
+    /// The devices are dropped then.
+    pub fn open(
+        alloc: Global,
+        config: Config,
+        devices: Vec<D>,
+    ) -> Result<Opening<K, V, D>, OpenFault>
+        ensures config { IfOk result (λ o. o.config ≡ config) }
+        ensures within { IfOk result (λ _. first_bad_with (vec_len devices) config ≡ None) }
+        ensures fault { IfErr result (λ e. IsOpenFault (first_bad_with (vec_len devices) config) e) }
+    {
+        if let Some(field) = config.first_bad_with(devices.len()) {
+            return Err(OpenFault::BadConfig(field));
+        }
+        let sizes = Sizes {
+            buckets: config.buckets,
+            names: config.names,
+            passes: config.passes,
+        };
+        match Opened::open(alloc, sizes) {
+            Ok(row) => Ok(Opening {
+                config,
+                row,
+                devices,
+            }),
+            Err(_) => Err(OpenFault::Memory),
+        }
+    }
+
+    /// The table under a name, which the caller picks so that it fits: no bucket has a pair, all frames are free, and the
+    /// devices are made empty.
+    ///
+    /// `Memory` comes where a growth is refused, `Device` where a device fails. All is dropped then.
+    pub fn named<J: Naming>(self, alloc: Global) -> Result<FarTable<K, V, J, D>, OpenFault>
+        requires book { self.row.book ≡ J.book }
+        requires boards { self.row.names ≡ J.names }
+        requires limits { limits_of (sizes_of self.config) D.HONEST ≡ J.limits }
+        ensures limit { IfOk result (λ t. t.limit ≡ self.config.limit) }
+        ensures frames { IfOk result (λ t. t.frames ≡ self.config.frames) }
+        ensures lanes { IfOk result (λ t. t.lanes ≡ self.config.lanes) }
+        ensures fault { IfErr result (λ e. IsNamedFault e) }
+    {
+        let Opening {
+            config,
+            row,
+            devices,
+        } = self;
+        let frames = match Frames::open(alloc, config.frames) {
+            Ok(frames) => frames,
+            Err(_) => return Err(OpenFault::Memory),
+        };
+        let lanes = match LaneStore::open(alloc, devices) {
+            Ok(lanes) => lanes,
+            Err(LaneFault::Memory) => return Err(OpenFault::Memory),
+            Err(LaneFault::Device) => return Err(OpenFault::Device),
+        };
+        let format = if config.format == 1 {
+            Format::One
+        } else {
+            Format::Two
+        };
+        Ok(FarTable {
+            words: row.named::<J>(),
+            frames,
+            lanes,
+            limit: config.limit,
+            format,
+        })
+    }
+}
+
+impl<K: FarObject, V: FarObject, J: Naming, D: Device> FarTable<K, V, J, D> {
+    /// A caller who has made no call: a new pass, and an empty limbo. It takes no memory.
+    ///
+    /// `PassesSpent` comes where the last pass was drawn, `Moved` where another one was drawn meanwhile.
+    pub fn enter(&self) -> Result<Caller<K, V, J>, EnterFault<K, V, J>>
+        ensures lawful { IfOk result (λ c. IsLawful K.enc V.enc J.limits c.pass.front) }
+        ensures entered { IfOk result (λ c. EndsWith [] (Enter c.pass.number) c.pass.front) }
+        ensures no_calls { IfOk result (λ c. calls c.pass ≡ []) }
+        ensures limbo { IfOk result (λ c. c.limbo ≡ []) }
+        ensures fault { IfErr result (λ e. IsEnterFault K.enc V.enc J.limits e) }
+    {
+        match self.words.enter() {
+            Ok(pass) => Ok(Caller {
+                pass,
+                limbo: Limbo::new(),
+            }),
+            Err(fault) => Err(fault),
+        }
+    }
+}

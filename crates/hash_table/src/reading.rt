@@ -1,0 +1,278 @@
+//! Gets.
+ghost use Rattle.std.specs.Prelude.{◌≡◌, ◌≢◌, ◌<◌, IsTrue, IfOk, IfErr};
+ghost use mathlib.Core.List.{IsPrefix};
+ghost use Rattle.far_object.specs.Buckets.{bucket};
+ghost use Rattle.table_core.specs.declared.operation.Operation.TheVariants.{Get};
+ghost use Rattle.table_core.specs.BucketWords.{name_of};
+ghost use Rattle.table_core.specs.Maps.{value_at};
+ghost use Rattle.table_core.specs.Logs.{contents, word};
+ghost use Rattle.table_core.specs.Lawful.{IsLawful};
+ghost use Rattle.version_words.specs.Views.{Goes, WasSeen};
+ghost use Rattle.hash_table.specs.Calls.{IsFinished, IsRefused};
+ghost use Rattle.hash_table.specs.Refusals.{OfLocalGet, OfFarGet, OfGet};
+ghost use Rattle.hash_table.specs.Rounds.{IsRound};
+ghost use Rattle.hash_table.specs.Stages.{IsUnread, IsUnreadFar};
+
+use crate::caller::Caller;
+use crate::refusal::Refusal;
+use crate::round::{Round, after};
+use crate::stages::seen::{Place, split};
+use crate::table::FarTable;
+use far_device::Device;
+use far_object::FarObject;
+use std::alloc::Global;
+use std::sync::Wait;
+use version_words::{Moved, Naming, Pass, Probe, empty_holds, seen_answers};
+
+impl<K: FarObject, V: FarObject, J: Naming, D: Device> FarTable<K, V, J, D> {
+    // Finds the word still there, and so enters a get that this answers.
+    fn answer(
+        &self,
+        pass: &mut Pass<K, V, J>,
+        b: u32,
+        old: u64,
+        key: &K,
+        answer: Option<V>,
+    ) -> Result<Option<V>, Moved>
+        requires bucket { (b < J.limits.buckets) × (bucket K.enc J.limits.buckets key.now ≡ b) }
+        requires seen { WasSeen K.enc J.limits.buckets pass.old.front b old }
+        requires value { IsTrue J.limits.honest → answer ≡ value_at K.enc key.now (contents pass.old.front (name_of old)) }
+        ensures lawful { IsLawful K.enc V.enc J.limits pass.new.front }
+        ensures finished { IfOk result (λ r. IsFinished K.enc V.enc J.limits pass.old (Get key.now) r pass.new) }
+        ensures goes { IfErr result (λ _. Goes pass.old pass.new) }
+        ensures moved { IfErr result (λ _. word K.enc J.limits.buckets pass.new.front b ≢ old) }
+    {
+        seen_answers::<K, V>();
+        match self.words.check(pass, b, old, &Probe::Get(key)) {
+            Ok(()) => Ok(answer),
+            Err(moved) => Err(moved),
+        }
+    }
+
+    // The value of a key in the contents of a word that was seen, which lie in a frame.
+    fn read_local(
+        &self,
+        alloc: Global,
+        pass: &Pass<K, V, J>,
+        b: u32,
+        old: u64,
+        key: &K,
+    ) -> Result<Option<V>, Refusal>
+        requires lawful { IsLawful K.enc V.enc J.limits pass.now.front }
+        requires seen { WasSeen K.enc J.limits.buckets pass.now.front b old }
+        ensures value { IfOk result (λ r. IsTrue J.limits.honest → r ≡ value_at K.enc key.now (contents pass.now.front (name_of old))) }
+        ensures why { IfErr result (λ e. IsUnread old e) }
+    {
+        match split(old) {
+            Place::Device => Err(Refusal::Far),
+            Place::Nothing => {
+                empty_holds::<K, V>();
+                Ok(None)
+            }
+            Place::Frame(frame) => {
+                let Ok(scope) = self.enter_frame(pass, b, old, frame) else {
+                    return Err(Refusal::Missed);
+                };
+                self.frames.touch(frame);
+                let found = scope.object().value(alloc, key);
+                scope.close();
+                match found {
+                    Ok(found) => Ok(found),
+                    Err(_) => Err(Refusal::Memory),
+                }
+            }
+        }
+    }
+
+    // The value of a key in the contents of a word that was seen, wherever they lie.
+    fn read_anywhere<R: Wait>(
+        &self,
+        rt: &R,
+        alloc: Global,
+        pass: &Pass<K, V, J>,
+        b: u32,
+        old: u64,
+        key: &K,
+    ) -> Result<Option<V>, Refusal>
+        requires lawful { IsLawful K.enc V.enc J.limits pass.now.front }
+        requires seen { WasSeen K.enc J.limits.buckets pass.now.front b old }
+        ensures value { IfOk result (λ r. IsTrue J.limits.honest → r ≡ value_at K.enc key.now (contents pass.now.front (name_of old))) }
+        ensures why { IfErr result (λ e. IsUnreadFar J.limits.honest e) }
+    {
+        match split(old) {
+            Place::Device => {}
+            Place::Nothing => {
+                return match self.read_local(alloc, pass, b, old, key) {
+                    Ok(found) => Ok(found),
+                    Err(refusal) => Err(refusal),
+                };
+            }
+            Place::Frame(_) => {
+                return match self.read_local(alloc, pass, b, old, key) {
+                    Ok(found) => Ok(found),
+                    Err(refusal) => Err(refusal),
+                };
+            }
+        }
+        let object = match self.read_device(rt, alloc, pass, b, old) {
+            Ok(object) => object,
+            Err(refusal) => return Err(refusal),
+        };
+        match object.value(alloc, key) {
+            Ok(found) => Ok(found),
+            Err(_) => Err(Refusal::Memory),
+        }
+    }
+
+    /// One try of a get, from a frame: the value of the key, copied, or none. It waits for nothing, and touches the frame.
+    ///
+    /// `Far` comes where the bucket's object lies on the device, `Missed` where the frame has another version by now,
+    /// `Memory` where the copy is refused, `Moved` where the bucket's word is another one at the end.
+    pub fn try_get(
+        &self,
+        alloc: Global,
+        caller: &mut Caller<K, V, J>,
+        key: &K,
+    ) -> Result<Option<V>, Refusal>
+        ensures lawful { IsLawful K.enc V.enc J.limits caller.new.pass.front }
+        ensures limbo { caller.new.limbo ≡ caller.old.limbo }
+        ensures finished { IfOk result (λ r. IsFinished K.enc V.enc J.limits caller.old.pass (Get key.now) r caller.new.pass) }
+        ensures goes { IfErr result (λ _. Goes caller.old.pass caller.new.pass) }
+        ensures refused { IfErr result (λ e. IsRefused K.enc V.enc J.limits (bucket K.enc J.limits.buckets key.now) caller.old.pass caller.new.pass e) }
+        ensures only { IfErr result (λ e. OfLocalGet e) }
+    {
+        let b = self.bucket(key);
+        let word = self.words.look(&mut caller.pass, b);
+        let found = match self.read_local(alloc, &caller.pass, b, word, key) {
+            Ok(found) => found,
+            Err(refusal) => return Err(refusal),
+        };
+        match self.answer(&mut caller.pass, b, word, key, found) {
+            Ok(answer) => Ok(answer),
+            Err(Moved) => Err(Refusal::Moved),
+        }
+    }
+
+    /// One try of a get, from a frame or from the device, where the object stays.
+    ///
+    /// `Missed` comes where the frame has another version by now or the lane has no receipt, `Device` where the device
+    /// fails, `Damaged` where what it gives is no object of this bucket and name, `Memory` where a growth is refused,
+    /// `Moved` where the bucket's word is another one at the end.
+    pub fn read_through<R: Wait>(
+        &self,
+        rt: &R,
+        alloc: Global,
+        caller: &mut Caller<K, V, J>,
+        key: &K,
+    ) -> Result<Option<V>, Refusal>
+        ensures lawful { IsLawful K.enc V.enc J.limits caller.new.pass.front }
+        ensures limbo { caller.new.limbo ≡ caller.old.limbo }
+        ensures finished { IfOk result (λ r. IsFinished K.enc V.enc J.limits caller.old.pass (Get key.now) r caller.new.pass) }
+        ensures goes { IfErr result (λ _. Goes caller.old.pass caller.new.pass) }
+        ensures refused { IfErr result (λ e. IsRefused K.enc V.enc J.limits (bucket K.enc J.limits.buckets key.now) caller.old.pass caller.new.pass e) }
+        ensures only { IfErr result (λ e. OfFarGet e) }
+    {
+        let b = self.bucket(key);
+        let word = self.words.look(&mut caller.pass, b);
+        let found = match self.read_anywhere(rt, alloc, &caller.pass, b, word, key) {
+            Ok(found) => found,
+            Err(refusal) => return Err(refusal),
+        };
+        match self.answer(&mut caller.pass, b, word, key, found) {
+            Ok(answer) => Ok(answer),
+            Err(Moved) => Err(Refusal::Moved),
+        }
+    }
+
+    // One round of a get of a far bucket: it is fetched, and where a swap-in lacks room it is read through.
+    fn get_far<R: Wait>(
+        &self,
+        rt: &R,
+        alloc: Global,
+        caller: &mut Caller<K, V, J>,
+        key: &K,
+    ) -> Result<Round<V>, Refusal>
+        ensures lawful { IsLawful K.enc V.enc J.limits caller.new.pass.front }
+        ensures limbo { IsPrefix caller.old.limbo caller.new.limbo }
+        ensures round { IfOk result (λ r. IsRound K.enc V.enc J.limits caller.old.pass (Get key.now) r caller.new.pass) }
+        ensures goes { IfErr result (λ _. Goes caller.old.pass caller.new.pass) }
+        ensures refused { IfErr result (λ e. IsRefused K.enc V.enc J.limits (bucket K.enc J.limits.buckets key.now) caller.old.pass caller.new.pass e) }
+        ensures only { IfErr result (λ e. OfGet e) }
+    {
+        match self.fetch(rt, alloc, caller, key) {
+            Ok(_) => Ok(Round::Again),
+            Err(refusal) => {
+                if !refusal.lacks_room() {
+                    return match after(refusal) {
+                        Ok(round) => Ok(round),
+                        Err(refusal) => Err(refusal),
+                    };
+                }
+                match self.read_through(rt, alloc, caller, key) {
+                    Ok(answer) => Ok(Round::Finished(answer)),
+                    Err(refusal) => match after(refusal) {
+                        Ok(round) => Ok(round),
+                        Err(refusal) => Err(refusal),
+                    },
+                }
+            }
+        }
+    }
+
+    // One round of a get.
+    fn get_round<R: Wait>(
+        &self,
+        rt: &R,
+        alloc: Global,
+        caller: &mut Caller<K, V, J>,
+        key: &K,
+    ) -> Result<Round<V>, Refusal>
+        ensures lawful { IsLawful K.enc V.enc J.limits caller.new.pass.front }
+        ensures limbo { IsPrefix caller.old.limbo caller.new.limbo }
+        ensures round { IfOk result (λ r. IsRound K.enc V.enc J.limits caller.old.pass (Get key.now) r caller.new.pass) }
+        ensures goes { IfErr result (λ _. Goes caller.old.pass caller.new.pass) }
+        ensures refused { IfErr result (λ e. IsRefused K.enc V.enc J.limits (bucket K.enc J.limits.buckets key.now) caller.old.pass caller.new.pass e) }
+        ensures only { IfErr result (λ e. OfGet e) }
+    {
+        match self.try_get(alloc, caller, key) {
+            Ok(answer) => Ok(Round::Finished(answer)),
+            Err(Refusal::Far) => match self.get_far(rt, alloc, caller, key) {
+                Ok(round) => Ok(round),
+                Err(refusal) => Err(refusal),
+            },
+            Err(refusal) => match after(refusal) {
+                Ok(round) => Ok(round),
+                Err(refusal) => Err(refusal),
+            },
+        }
+    }
+
+    /// A get that goes on until it is done. A far bucket is fetched; where no frame, no name or no room for a spare is left
+    /// for that, it is read through.
+    ///
+    /// `Memory` comes where a growth is refused, `Device` where the device fails, `Damaged` where what it gives is no object
+    /// of this bucket and name.
+    pub fn get<R: Wait>(
+        &self,
+        rt: &R,
+        alloc: Global,
+        caller: &mut Caller<K, V, J>,
+        key: &K,
+    ) -> Result<Option<V>, Refusal>
+        ensures lawful { IsLawful K.enc V.enc J.limits caller.new.pass.front }
+        ensures limbo { IsPrefix caller.old.limbo caller.new.limbo }
+        ensures finished { IfOk result (λ r. IsFinished K.enc V.enc J.limits caller.old.pass (Get key.now) r caller.new.pass) }
+        ensures goes { IfErr result (λ _. Goes caller.old.pass caller.new.pass) }
+        ensures refused { IfErr result (λ e. IsRefused K.enc V.enc J.limits (bucket K.enc J.limits.buckets key.now) caller.old.pass caller.new.pass e) }
+        ensures only { IfErr result (λ e. OfGet e) }
+    {
+        for _ in rt.forever() {
+            match self.get_round(rt, alloc, caller, key) {
+                Ok(Round::Finished(answer)) => return Ok(answer),
+                Ok(Round::Again) => {}
+                Err(refusal) => return Err(refusal),
+            }
+        }
+        unreachable!()
+    }
+}

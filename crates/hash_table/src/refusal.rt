@@ -1,0 +1,129 @@
+//! Why a call of the table is refused.
+ghost use Rattle.std.specs.Prelude.{◌≡◌};
+ghost use Rattle.hash_table.specs.Refusals.{passes_by, lacks_room};
+
+use far_object::Memory;
+use lane_store::LaneFault;
+use thiserror::Error;
+
+/// Why a call was not finished. The calls say which of these each may answer.
+#[derive(Clone, Copy, Debug, PartialEq, Eq, Error)]
+pub enum Refusal {
+    /// A growth of memory was refused.
+    #[error("memory")]
+    Memory,
+    /// The bucket's object lies on the device.
+    #[error("far")]
+    Far,
+    /// The bucket's word is another one by now, or another name was drawn.
+    #[error("moved")]
+    Moved,
+    /// The frame or the lane does not give the name.
+    #[error("missed")]
+    Missed,
+    /// A look over all frames found none free.
+    #[error("no frame")]
+    NoFrame,
+    /// The new object would be longer than the limit.
+    #[error("too long")]
+    TooLong,
+    /// The last name was drawn.
+    #[error("names spent")]
+    NamesSpent,
+    /// 64 spares wait in the caller.
+    #[error("limbo full")]
+    LimboFull,
+    /// The device failed in this call.
+    #[error("device")]
+    Device,
+    /// The bytes that were read are no object of this bucket and name.
+    #[error("damaged")]
+    Damaged,
+}
+
+impl Refusal {
+    // Whether another try may not meet it, without anything else being done.
+    pub(crate) fn passes_by(self) -> bool
+        ensures { result ≡ passes_by self }
+    {
+        match self {
+            Refusal::Moved => true,
+            Refusal::Missed => true,
+            _ => false,
+        }
+    }
+
+    // Whether a swap-in lacks a frame, a name, or room for a spare: a get can do without.
+    pub(crate) fn lacks_room(self) -> bool
+        ensures { result ≡ lacks_room self }
+    {
+        match self {
+            Refusal::NoFrame => true,
+            Refusal::NamesSpent => true,
+            Refusal::LimboFull => true,
+            _ => false,
+        }
+    }
+}
+
+/// Why no table was opened.
+#[derive(Clone, Copy, Debug, PartialEq, Eq, Error)]
+pub enum OpenFault {
+    /// The first field of the settings that is outside its limits, by its number.
+    #[error("bad config {0}")]
+    BadConfig(u32),
+    /// A growth of memory was refused.
+    #[error("memory")]
+    Memory,
+    /// A device failed as it was made empty.
+    #[error("device")]
+    Device,
+}
+
+/// Why a spare was not reclaimed.
+#[derive(Clone, Copy, Debug, PartialEq, Eq, Error)]
+pub enum ReclaimFault {
+    /// A reader is in its frame.
+    #[error("held")]
+    Held,
+    /// The device failed in this call.
+    #[error("device")]
+    Device,
+    /// A growth of memory was refused.
+    #[error("memory")]
+    Memory,
+}
+
+impl From<LaneFault> for Refusal {
+    ghost use Rattle.std.specs.Prelude.{◌≡◌};
+    ghost use Rattle.hash_table.specs.Refusals.{lane_refusal};
+
+    ghost from_gives = { λ fault refusal. refusal ≡ lane_refusal fault };
+
+    fn from(fault: LaneFault) -> Refusal {
+        match fault {
+            LaneFault::Memory => Refusal::Memory,
+            LaneFault::Device => Refusal::Device,
+        }
+    }
+}
+
+impl From<Memory> for Refusal {
+    ghost use Rattle.std.specs.Prelude.{◌≡◌};
+    ghost use Rattle.hash_table.specs.declared.refusal.Refusal.TheVariants as refusal;
+
+    ghost from_gives = { λ _ result. result ≡ refusal.Memory };
+
+    fn from(_refused: Memory) -> Refusal {
+        Refusal::Memory
+    }
+}
+
+impl From<LaneFault> for ReclaimFault {
+    fn from(fault: LaneFault) -> ReclaimFault {
+        match fault {
+            LaneFault::Memory => ReclaimFault::Memory,
+            LaneFault::Device => ReclaimFault::Device,
+        }
+    }
+}

@@ -1,0 +1,129 @@
+//! A value that stays readable.
+ghost use Rattle.std.specs.Prelude.{◌≡◌, ◌≢◌, IsTrue, Some, IfOk, IfErr, IfSome};
+ghost use Rattle.far_object.specs.Buckets.{bucket};
+ghost use Rattle.table_core.specs.declared.operation.Operation.TheVariants.{Get};
+ghost use Rattle.table_core.specs.BucketWords.{name_of};
+ghost use Rattle.table_core.specs.Logs.{word};
+ghost use Rattle.table_core.specs.Lawful.{IsLawful};
+ghost use Rattle.version_words.specs.Views.{Goes};
+ghost use Rattle.hash_table.specs.Calls.{IsFinished, IsRefused};
+ghost use Rattle.hash_table.specs.Refusals.{OfScope};
+ghost use Rattle.hash_table.specs.Scopes.{shown, Encodes};
+
+use crate::caller::Caller;
+use crate::refusal::Refusal;
+use crate::stages::seen::{Place, split};
+use crate::table::FarTable;
+use far_device::Device;
+use far_object::{FarObject, Memory};
+use frame_cache::Scope;
+use std::alloc::Global;
+use std::marker::Model;
+use std::ops::Range;
+use version_words::{Naming, Probe, empty_holds, seen_answers};
+
+/// A value that stays where it is until this is closed. It has to be closed, in its own thread. Contracts see the value and
+/// the name of its version.
+pub struct TableScope<'a, K: FarObject, V: FarObject, J: Naming> {
+    scope: Scope<'a, K, V, J>,
+    place: Range<usize>,
+}
+
+impl<'a, K: FarObject, V: FarObject, J: Naming> Model for TableScope<'a, K, V, J> {
+    ghost use Rattle.std.specs.List.{between};
+    ghost use Rattle.far_object.specs.Objects.{object_of};
+    ghost use Rattle.hash_table.specs.Scopes.{ScopeView, IsShown};
+
+    ghost Value = { ScopeView V };
+
+    ghost view = { λ s. record { name = s.scope.name; value = V.dec (between s.place.start s.place.end (object_of K.enc V.enc s.scope.object)) } };
+
+    ghost invariant = { λ s. IsShown K.enc V.enc s.scope.object s.place };
+}
+
+impl<'a, K: FarObject, V: FarObject, J: Naming> TableScope<'a, K, V, J> {
+    /// The value's encoding, where it lies.
+    pub fn bytes(&self) -> &[u8]
+        ensures encoding { Encodes V.enc self.now.value result.now }
+        ensures decoded { V.dec result.now ≡ self.now.value }
+    {
+        &self.scope.object().as_bytes()[self.place.start..self.place.end]
+    }
+
+    /// The value, decoded into memory of its own. `Memory` comes where that is refused.
+    pub fn value(&self, alloc: Global) -> Result<V, Memory>
+        ensures { IfOk result (λ v. self.now.value ≡ Some v) }
+    {
+        match V::decode(alloc, self.bytes()) {
+            Ok((value, _)) => Ok(value),
+            Err(_) => Err(Memory),
+        }
+    }
+
+    /// The name of its version.
+    pub fn name(&self) -> u64
+        ensures { result ≡ self.now.name }
+    {
+        self.scope.name()
+    }
+
+    /// Lets the frame go, in which the version may end from now on.
+    pub fn close(self) {
+        let Self { scope, place: _ } = self;
+        scope.close();
+    }
+}
+
+impl<K: FarObject, V: FarObject, J: Naming, D: Device> FarTable<K, V, J, D> {
+    /// One try of a get whose value stays readable, from a frame: a scope on the value, or none. It waits for nothing, takes
+    /// no memory and copies nothing, and touches the frame.
+    ///
+    /// `Far` comes where the bucket's object lies on the device, `Missed` where the frame has another version by now,
+    /// `Moved` where the bucket's word is another one at the end.
+    pub fn open_scope(
+        &self,
+        caller: &mut Caller<K, V, J>,
+        key: &K,
+    ) -> Result<Option<TableScope<'_, K, V, J>>, Refusal>
+        ensures lawful { IsLawful K.enc V.enc J.limits caller.new.pass.front }
+        ensures limbo { caller.new.limbo ≡ caller.old.limbo }
+        ensures finished { IfOk result (λ s. IsFinished K.enc V.enc J.limits caller.old.pass (Get key.now) (shown s) caller.new.pass) }
+        ensures name { IfOk result (λ s. IfSome s (λ t. t.name ≡ name_of (word K.enc J.limits.buckets caller.new.pass.front (bucket K.enc J.limits.buckets key.now)))) }
+        ensures goes { IfErr result (λ _. Goes caller.old.pass caller.new.pass) }
+        ensures refused { IfErr result (λ e. IsRefused K.enc V.enc J.limits (bucket K.enc J.limits.buckets key.now) caller.old.pass caller.new.pass e) }
+        ensures only { IfErr result (λ e. OfScope e) }
+    {
+        seen_answers::<K, V>();
+        empty_holds::<K, V>();
+        let b = self.bucket(key);
+        let old = self.words.look(&mut caller.pass, b);
+        match split(old) {
+            Place::Device => Err(Refusal::Far),
+            Place::Nothing => {
+                let Ok(()) = self.words.check(&mut caller.pass, b, old, &Probe::Get(key)) else {
+                    return Err(Refusal::Moved);
+                };
+                Ok(None)
+            }
+            Place::Frame(frame) => {
+                let Ok(scope) = self.enter_frame(&caller.pass, b, old, frame) else {
+                    return Err(Refusal::Missed);
+                };
+                self.frames.touch(frame);
+                let _bytes = scope.object().as_bytes();
+                let found = scope.object().find(key);
+                let Ok(()) = self.words.check(&mut caller.pass, b, old, &Probe::Get(key)) else {
+                    scope.close();
+                    return Err(Refusal::Moved);
+                };
+                match found {
+                    None => {
+                        scope.close();
+                        Ok(None)
+                    }
+                    Some(place) => Ok(Some(TableScope { scope, place })),
+                }
+            }
+        }
+    }
+}

@@ -1,0 +1,179 @@
+//! What an operation makes of an object, and whether that is within the limit.
+ghost use Rattle.std.specs.Prelude.{◌≡◌, ◌≤◌, [], ◌∷◌, IfOk, IfErr, IfNone};
+ghost use Rattle.std.specs.BTreeMap.{insert_entry};
+ghost use Rattle.far_object.specs.Buckets.{key_cmp};
+ghost use Rattle.table_core.specs.declared.operation.Operation.TheVariants as op;
+ghost use Rattle.table_core.specs.Maps.{reply, is_met};
+ghost use Rattle.table_core.specs.Lent.{lent_value};
+ghost use Rattle.hash_table.specs.Edits.{edited, MayLeave, Leaves};
+ghost use Rattle.hash_table.specs.Stages.{IsUnmade};
+
+use crate::edit::Edit;
+use crate::refusal::Refusal;
+use far_object::{FarObject, MOST_PAIRS, Object, full_objects_grow_too_long};
+use std::alloc::Global;
+
+/// What an operation answers, and the object that it makes; none where it leaves the one that there is.
+#[derive(Drop)]
+pub struct Built<K: FarObject, V: FarObject> {
+    pub(crate) answer: Option<V>,
+    pub(crate) object: Option<Object<K, V>>,
+}
+
+// Whether the value is the expected one.
+fn is_met<V: FarObject>(expected: Option<&V>, found: &Option<V>) -> bool
+    ensures { result ≡ is_met V.enc (lent_value expected.entry) found.now }
+{
+    match (expected, found) {
+        (None, None) => true,
+        (Some(expected), Some(found)) => expected.compare(found).is_eq(),
+        _ => false,
+    }
+}
+
+// The object with the value at the key, where it is no longer than the limit.
+fn with<K: FarObject, V: FarObject>(
+    alloc: Global,
+    object: &Object<K, V>,
+    key: &K,
+    value: &V,
+    limit: u32,
+) -> Result<Object<K, V>, Refusal>
+    requires limited { limit ≤ 1048576 }
+    ensures with { IfOk result (λ o. o ≡ insert_entry (key_cmp K.enc) object.now key.now value.now) }
+    ensures why { IfErr result (λ e. IsUnmade K.enc V.enc limit object.now (op.Put key.now value.now) e) }
+{
+    full_objects_grow_too_long::<K, V>();
+    let _map = object.as_bytes();
+    if object.count() >= MOST_PAIRS {
+        return Err(Refusal::TooLong);
+    }
+    let object = match object.with(alloc, key, value) {
+        Ok(object) => object,
+        Err(_) => return Err(Refusal::Memory),
+    };
+    if object.as_bytes().len() > limit as usize {
+        return Err(Refusal::TooLong);
+    }
+    Ok(object)
+}
+
+// The object of this one pair, where it is no longer than the limit.
+fn only<K: FarObject, V: FarObject>(
+    alloc: Global,
+    key: &K,
+    value: &V,
+    limit: u32,
+) -> Result<Object<K, V>, Refusal>
+    ensures only { IfOk result (λ o. o ≡ (key.now, value.now) ∷ []) }
+    ensures why { IfErr result (λ e. IsUnmade K.enc V.enc limit [] (op.Put key.now value.now) e) }
+{
+    let object = match Object::of_pair(alloc, key, value) {
+        Ok(object) => object,
+        Err(_) => return Err(Refusal::Memory),
+    };
+    if object.as_bytes().len() > limit as usize {
+        return Err(Refusal::TooLong);
+    }
+    Ok(object)
+}
+
+/// What the operation makes of a bucket without a pair. It takes no memory where it leaves the bucket, and one allocation
+/// where it sets the key.
+pub(crate) fn build_first<K: FarObject, V: FarObject>(
+    alloc: Global,
+    edit: &Edit<'_, K, V>,
+    limit: u32,
+) -> Result<Built<K, V>, Refusal>
+    ensures answer { IfOk result (λ t. t.answer ≡ reply K.enc [] (edited edit.now)) }
+    ensures object { IfOk result (λ t. Leaves K.enc V.enc [] (edited edit.now) t.object) }
+    ensures may { IfOk result (λ t. IfNone t.object (MayLeave edit.now)) }
+    ensures why { IfErr result (λ e. IsUnmade K.enc V.enc limit [] (edited edit.now) e) }
+{
+    match edit {
+        Edit::Put(key, value) => match only(alloc, *key, *value, limit) {
+            Ok(made) => Ok(Built {
+                answer: None,
+                object: Some(made),
+            }),
+            Err(refusal) => Err(refusal),
+        },
+        Edit::Remove(_) => Ok(Built {
+            answer: None,
+            object: None,
+        }),
+        Edit::PutIf(key, expected, value) => {
+            if !is_met(*expected, &None) {
+                return Ok(Built {
+                    answer: None,
+                    object: None,
+                });
+            }
+            match only(alloc, *key, *value, limit) {
+                Ok(made) => Ok(Built {
+                    answer: None,
+                    object: Some(made),
+                }),
+                Err(refusal) => Err(refusal),
+            }
+        }
+    }
+}
+
+/// What the operation makes of the object.
+pub(crate) fn build<K: FarObject, V: FarObject>(
+    alloc: Global,
+    object: &Object<K, V>,
+    edit: &Edit<'_, K, V>,
+    limit: u32,
+) -> Result<Built<K, V>, Refusal>
+    requires limited { limit ≤ 1048576 }
+    ensures answer { IfOk result (λ t. t.answer ≡ reply K.enc object.now (edited edit.now)) }
+    ensures object { IfOk result (λ t. Leaves K.enc V.enc object.now (edited edit.now) t.object) }
+    ensures may { IfOk result (λ t. IfNone t.object (MayLeave edit.now)) }
+    ensures why { IfErr result (λ e. IsUnmade K.enc V.enc limit object.now (edited edit.now) e) }
+{
+    let answer = match object.value(alloc, edit.key()) {
+        Ok(answer) => answer,
+        Err(_) => return Err(Refusal::Memory),
+    };
+    match edit {
+        Edit::Put(key, value) => match with(alloc, object, *key, *value, limit) {
+            Ok(made) => Ok(Built {
+                answer,
+                object: Some(made),
+            }),
+            Err(refusal) => Err(refusal),
+        },
+        Edit::Remove(key) => {
+            if answer.is_none() {
+                return Ok(Built {
+                    answer,
+                    object: None,
+                });
+            }
+            match object.without(alloc, *key) {
+                Ok(made) => Ok(Built {
+                    answer,
+                    object: Some(made),
+                }),
+                Err(_) => Err(Refusal::Memory),
+            }
+        }
+        Edit::PutIf(key, expected, value) => {
+            if !is_met(*expected, &answer) {
+                return Ok(Built {
+                    answer,
+                    object: None,
+                });
+            }
+            match with(alloc, object, *key, *value, limit) {
+                Ok(made) => Ok(Built {
+                    answer,
+                    object: Some(made),
+                }),
+                Err(refusal) => Err(refusal),
+            }
+        }
+    }
+}

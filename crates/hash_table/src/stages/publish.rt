@@ -1,0 +1,135 @@
+//! A new object gets a name and a place, and is installed over the word that was seen.
+ghost use Rattle.std.specs.Prelude.{◌≡◌, ◌<◌, ℕ, [], IsTrue, IfOk, IfErr, length};
+ghost use Rattle.table_core.specs.BucketWords.{name_of, place_of, empty_place};
+ghost use Rattle.table_core.specs.Logs.{contents};
+ghost use Rattle.table_core.specs.Lawful.{IsLawful};
+ghost use Rattle.version_words.specs.Views.{Goes, MakesCall, WasSeen, Follows, IsOfBucket, operation_of, installing, changed, MovesObject};
+ghost use Rattle.hash_table.specs.Calls.{AtMostOneMore, most_spares};
+ghost use Rattle.hash_table.specs.Stages.{IsUndrawn, IsUnpublished};
+
+use crate::limbo::Limbo;
+use crate::refusal::Refusal;
+use crate::table::FarTable;
+use far_device::Device;
+use far_object::{FarObject, Object};
+use frame_cache::Version;
+use table_core::word::EMPTY_PLACE;
+use version_words::{Change, Moved, Name, NameFault, Naming, Pass, changes_fit, seen_stay};
+
+impl<K: FarObject, V: FarObject, J: Naming, D: Device> FarTable<K, V, J, D> {
+    /// Draws a name for what the change makes of the contents of a word that was seen.
+    pub(crate) fn draw(
+        &self,
+        pass: &mut Pass<K, V, J>,
+        b: u32,
+        old: u64,
+        object: &Object<K, V>,
+        change: &Change<'_, K, V>,
+    ) -> Result<Name<K, V, J>, Refusal>
+        requires bucket { (b < J.limits.buckets) × IsOfBucket K.enc J.limits.buckets b (operation_of change.now) }
+        requires lawful { IsLawful K.enc V.enc J.limits pass.old.front }
+        requires seen { WasSeen K.enc J.limits.buckets pass.old.front b old }
+        requires contents { IsTrue J.limits.honest → object.now ≡ changed K.enc V.enc (contents pass.old.front (name_of old)) (operation_of change.now) }
+        ensures pass { Goes pass.old pass.new }
+        ensures lawful { IsLawful K.enc V.enc J.limits pass.new.front }
+        ensures name { IfOk result (λ n. (n.bucket ≡ b) × (n.front ≡ pass.new.front)) }
+        ensures newer { IfOk result (λ n. name_of old < n.number) }
+        ensures object { IfOk result (λ n. contents n.front n.number ≡ object.now) }
+        ensures seen { WasSeen K.enc J.limits.buckets pass.new.front b old }
+        ensures contents { IfOk result (λ n. IsTrue J.limits.honest → contents n.front n.number ≡ changed K.enc V.enc (contents pass.new.front (name_of old)) (operation_of change.now)) }
+        ensures why { IfErr result (λ e. IsUndrawn J.limits pass.old pass.new e) }
+    {
+        changes_fit::<K, V>();
+        seen_stay::<K, V>();
+        match self.words.name(pass, b, object) {
+            Ok(name) => Ok(name),
+            Err(NameFault::NamesSpent) => Err(Refusal::NamesSpent),
+            Err(NameFault::Moved) => Err(Refusal::Moved),
+        }
+    }
+
+    /// Puts the object into a frame under a new name, and installs it.
+    pub(crate) fn publish_local(
+        &self,
+        pass: &mut Pass<K, V, J>,
+        limbo: &mut Limbo<K, V, J>,
+        b: u32,
+        old: u64,
+        object: Object<K, V>,
+        change: &Change<'_, K, V>,
+    ) -> Result<(), Refusal>
+        requires bucket { (b < J.limits.buckets) × IsOfBucket K.enc J.limits.buckets b (operation_of change.now) }
+        requires lawful { IsLawful K.enc V.enc J.limits pass.old.front }
+        requires seen { WasSeen K.enc J.limits.buckets pass.old.front b old }
+        requires contents { IsTrue J.limits.honest → object ≡ changed K.enc V.enc (contents pass.old.front (name_of old)) (operation_of change.now) }
+        requires moves { (frame : ℕ) → frame < empty_place → MovesObject (operation_of change.now) old frame }
+        requires room { length limbo.old < most_spares }
+        ensures lawful { IsLawful K.enc V.enc J.limits pass.new.front }
+        ensures limbo { AtMostOneMore limbo.old limbo.new }
+        ensures made { IfOk result (λ _. MakesCall (operation_of change.now) pass.old pass.new) }
+        ensures follows { IfOk result (λ _. (w : ℕ) × (place_of w < self.now.frames) × Follows K.enc J.limits.buckets pass.old.front b old (installing pass.old.number b w (operation_of change.now)) pass.new.front) }
+        ensures goes { IfErr result (λ _. Goes pass.old pass.new) }
+        ensures why { IfErr result (λ e. IsUnpublished K.enc J.limits b old pass.old pass.new e) }
+    {
+        let Ok(reserved) = self.frames.reserve() else {
+            let _front = pass.mark();
+            return Err(Refusal::NoFrame);
+        };
+        let name = match self.draw(pass, b, old, &object, change) {
+            Ok(name) => name,
+            Err(refusal) => {
+                reserved.cancel();
+                return Err(refusal);
+            }
+        };
+        let frame = reserved.frame();
+        reserved.fill(Version::new(&name, object));
+        match self.words.install(pass, b, old, name, frame, change) {
+            Ok(installed) => {
+                limbo.keep(installed.spare);
+                Ok(())
+            }
+            Err((Moved, name)) => {
+                limbo.keep(Some(name.give_up(frame)));
+                Err(Refusal::Moved)
+            }
+        }
+    }
+
+    /// Installs an object of no pairs under a new name. It lies nowhere.
+    pub(crate) fn publish_empty(
+        &self,
+        pass: &mut Pass<K, V, J>,
+        limbo: &mut Limbo<K, V, J>,
+        b: u32,
+        old: u64,
+        object: &Object<K, V>,
+        change: &Change<'_, K, V>,
+    ) -> Result<(), Refusal>
+        requires bucket { (b < J.limits.buckets) × IsOfBucket K.enc J.limits.buckets b (operation_of change.now) }
+        requires lawful { IsLawful K.enc V.enc J.limits pass.old.front }
+        requires seen { WasSeen K.enc J.limits.buckets pass.old.front b old }
+        requires contents { IsTrue J.limits.honest → object.now ≡ changed K.enc V.enc (contents pass.old.front (name_of old)) (operation_of change.now) }
+        requires none { object.now ≡ [] }
+        requires moves { MovesObject (operation_of change.now) old empty_place }
+        requires room { length limbo.old < most_spares }
+        ensures lawful { IsLawful K.enc V.enc J.limits pass.new.front }
+        ensures limbo { AtMostOneMore limbo.old limbo.new }
+        ensures made { IfOk result (λ _. MakesCall (operation_of change.now) pass.old pass.new) }
+        ensures follows { IfOk result (λ _. (w : ℕ) × Follows K.enc J.limits.buckets pass.old.front b old (installing pass.old.number b w (operation_of change.now)) pass.new.front) }
+        ensures goes { IfErr result (λ _. Goes pass.old pass.new) }
+        ensures why { IfErr result (λ e. IsUnpublished K.enc J.limits b old pass.old pass.new e) }
+    {
+        let name = match self.draw(pass, b, old, object, change) {
+            Ok(name) => name,
+            Err(refusal) => return Err(refusal),
+        };
+        match self.words.install(pass, b, old, name, EMPTY_PLACE, change) {
+            Ok(installed) => {
+                limbo.keep(installed.spare);
+                Ok(())
+            }
+            Err((Moved, _)) => Err(Refusal::Moved),
+        }
+    }
+}

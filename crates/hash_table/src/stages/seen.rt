@@ -1,0 +1,29 @@
+//! Where the contents of a word lie.
+ghost use Rattle.hash_table.specs.Stages.{IsPlace};
+
+use table_core::word::{EMPTY_PLACE, FAR_PLACE, place_of};
+
+/// Where the contents of a word lie.
+#[derive(Clone, Copy, Debug, PartialEq, Eq)]
+pub enum Place {
+    /// There are none.
+    Nothing,
+    /// In this frame.
+    Frame(u32),
+    /// On the device, under the word's name.
+    Device,
+}
+
+/// Where the contents of the word lie.
+pub(crate) fn split(word: u64) -> Place
+    ensures { IsPlace word result }
+{
+    if word == 0 {
+        return Place::Nothing;
+    }
+    match place_of(word) {
+        EMPTY_PLACE => Place::Nothing,
+        FAR_PLACE => Place::Device,
+        frame => Place::Frame(frame),
+    }
+}
