@@ -1,17 +1,15 @@
 -- How what is seen in a call adds up.
-use Rattle.std.proofs.Common.{◌≡◌, ◌≢◌, ℕ, ◌+◌, ◌*◌, ◌^◌, ◌<◌, arith, List, [], ◌∷◌, ◌++◌, Option, Some, None, IsTrue, length, refl, ap, sym, ◌∙◌, subst, inl, inr, ◌⊎◌}
-use mathlib.Core.List.{IsPrefix}
+use Rattle.std.proofs.Common.{◌≡◌, ℕ, ◌^◌, ◌<◌, arith, List, [], ◌∷◌, ◌++◌, Option, Some, None, IsTrue, refl, ap, ◌∙◌, subst}
 use Rattle.far_object.specs.Buckets.{bucket}
-use Rattle.far_object.specs.Objects.{object_of}
 use Rattle.table_core.specs.declared.event.Event.{Event}
 use Rattle.table_core.specs.declared.event.Event.TheVariants.{Done}
 use Rattle.table_core.specs.declared.limits.Limits.{Limits}
 use Rattle.table_core.specs.declared.operation.Operation.{Operation}
-use Rattle.table_core.specs.BucketWords.{name_of, place_of, pack, far_place}
-use Rattle.table_core.specs.Maps.{key_of, reply, after, at_bucket, map_of}
-use Rattle.table_core.specs.Logs.{word, contents, history, names_of}
+use Rattle.table_core.specs.BucketWords.{name_of, place_of, pack}
+use Rattle.table_core.specs.Maps.{key_of, reply}
+use Rattle.table_core.specs.Logs.{contents}
 use Rattle.table_core.specs.Lawful.{IsLawful}
-use Rattle.version_words.specs.Views.{PassView, Goes, Calls, MakesCall, WasSeen, Follows, IsAnswered, calls, calls_of, installing}
+use Rattle.version_words.specs.Views.{PassView, Goes, Calls, MakesCall, WasSeen, Follows, IsAnswered, installing}
 use Rattle.version_words.specs.Laws.{SeenAnswers}
 use Rattle.version_words.proofs.Fronts.{prefix_self, prefix_trans}
 use Rattle.hash_table.specs.Calls.{IsFinished}

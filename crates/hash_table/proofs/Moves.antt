@@ -1,5 +1,5 @@
 -- What moves tell.
-use Rattle.std.proofs.Common.{◌≡◌, ◌≢◌, ℕ, List, [], ◌∷◌, ◌++◌}
+use Rattle.std.proofs.Common.{◌≡◌, ◌≢◌, ℕ, List}
 use Rattle.table_core.specs.declared.event.Event.TheVariants.{Moved}
 use Rattle.table_core.specs.declared.limits.Limits.{Limits}
 use Rattle.table_core.specs.BucketWords.{place_of, far_place}

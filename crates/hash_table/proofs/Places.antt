@@ -1,5 +1,5 @@
 -- Words whose place is not the device.
-use Rattle.std.proofs.Common.{◌≡◌, ◌≢◌, ℕ, ◌+◌, ◌<◌, ◌==◌, Bool, IsTrue, true, false, cond, refl, sym, arith, ap}
+use Rattle.std.proofs.Common.{◌≡◌, ◌≢◌, ℕ, ◌<◌, ◌==◌, Bool, true, false, cond, refl, arith}
 use Rattle.std.proofs.lemmas.Bool.Decides.{nat_tests}
 use Rattle.table_core.specs.BucketWords.{place_of, empty_place, far_place}
 use Rattle.version_words.specs.Views.{has_object}

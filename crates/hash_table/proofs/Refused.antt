@@ -1,10 +1,7 @@
 -- Why a call is refused where a stage of it was.
-use Rattle.std.proofs.Common.{◌≡◌, ◌≢◌, ℕ, ◌+◌, ◌<◌, Bool, IsTrue, arith, List, [], ◌∷◌, ◌++◌, Option, Some, None, length, refl, ap, sym, ◌∙◌, subst, inl, inr, ◌⊎◌}
-use mathlib.Core.List.{IsPrefix}
-use Rattle.far_object.specs.Buckets.{bucket}
+use Rattle.std.proofs.Common.{◌≡◌, ◌≢◌, ℕ, ◌<◌, Bool, IsTrue, List, length, ap, ◌∙◌, subst, inl, inr, ◌⊎◌}
 use Rattle.far_object.specs.Objects.{object_of}
 use Rattle.table_core.specs.declared.event.Event.{Event}
-use Rattle.table_core.specs.declared.event.Event.TheVariants.{Done}
 use Rattle.table_core.specs.declared.limits.Limits.{Limits}
 use Rattle.table_core.specs.declared.operation.Operation.{Operation}
 use Rattle.table_core.specs.BucketWords.{name_of, place_of, far_place}
@@ -15,11 +12,9 @@ use Rattle.table_core.proofs.Histories.{agree}
 use Rattle.version_words.specs.Views.{PassView, Goes}
 use Rattle.version_words.proofs.Fronts.{prefix_self, prefix_trans}
 use Rattle.hash_table.specs.Calls.{SeenInCall, IsTooLong, HasMoved, IsRefused, IsUnchanged}
-use Rattle.hash_table.specs.Edits.{Sets}
 use Rattle.hash_table.specs.Stages.{IsUnread, IsUnreadFar, IsUnmade, IsUnbuilt, IsUnbuiltFar, IsUndrawn, IsUnpublished}
 use Rattle.hash_table.specs.declared.refusal.Refusal.{Refusal}
 use Rattle.hash_table.specs.declared.refusal.Refusal.TheVariants as refusal
-use Rattle.hash_table.proofs.Fronts.{goes_self, goes_trans}
 
 module _ {K V : Type 0} (ek : K → List ℕ) (ev : V → List ℕ) where
   -- what is not made of contents is not made of those that they are over an honest device

@@ -1,12 +1,9 @@
 -- Settings of which none is bad.
-use Rattle.std.proofs.Common.{◌≡◌, ℕ, ◌+◌, ◌<◌, ◌≤◌, ◌==◌, Bool, true, false, cond, List, [], ◌∷◌, Option, Some, None, refl, arith, rules}
+use Rattle.std.proofs.Common.{◌≡◌, ℕ, ◌<◌, ◌≤◌, ◌==◌, Bool, true, false, Option, Some, None, refl, arith, rules}
 use Rattle.std.proofs.lemmas.Bool.Decides.{nat_tests}
 use Rattle.std.proofs.lemmas.Grind.{common_steps}
-use Rattle.std.specs.Prelude.{not, position}
-use Rattle.std.specs.List.{AllByRecursion, prefix_len, position_or_len}
 use Rattle.hash_table.specs.declared.config.Config.{Config}
-use Rattle.hash_table.specs.declared.config.Field.{Field}
-use Rattle.hash_table.specs.Configs.{fields, is_within, is_outside, first_bad, first_bad_with, or_lanes}
+use Rattle.hash_table.specs.Configs.{first_bad, first_bad_with, or_lanes}
 
 split : (first : Option ℕ) (same : Bool) → or_lanes first same ≡ None → (first ≡ None) × (same ≡ true)
 split first true h = (h, refl)

@@ -1,7 +1,5 @@
 -- Which refusals there may be.
 use Rattle.std.specs.Prelude.{Bool, true, false, ⊤}
-use Rattle.lane_store.specs.declared.fault.LaneFault.{LaneFault}
-use Rattle.lane_store.specs.declared.fault.LaneFault.TheVariants as lane
 use Rattle.hash_table.specs.declared.refusal.Refusal.{Refusal}
 use Rattle.hash_table.specs.declared.refusal.Refusal.TheVariants as refusal
 
@@ -17,11 +15,6 @@ lacks_room refusal.NoFrame = true
 lacks_room refusal.NamesSpent = true
 lacks_room refusal.LimboFull = true
 lacks_room _ = false
-
--- the refusal of a call whose lane has this fault
-abbrev pub lane_refusal : LaneFault → Refusal
-lane_refusal lane.Memory = refusal.Memory
-lane_refusal lane.Device = refusal.Device
 
 -- of one try of a get from a frame
 abbrev pub OfLocalGet : Refusal → Type 0
@@ -53,14 +46,6 @@ OfGet refusal.Memory = ⊤
 OfGet refusal.Device = ⊤
 OfGet refusal.Damaged = ⊤
 OfGet _ = ⊥
-
--- of a look at all pairs of a bucket
-abbrev pub OfPairs : Refusal → Type 0
-OfPairs refusal.Memory = ⊤
-OfPairs refusal.Missed = ⊤
-OfPairs refusal.Device = ⊤
-OfPairs refusal.Damaged = ⊤
-OfPairs _ = ⊥
 
 -- of one try of a change over a frame
 abbrev pub OfLocalChange : Refusal → Type 0

@@ -290,13 +290,13 @@ impl<K: FarObject, V: FarObject, J: Naming, D: Device> FarTable<K, V, J, D> {
     }
 
     /// One try of a put where the key's value is the expected one, over a frame.
-    pub fn try_put_if<'a>(
+    pub fn try_put_if(
         &self,
         alloc: Global,
         caller: &mut Caller<K, V, J>,
-        key: &'a K,
-        expected: Option<&'a V>,
-        value: &'a V,
+        key: &K,
+        expected: Option<&V>,
+        value: &V,
     ) -> Result<Option<V>, Refusal>
         ensures lawful { IsLawful K.enc V.enc J.limits caller.new.pass.front }
         ensures limbo { AtMostOneMore caller.old.limbo caller.new.limbo }
@@ -350,14 +350,14 @@ impl<K: FarObject, V: FarObject, J: Naming, D: Device> FarTable<K, V, J, D> {
     }
 
     /// A put_if that goes on until it is done, as `put` does.
-    pub fn put_if<'a, R: Wait>(
+    pub fn put_if<R: Wait>(
         &self,
         rt: &R,
         alloc: Global,
         caller: &mut Caller<K, V, J>,
-        key: &'a K,
-        expected: Option<&'a V>,
-        value: &'a V,
+        key: &K,
+        expected: Option<&V>,
+        value: &V,
     ) -> Result<Option<V>, Refusal>
         ensures lawful { IsLawful K.enc V.enc J.limits caller.new.pass.front }
         ensures limbo { IsPrefix caller.old.limbo caller.new.limbo }

@@ -2,8 +2,6 @@
 ghost use Rattle.std.specs.Prelude.{◌≡◌};
 ghost use Rattle.hash_table.specs.Refusals.{passes_by, lacks_room};
 
-use far_object::Memory;
-use lane_store::LaneFault;
 use thiserror::Error;
 
 /// Why a call was not finished. The calls say which of these each may answer.
@@ -92,38 +90,4 @@ pub enum ReclaimFault {
     /// A growth of memory was refused.
     #[error("memory")]
     Memory,
-}
-
-impl From<LaneFault> for Refusal {
-    ghost use Rattle.std.specs.Prelude.{◌≡◌};
-    ghost use Rattle.hash_table.specs.Refusals.{lane_refusal};
-
-    ghost from_gives = { λ fault refusal. refusal ≡ lane_refusal fault };
-
-    fn from(fault: LaneFault) -> Refusal {
-        match fault {
-            LaneFault::Memory => Refusal::Memory,
-            LaneFault::Device => Refusal::Device,
-        }
-    }
-}
-
-impl From<Memory> for Refusal {
-    ghost use Rattle.std.specs.Prelude.{◌≡◌};
-    ghost use Rattle.hash_table.specs.declared.refusal.Refusal.TheVariants as refusal;
-
-    ghost from_gives = { λ _ result. result ≡ refusal.Memory };
-
-    fn from(_refused: Memory) -> Refusal {
-        Refusal::Memory
-    }
-}
-
-impl From<LaneFault> for ReclaimFault {
-    fn from(fault: LaneFault) -> ReclaimFault {
-        match fault {
-            LaneFault::Memory => ReclaimFault::Memory,
-            LaneFault::Device => ReclaimFault::Device,
-        }
-    }
 }

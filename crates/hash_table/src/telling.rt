@@ -1,6 +1,7 @@
 //! What a table tells, beside the values of keys.
-ghost use Rattle.std.specs.Prelude.{◌≡◌, ◌<◌, IsTrue, IfOk, IfErr};
+ghost use Rattle.std.specs.Prelude.{◌≡◌, ◌<◌, IsTrue, IfOk, IfErr, IfSome};
 ghost use mathlib.Core.List.{IsPrefix};
+ghost use Rattle.frame_cache.specs.Slots.{IsOfVersion};
 ghost use Rattle.table_core.specs.Maps.{at_bucket, map_of};
 ghost use Rattle.table_core.specs.Logs.{history, word};
 ghost use Rattle.table_core.specs.Lawful.{IsLawful};
@@ -104,8 +105,12 @@ impl<K: FarObject, V: FarObject, J: Naming, D: Device> FarTable<K, V, J, D> {
         }
     }
 
-    /// The bucket and the name of what lies in a frame.
-    pub fn frame_seen(&self, frame: u32) -> Option<(u32, u64)> {
+    /// The bucket and the name of what lay in a frame at a moment of the call. No clause says when none comes.
+    pub fn frame_seen(&self, frame: u32) -> Option<(u32, u64)>
+        ensures bucket { IfSome result (λ found. found.0 < J.limits.buckets) }
+        ensures own { IfSome result (λ found. IsOfVersion K.enc V.enc J.limits found.0 found.1) }
+        ensures here { IfSome result (λ _. frame < self.now.frames) }
+    {
         self.frames.seen(frame)
     }
 

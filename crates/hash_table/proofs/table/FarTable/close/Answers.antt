@@ -1,4 +1,4 @@
-use Rattle.std.proofs.Common.{◌≡◌, ◌∙◌, ◌++◌, ℕ, length, take, drop, ap, sym, subst, arith}
+use Rattle.std.proofs.Common.{◌≡◌, ◌∙◌, ◌++◌, length, take, drop, ap, sym, subst, arith}
 use Rattle.std.proofs.Math.Seq.{take-append_seam}
 use Rattle.hash_table.specs.Closes.{AreBack}
 use Rattle.hash_table.proofs.table.FarTable.close.Goals as goal

@@ -1,6 +1,6 @@
-use Rattle.std.proofs.Common.{◌≡◌, ℕ, ◌<◌}
+use Rattle.std.proofs.Common.{ℕ, ◌<◌}
 use Rattle.hash_table.proofs.Places.{nothing_near, frame_near}
-use Rattle.hash_table.proofs.Refused.{unread_far_refused, unpublished_refused}
+use Rattle.hash_table.proofs.Refused.{unpublished_refused}
 use Rattle.hash_table.proofs.Moves.{near_seen, moved_to}
 use Rattle.hash_table.proofs.table.FarTable.fetch.Goals as goal
 

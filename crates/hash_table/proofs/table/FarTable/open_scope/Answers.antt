@@ -1,5 +1,4 @@
-use Rattle.std.proofs.Common.{◌≡◌, ◌∙◌, ℕ, None, ap, sym, subst}
-use Rattle.far_object.specs.Buckets.{bucket}
+use Rattle.std.proofs.Common.{◌∙◌, ℕ, None, ap, sym, subst}
 use Rattle.far_object.specs.Objects.{IsMap, IsValueAt}
 use Rattle.table_core.specs.declared.operation.Operation.TheVariants.{Get}
 use Rattle.table_core.specs.BucketWords.{name_of}

@@ -1,4 +1,3 @@
-use Rattle.std.proofs.Common.{◌∙◌, ap, sym}
 use Rattle.table_core.specs.declared.operation.Operation.TheVariants.{Get}
 use Rattle.hash_table.proofs.Fronts.{finished_from}
 use Rattle.hash_table.proofs.Refused.{unread_refused, moved_seen}
