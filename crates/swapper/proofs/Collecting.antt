@@ -1,0 +1,273 @@
+-- Spares that are tried one after another.
+use Rattle.std.proofs.Common.{◌≡◌, ℕ, ◌+◌, ◌-◌, ◌^◌, ◌<◌, ◌≤◌, min, List, [], ◌∷◌, ◌++◌, length, refl, ap, sym, ◌∙◌, subst, inl, inr, ◌⊎◌, ⊎_elim, Option, Result, Bool, arith, append_assoc, length-append}
+use Rattle.std.proofs.lemmas.List.{append-nil}
+use Rattle.table_core.specs.declared.limits.Limits.{Limits}
+use Rattle.version_words.specs.Views.{SpareView, Goes}
+use Rattle.hash_table.proofs.Fronts.{goes_self, goes_trans}
+use Rattle.hash_table.specs.Reclaims.{IsReclaimed}
+use Rattle.hash_table.specs.declared.caller.Caller.{Caller}
+use Rattle.hash_table.specs.declared.refusal.Refusal.{Refusal}
+use Rattle.swapper.specs.Meetings.{Asks}
+use Rattle.swapper.proofs.Clocks.{asks_all}
+use Rattle.swapper.specs.declared.rule.SeatView.{SeatView}
+use Rattle.swapper.specs.Seats.{TakesNext}
+use Rattle.swapper.specs.Evictors.{EvictorView, shown, Works, Tries, Stays, DrawsKept, DrawsOwn, DrawsNext, IsFull, IsDrained, Sifts, TakesAll, AreGone, Retries, Tried, Collects, Picks, GivesUp, Turns}
+
+-- counts that are shown add up
+pub shown_more : (a b shown_a shown_b c : ℕ) → shown_a ≡ shown a → shown_b ≡ shown b → c ≡ min (shown_a + shown_b) (2 ^ 64 - 1) → c ≡ shown (a + b)
+shown_more a b shown_a shown_b c x y z = omega (arith, x, y, z)
+
+module _ {K V : Type 0} where
+  pub works_self : (a : EvictorView K V) → Works a a
+  works_self a = record { goes = goes_self a.pass; clock = refl; room = refl }
+
+  pub works_trans : {a b c : EvictorView K V} → Works a b → Works b c → Works a c
+  works_trans {a} {b} {c} f g = record { goes = goes_trans f.goes g.goes; clock = g.clock ∙ f.clock; room = g.room ∙ f.room }
+
+  -- what became of one more spare
+  abbrev Keeps : List (SpareView K V) → SpareView K V → ℕ → List (SpareView K V) → Type 0
+  Keeps kept s gone new = ((gone ≡ 1) × (new ≡ kept) × IsReclaimed s) ⊎ ((gone ≡ 0) × (new ≡ kept ++ s ∷ []))
+
+  sifts_push : (ss kept new : List (SpareView K V)) (s : SpareView K V) (gone : ℕ) → Sifts ss kept → Keeps kept s gone new → Sifts (ss ++ s ∷ []) new
+  sifts_push [] kept new s gone h (inl e) = inl (e.2, e.1 ∙ h)
+  sifts_push [] kept new s gone h (inr e) = inr ([], e.1 ∙ ap (λ (l : List (SpareView K V)). l ++ s ∷ []) h, refl)
+  sifts_push (x ∷ ss) kept new s gone (inl h) k = inl (h.0, sifts_push ss kept new s gone h.1 k)
+  sifts_push (x ∷ ss) kept new s gone (inr h) (inl e) = inr (h.0, e.1 ∙ h.1, sifts_push ss h.0 h.0 s gone h.2 (inl (e.0, refl, e.2)))
+  sifts_push (x ∷ ss) kept new s gone (inr h) (inr e) = inr (h.0 ++ s ∷ [], e.1 ∙ ap (λ (l : List (SpareView K V)). l ++ s ∷ []) h.1, sifts_push ss h.0 (h.0 ++ s ∷ []) s gone h.2 (inr (e.0, refl)))
+
+  sifts_append : (a x b y : List (SpareView K V)) → Sifts a x → Sifts b y → Sifts (a ++ b) (x ++ y)
+  sifts_append [] x b y h k = subst (λ (l : List (SpareView K V)). Sifts b (l ++ y)) (sym h) k
+  sifts_append (s ∷ a) x b y (inl h) k = inl (h.0, sifts_append a x b y h.1 k)
+  sifts_append (s ∷ a) x b y (inr h) k = inr (h.0 ++ y, ap (λ (l : List (SpareView K V)). l ++ y) h.1, sifts_append a h.0 b y h.2 k)
+
+  gone_push : (ss kept new : List (SpareView K V)) (s : SpareView K V) (before gone : ℕ) → AreGone before ss kept → Keeps kept s gone new → AreGone (before + gone) (ss ++ s ∷ []) new
+  gone_push ss kept new s before gone h (inl e) = let n = ap length e.1 in omega (arith, h, n, e.0, length-append ss (s ∷ []))
+  gone_push ss kept new s before gone h (inr e) = let n = ap length e.1 in omega (arith, h, n, e.0, length-append ss (s ∷ []), length-append kept (s ∷ []))
+
+  gone_append : (a x b y : List (SpareView K V)) (m n : ℕ) → AreGone m a x → AreGone n b y → AreGone (m + n) (a ++ b) (x ++ y)
+  gone_append a x b y m n h k = omega (arith, h, k, length-append a b, length-append x y)
+
+  -- one of them is shown as it is
+  keeps_shown : (kept new : List (SpareView K V)) (s : SpareView K V) (gone : ℕ) → Keeps kept s gone new → gone ≡ shown gone
+  keeps_shown kept new s gone (inl e) = omega (arith, e.0)
+  keeps_shown kept new s gone (inr e) = omega (arith, e.0)
+
+  takes_one_more : (gone : List (SpareView K V)) (x : SpareView K V) (v u w : SeatView (SpareView K V)) → TakesAll v gone u → TakesNext u x w → TakesAll v (gone ++ x ∷ []) w
+  takes_one_more [] x v u w h o = (w, subst (λ (y : SeatView (SpareView K V)). TakesNext y x w) h o, refl)
+  takes_one_more (y ∷ gone) x v u w h o = (h.0, h.1, takes_one_more gone x h.0 u w h.2 o)
+
+  -- ---- the kept spares
+
+  pub record Retrying (old now : EvictorView K V) (k reclaimed : ℕ) : Type 0 where
+    pub works : Works old now
+    pub gone : List (SpareView K V)
+    pub rest : List (SpareView K V)
+    pub sifted : List (SpareView K V)
+    pub all : old.kept ≡ gone ++ rest
+    pub here : now.kept ≡ rest ++ sifted
+    pub sifts : Sifts gone sifted
+    pub lost : AreGone reclaimed gone sifted
+    pub count : length gone ≡ k
+    pub limbo : now.limbo ≡ old.limbo
+    pub seat : now.seat ≡ old.seat
+
+  pub retrying_none : (old : EvictorView K V) → Retrying old old 0 0
+  retrying_none old = record {
+    works = works_self old;
+    gone = [];
+    rest = old.kept;
+    sifted = [];
+    all = refl;
+    here = sym (append-nil old.kept);
+    sifts = refl;
+    lost = refl;
+    count = refl;
+    limbo = refl;
+    seat = refl;
+  }
+
+  keeps_behind : (a b new : List (SpareView K V)) (s : SpareView K V) (gone : ℕ) → Keeps (a ++ b) s gone new → (c : List (SpareView K V)) × (new ≡ a ++ c) × Keeps b s gone c
+  keeps_behind a b new s gone (inl e) = (b, e.1, inl (e.0, refl, e.2))
+  keeps_behind a b new s gone (inr e) = (b ++ s ∷ [], e.1 ∙ append_assoc a b (s ∷ []), inr (e.0, refl))
+
+  pub retrying_more : (old now drawn new : EvictorView K V) (s : SpareView K V) (k reclaimed more : ℕ) → k < length old.kept → Retrying old now k reclaimed → DrawsKept now drawn s → Tries drawn new s more → Retrying old new (k + 1) (reclaimed + more)
+  retrying_more old now drawn new s k reclaimed more lt r d t = by r.rest refl
+    where
+      by : (rest : List (SpareView K V)) → r.rest ≡ rest → Retrying old new (k + 1) (reclaimed + more)
+      by [] e = absurd (let n = ap length r.all in let z = ap length e in omega (arith, n, z, lt, r.count, length-append r.gone r.rest))
+      by (x ∷ rest) e =
+          let whole : s ∷ drawn.kept ≡ x ∷ (rest ++ r.sifted) = sym d.kept ∙ (r.here ∙ ap (λ (l : List (SpareView K V)). l ++ r.sifted) e) in
+          let is : s ≡ x = cc in
+          let left : drawn.kept ≡ rest ++ r.sifted = cc in
+          let k' = keeps_behind rest r.sifted new.kept s more (subst (λ (l : List (SpareView K V)). Keeps l s more new.kept) left t.kept) in
+          record {
+            works = works_trans r.works (works_trans d.works t.works);
+            gone = r.gone ++ s ∷ [];
+            rest = rest;
+            sifted = k'.0;
+            all = r.all ∙ (ap (λ (l : List (SpareView K V)). r.gone ++ l) (e ∙ ap (λ (y : SpareView K V). y ∷ rest) (sym is)) ∙ sym (append_assoc r.gone (s ∷ []) rest));
+            here = k'.1;
+            sifts = sifts_push r.gone r.sifted k'.0 s more r.sifts k'.2;
+            lost = gone_push r.gone r.sifted k'.0 s reclaimed more r.lost k'.2;
+            count = omega (arith, r.count, length-append r.gone (s ∷ []));
+            limbo = t.limbo ∙ (d.limbo ∙ r.limbo);
+            seat = t.seat ∙ (d.seat ∙ r.seat);
+          }
+
+  pub retrying_few : (old now : EvictorView K V) (k reclaimed : ℕ) → Retrying old now k reclaimed → reclaimed ≤ k
+  retrying_few old now k reclaimed r = omega (arith, r.lost, r.count)
+
+  pub tries_few : (old new : EvictorView K V) (s : SpareView K V) (more : ℕ) → Tries old new s more → more ≤ 1
+  tries_few old new s more t = ⊎_elim (λ e. omega (arith, e.0)) (λ e. omega (arith, e.0)) t.kept
+
+  retrying_some : (old now : EvictorView K V) (k reclaimed : ℕ) → k < length old.kept → Retrying old now k reclaimed → now.kept ≡ [] → ⊥
+  retrying_some old now k reclaimed lt r e =
+      let n = ap length r.all in
+      let m = ap length (sym e ∙ r.here) in
+      omega (arith, n, m, lt, r.count, length-append r.gone r.rest, length-append r.rest r.sifted)
+
+  pub retried_early : (old now new : EvictorView K V) (k reclaimed : ℕ) → k < length old.kept → Retrying old now k reclaimed → (now.kept ≡ []) × Stays now new → Retries old new reclaimed
+  retried_early old now new k reclaimed lt r s = absurd (retrying_some old now k reclaimed lt r s.0)
+
+  pub retried : (old now : EvictorView K V) (k reclaimed : ℕ) → k ≡ length old.kept → Retrying old now k reclaimed → Retries old now reclaimed
+  retried old now k reclaimed all r = by r.rest refl
+    where
+      by : (rest : List (SpareView K V)) → r.rest ≡ rest → Retries old now reclaimed
+      by [] e =
+          let from : r.gone ≡ old.kept = sym (r.all ∙ (ap (λ (l : List (SpareView K V)). r.gone ++ l) e ∙ append-nil r.gone)) in
+          let to : r.sifted ≡ now.kept = sym (r.here ∙ ap (λ (l : List (SpareView K V)). l ++ r.sifted) e) in
+          record {
+            works = r.works;
+            kept = subst (λ (p : List (SpareView K V) × List (SpareView K V)). Sifts p.0 p.1) (λ i. (from i, to i)) r.sifts;
+            count = subst (λ (p : List (SpareView K V) × List (SpareView K V)). AreGone reclaimed p.0 p.1) (λ i. (from i, to i)) r.lost;
+            limbo = r.limbo;
+            seat = r.seat;
+          }
+      by (x ∷ rest) e = absurd (let n = ap length r.all in let z = ap length e in omega (arith, n, z, all, r.count, length-append r.gone r.rest))
+
+  -- ---- its own limbo, and the queue
+
+  pub tried_none : (old : EvictorView K V) → Tried old old [] [] 0
+  tried_none old = record { works = works_self old; added = []; kept = sym (append-nil old.kept); sifted = refl; gone = 0; count = refl; tells = refl; limbo = refl; seat = refl }
+
+  keeps_added : (a b old new : List (SpareView K V)) (s : SpareView K V) (gone : ℕ) → old ≡ a ++ b → Keeps old s gone new → (c : List (SpareView K V)) × (new ≡ a ++ c) × Keeps b s gone c
+  keeps_added a b old new s gone e k = keeps_behind a b new s gone (subst (λ (l : List (SpareView K V)). Keeps l s gone new) e k)
+
+  pub tried_own : (old now drawn new : EvictorView K V) (s : SpareView K V) (reclaimed more sum : ℕ) → (went : List (SpareView K V)) × Tried old now went [] reclaimed → DrawsOwn now drawn s → Tries drawn new s more
+      → sum ≡ min (reclaimed + more) (2 ^ 64 - 1) → (went : List (SpareView K V)) × Tried old new went [] sum
+  tried_own old now drawn new s reclaimed more sum (went, r) d t is =
+      let k = keeps_added old.kept r.added drawn.kept new.kept s more (d.kept ∙ r.kept) t.kept in
+      let before : Sifts went r.added = subst (λ (l : List (SpareView K V)). Sifts l r.added) (append-nil went) r.sifted in
+      let lost : AreGone r.gone went r.added = subst (λ (l : List (SpareView K V)). AreGone r.gone l r.added) (append-nil went) r.count in (
+        went ++ s ∷ [],
+        record {
+          works = works_trans r.works (works_trans d.works t.works);
+          added = k.0;
+          kept = k.1;
+          sifted = subst (λ (l : List (SpareView K V)). Sifts l k.0) (sym (append-nil (went ++ s ∷ []))) (sifts_push went r.added k.0 s more before k.2);
+          gone = r.gone + more;
+          count = subst (λ (l : List (SpareView K V)). AreGone (r.gone + more) l k.0) (sym (append-nil (went ++ s ∷ []))) (gone_push went r.added k.0 s r.gone more lost k.2);
+          tells = shown_more r.gone more reclaimed more sum r.tells (keeps_shown r.added k.0 s more k.2) is;
+          limbo = r.limbo ∙ (ap (λ (l : List (SpareView K V)). went ++ l) (d.limbo ∙ ap (λ (l : List (SpareView K V)). s ∷ l) (sym t.limbo)) ∙ sym (append_assoc went (s ∷ []) new.limbo));
+          seat = t.seat ∙ (d.seat ∙ r.seat);
+        },
+      )
+
+  pub tried_next : (old now drawn new : EvictorView K V) (s : SpareView K V) (reclaimed more sum : ℕ) → (taken : List (SpareView K V)) × Tried old now [] taken reclaimed → DrawsNext now drawn s → Tries drawn new s more
+      → sum ≡ min (reclaimed + more) (2 ^ 64 - 1) → (taken : List (SpareView K V)) × Tried old new [] taken sum
+  tried_next old now drawn new s reclaimed more sum (taken, r) d t is =
+      let k = keeps_added old.kept r.added drawn.kept new.kept s more (d.kept ∙ r.kept) t.kept in (
+        taken ++ s ∷ [],
+        record {
+          works = works_trans r.works (works_trans d.works t.works);
+          added = k.0;
+          kept = k.1;
+          sifted = sifts_push taken r.added k.0 s more r.sifted k.2;
+          gone = r.gone + more;
+          count = gone_push taken r.added k.0 s r.gone more r.count k.2;
+          tells = shown_more r.gone more reclaimed more sum r.tells (keeps_shown r.added k.0 s more k.2) is;
+          limbo = r.limbo ∙ sym (t.limbo ∙ d.limbo);
+          seat = takes_one_more taken s old.seat now.seat new.seat r.seat (subst (λ (v : SeatView (SpareView K V)). TakesNext now.seat s v) (sym t.seat) d.seat);
+        },
+      )
+
+  -- one that draws nothing more
+  tried_stays : (old now new : EvictorView K V) (went taken : List (SpareView K V)) (reclaimed : ℕ) → Tried old now went taken reclaimed → Stays now new → Tried old new went taken reclaimed
+  tried_stays old now new went taken reclaimed r s = record {
+    works = works_trans r.works s.works;
+    added = r.added;
+    kept = s.kept ∙ r.kept;
+    sifted = r.sifted;
+    gone = r.gone;
+    count = r.count;
+    tells = r.tells;
+    limbo = r.limbo ∙ ap (λ (l : List (SpareView K V)). went ++ l) (sym s.limbo);
+    seat = subst (λ (v : SeatView (SpareView K V)). TakesAll old.seat taken v) (sym s.seat) r.seat;
+  }
+
+  pub tried_empty : (old now new : EvictorView K V) (reclaimed : ℕ) → (went : List (SpareView K V)) × Tried old now went [] reclaimed → (now.limbo ≡ []) × Stays now new → (went : List (SpareView K V)) × Tried old new went [] reclaimed
+  tried_empty old now new reclaimed (went, r) s = (went, tried_stays old now new went [] reclaimed r s.1)
+
+  pub tried_drained : (old now new : EvictorView K V) (reclaimed : ℕ) → (taken : List (SpareView K V)) × Tried old now [] taken reclaimed → IsDrained now.seat × Stays now new → (taken : List (SpareView K V)) × Tried old new [] taken reclaimed
+  tried_drained old now new reclaimed (taken, r) s = (taken, tried_stays old now new [] taken reclaimed r s.1)
+
+  pub stopped_empty : (now new : EvictorView K V) → (now.limbo ≡ []) × Stays now new → IsFull new ⊎ (new.limbo ≡ [])
+  stopped_empty now new s = inr (s.1.limbo ∙ s.0)
+
+  pub stopped_drained : (now new : EvictorView K V) → IsDrained now.seat × Stays now new → IsFull new ⊎ IsDrained new.seat
+  stopped_drained now new s = inr (subst (λ (v : SeatView (SpareView K V)). IsDrained v) (sym s.1.seat) s.0)
+
+  -- ---- all three
+
+  pub collected : (old a b new : EvictorView K V) (x y z : ℕ) → Retries old a x → (went : List (SpareView K V)) × Tried a b went [] y → IsFull b ⊎ (b.limbo ≡ []) → (taken : List (SpareView K V)) × Tried b new [] taken z → IsFull new ⊎ IsDrained new.seat
+      → (gone : ℕ) × Collects old new gone × ((sum total : ℕ) → x < 2 ^ 64 → sum ≡ min (x + y) (2 ^ 64 - 1) → total ≡ min (sum + z) (2 ^ 64 - 1) → total ≡ shown gone)
+  collected old a b new x y z r (went, o) own (taken, q) next = (
+    x + (o.gone + q.gone),
+    record {
+      works = works_trans r.works (works_trans o.works q.works);
+      went = went;
+      taken = taken;
+      limbo = sym r.limbo ∙ (o.limbo ∙ ap (λ (l : List (SpareView K V)). went ++ l) q.limbo);
+      seat = subst (λ (v : SeatView (SpareView K V)). TakesAll v taken new.seat) (o.seat ∙ r.seat) q.seat;
+      kept = subst (λ (l : List (SpareView K V)). Sifts (old.kept ++ (went ++ taken)) l) kept (sifts_append old.kept a.kept (went ++ taken) (o.added ++ q.added) r.kept (sifts_append went o.added taken q.added sifted q.sifted));
+      count = subst (λ (l : List (SpareView K V)). AreGone (x + (o.gone + q.gone)) (old.kept ++ (went ++ taken)) l) kept
+          (gone_append old.kept a.kept (went ++ taken) (o.added ++ q.added) x (o.gone + q.gone) r.count (gone_append went o.added taken q.added o.gone q.gone lost q.count));
+      stopped = ⊎_elim
+          (λ full. inl full)
+          (λ drained. ⊎_elim
+          (λ full. inl (let n = ap length q.kept in let room = q.works.room in omega (arith, full, n, room, length-append b.kept q.added)))
+          (λ none. inr (sym q.limbo ∙ none, drained))
+          own)
+          next;
+    },
+    λ sum total few is at. omega (arith, few, is, at, o.tells, q.tells),
+  )
+    where
+      kept : a.kept ++ (o.added ++ q.added) ≡ new.kept
+      kept = sym (q.kept ∙ (ap (λ (l : List (SpareView K V)). l ++ q.added) o.kept ∙ append_assoc a.kept o.added q.added))
+
+      sifted : Sifts went o.added
+      sifted = subst (λ (l : List (SpareView K V)). Sifts l o.added) (append-nil went) o.sifted
+
+      lost : AreGone o.gone went o.added
+      lost = subst (λ (l : List (SpareView K V)). AreGone o.gone l o.added) (append-nil went) o.count
+
+  -- ---- a turn
+
+  -- what the caller does where frames are asked through it
+  pub asked_goes : {J : Type 0} (count hand n : ℕ) (s t : Caller K V J) → Asks (λ f (a b : Caller K V J). Goes a.pass b.pass × (b.limbo ≡ a.limbo)) count hand n s t → Goes s.pass t.pass × (t.limbo ≡ s.limbo)
+  asked_goes {J} count hand n s t = asks_all (λ (a b : Caller K V J). Goes a.pass b.pass × (b.limbo ≡ a.limbo)) (λ f a b. Goes a.pass b.pass × (b.limbo ≡ a.limbo)) count hand
+      (λ a. (goes_self a.pass, refl)) (λ a b c g h. (goes_trans g.0 h.0, h.1 ∙ g.1)) (λ f a b g. g) n s t
+
+  pub turns_collect : (old new : EvictorView K V) (gone : ℕ) → Collects old new gone → Turns old new
+  turns_collect old new gone c = record { goes = c.works.goes; count = ap (λ (k : _). length k.marks) c.works.clock; room = c.works.room }
+
+  pub turns_pick : (old new : EvictorView K V) (v : Option ℕ) → Picks old new v → Turns old new
+  turns_pick old new v p = record { goes = p.goes; count = p.walked.swept.count_stays; room = p.room }
+
+  pub turns_trans : {a b c : EvictorView K V} → Turns a b → Turns b c → Turns a c
+  turns_trans f g = record { goes = goes_trans f.goes g.goes; count = g.count ∙ f.count; room = g.room ∙ f.room }
+
+module _ {K V : Type 0} (ek : K → List ℕ) (ev : V → List ℕ) (l : Limits) where
+  pub turns_give_up : (old new : EvictorView K V) (r : Result Bool Refusal) → GivesUp ek ev l old new r → Turns old new
+  turns_give_up old new r c = record { goes = c.works.goes; count = ap (λ (k : _). length k.marks) c.works.clock; room = c.works.room }

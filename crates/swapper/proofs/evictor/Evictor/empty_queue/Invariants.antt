@@ -1,0 +1,7 @@
+use Rattle.std.proofs.Common.{List, []}
+use Rattle.version_words.specs.Views.{SpareView}
+use Rattle.swapper.specs.Evictors.{Tried}
+use Rattle.swapper.proofs.evictor.Evictor.empty_queue.Given as goal
+
+abbrev pub invariant-loop : goal.invariant-loop
+invariant-loop g l = (taken : List (SpareView g.row.K.Denot g.row.V.Denot)) × Tried l.fn.self l.self [] taken l.reclaimed

@@ -1,0 +1,195 @@
+-- What an evictor does: where spares go, and whom it gives up.
+use Rattle.std.specs.Prelude.{◌≡◌, ℕ, ◌+◌, ◌-◌, ◌^◌, ◌<◌, ◌≤◌, min, Bool, false, List, [], ◌∷◌, ◌++◌, ◌⊎◌, length, Option, Some, None, Result, Ok, Err, IfOk, IfErr, IsTrue}
+use Rattle.table_core.specs.declared.limits.Limits.{Limits}
+use Rattle.table_core.specs.BucketWords.{far_place}
+use Rattle.version_words.specs.Views.{PassView, SpareView, Goes}
+use Rattle.hash_table.specs.Calls.{AtMostOneMore, IsMoved, IsRefused, IsFull as IsLimboFull}
+use Rattle.hash_table.specs.Reclaims.{IsReclaimed}
+use Rattle.hash_table.specs.Refusals.{OfSwapOut}
+use Rattle.hash_table.specs.declared.refusal.Refusal.{Refusal}
+use Rattle.swapper.specs.Chances.{ClockView}
+use Rattle.swapper.specs.Meetings.{IsWalked}
+use Rattle.swapper.specs.Seats.{TakesNext}
+use Rattle.swapper.specs.declared.rule.SeatView.{SeatView}
+use Rattle.swapper.specs.declared.evictor.Collected.{Collected}
+use Rattle.swapper.specs.declared.evictor.Turn.{Turn}
+
+-- its caller's pass and limbo, what its seat knows, its clock, the spares that it keeps and the room for them
+pub record EvictorView (K V : Type 0) : Type 0 where
+  pub pass : PassView K V
+  pub limbo : List (SpareView K V)
+  pub seat : SeatView (SpareView K V)
+  pub clock : ClockView
+  pub kept : List (SpareView K V)
+  pub room : ℕ
+
+-- a count as it is shown: past the greatest number of 64 bits it stays there
+abbrev pub shown : ℕ → ℕ
+shown n = min n (2 ^ 64 - 1)
+
+module _ {K V : Type 0} where
+  -- ---- one step
+
+  -- its pass goes on and makes no call, its clock stands, and nothing grows
+  pub record Works (old new : EvictorView K V) : Type 0 where
+    pub goes : Goes old.pass new.pass
+    pub clock : new.clock ≡ old.clock
+    pub room : new.room ≡ old.room
+
+  -- a spare was tried: it was reclaimed, or it is kept as the last one. So many were reclaimed
+  pub record Tries (old new : EvictorView K V) (s : SpareView K V) (reclaimed : ℕ) : Type 0 where
+    pub works : Works old new
+    pub kept : ((reclaimed ≡ 1) × (new.kept ≡ old.kept) × IsReclaimed s) ⊎ ((reclaimed ≡ 0) × (new.kept ≡ old.kept ++ s ∷ []))
+    pub limbo : new.limbo ≡ old.limbo
+    pub seat : new.seat ≡ old.seat
+
+  -- it stands as it was
+  pub record Stays (old new : EvictorView K V) : Type 0 where
+    pub works : Works old new
+    pub kept : new.kept ≡ old.kept
+    pub limbo : new.limbo ≡ old.limbo
+    pub seat : new.seat ≡ old.seat
+
+  -- the oldest of the kept spares was drawn, and there is room for it
+  pub record DrawsKept (old new : EvictorView K V) (s : SpareView K V) : Type 0 where
+    pub works : Works old new
+    pub kept : old.kept ≡ s ∷ new.kept
+    pub limbo : new.limbo ≡ old.limbo
+    pub seat : new.seat ≡ old.seat
+    pub fits : length new.kept < new.room
+
+  -- the oldest of its limbo was
+  pub record DrawsOwn (old new : EvictorView K V) (s : SpareView K V) : Type 0 where
+    pub works : Works old new
+    pub kept : new.kept ≡ old.kept
+    pub limbo : old.limbo ≡ s ∷ new.limbo
+    pub seat : new.seat ≡ old.seat
+
+  -- the next of the queue was
+  pub record DrawsNext (old new : EvictorView K V) (s : SpareView K V) : Type 0 where
+    pub works : Works old new
+    pub kept : new.kept ≡ old.kept
+    pub limbo : new.limbo ≡ old.limbo
+    pub seat : TakesNext old.seat s new.seat
+
+  -- ---- a collecting
+
+  -- there is room for no more
+  abbrev pub IsFull : EvictorView K V → Type 0
+  IsFull e = e.room ≤ length e.kept
+
+  -- all hand-overs that the seat knows of were taken
+  abbrev pub IsDrained : SeatView (SpareView K V) → Type 0
+  IsDrained v = length v.handed ≤ v.taken
+
+  -- of these spares some are kept, in order, and each other one was reclaimed
+  abbrev pub Sifts : List (SpareView K V) → List (SpareView K V) → Type 0
+  Sifts [] kept = kept ≡ []
+  Sifts (s ∷ ss) kept = (IsReclaimed s × Sifts ss kept) ⊎ ((rest : List (SpareView K V)) × (kept ≡ s ∷ rest) × Sifts ss rest)
+
+  -- these were taken one after another
+  abbrev pub TakesAll : SeatView (SpareView K V) → List (SpareView K V) → SeatView (SpareView K V) → Type 0
+  TakesAll v [] w = w ≡ v
+  TakesAll v (x ∷ xs) w = (u : SeatView (SpareView K V)) × TakesNext v x u × TakesAll u xs w
+
+  -- so many of these spares are not kept
+  abbrev pub AreGone : ℕ → List (SpareView K V) → List (SpareView K V) → Type 0
+  AreGone gone ss kept = gone + length kept ≡ length ss
+
+  -- the kept spares were tried, each once
+  pub record Retries (old new : EvictorView K V) (reclaimed : ℕ) : Type 0 where
+    pub works : Works old new
+    pub kept : Sifts old.kept new.kept
+    pub count : AreGone reclaimed old.kept new.kept
+    pub limbo : new.limbo ≡ old.limbo
+    pub seat : new.seat ≡ old.seat
+
+  -- these of its own limbo and these of the queue were tried, each once, behind those that are kept
+  pub record Tried (old new : EvictorView K V) (went taken : List (SpareView K V)) (reclaimed : ℕ) : Type 0 where
+    pub works : Works old new
+    pub added : List (SpareView K V)
+    pub kept : new.kept ≡ old.kept ++ added
+    pub sifted : Sifts (went ++ taken) added
+    pub gone : ℕ
+    pub count : AreGone gone (went ++ taken) added
+    pub tells : reclaimed ≡ shown gone
+    pub limbo : old.limbo ≡ went ++ new.limbo
+    pub seat : TakesAll old.seat taken new.seat
+
+  -- a collecting loses no spare: each that it kept, each of these of its limbo, and each of these of the queue was reclaimed or is kept, in order. It ends where there is room for no more, or nothing is left
+  pub record Collects (old new : EvictorView K V) (gone : ℕ) : Type 0 where
+    pub works : Works old new
+    pub went : List (SpareView K V)
+    pub taken : List (SpareView K V)
+    pub limbo : old.limbo ≡ went ++ new.limbo
+    pub seat : TakesAll old.seat taken new.seat
+    pub kept : Sifts (old.kept ++ (went ++ taken)) new.kept
+    pub count : AreGone gone (old.kept ++ (went ++ taken)) new.kept
+    pub stopped : IsFull new ⊎ ((new.limbo ≡ []) × IsDrained new.seat)
+
+  -- the same, and the answer tells how many were reclaimed and how many are kept
+  pub record Collecting (old new : EvictorView K V) (answer : Collected) : Type 0 where
+    pub gone : ℕ
+    pub collects : Collects old new gone
+    pub reclaimed : answer.reclaimed ≡ shown gone
+    pub kept : answer.kept ≡ length new.kept
+
+  -- ---- a turn
+
+  -- the hand walked to its victim, by second chance on what the frames answered, of which nothing is said
+  pub record Picks (old new : EvictorView K V) (victim : Option ℕ) : Type 0 where
+    pub goes : Goes old.pass new.pass
+    pub asked : ℕ
+    pub walked : IsWalked (λ f b. Unit {0}) (λ f b. Unit {0}) old.clock.marks old.clock.hand asked new.clock.marks new.clock.hand victim
+    pub kept : new.kept ≡ old.kept
+    pub limbo : new.limbo ≡ old.limbo
+    pub seat : new.seat ≡ old.seat
+    pub room : new.room ≡ old.room
+
+  -- its pass went on and made no call, and nothing grew
+  pub record Turns (old new : EvictorView K V) : Type 0 where
+    pub goes : Goes old.pass new.pass
+    pub count : length new.clock.marks ≡ length old.clock.marks
+    pub room : new.room ≡ old.room
+
+module _ {K V : Type 0} (ek : K → List ℕ) (ev : V → List ℕ) (l : Limits) where
+  -- a frame was swapped out, or held nothing that its bucket's word names, or the table refused, for the reason that a swap-out has
+  pub record GivesUp (old new : EvictorView K V) (result : Result Bool Refusal) : Type 0 where
+    pub works : Works old new
+    pub limbo : AtMostOneMore old.limbo new.limbo
+    pub kept : new.kept ≡ old.kept
+    pub seat : new.seat ≡ old.seat
+    pub swapped : IfOk result (λ done. IsTrue done → (b : ℕ) × IsMoved b (λ p. p ≡ far_place) old.pass new.pass)
+    pub refused : IfErr result (λ e. (b : ℕ) × IsRefused ek ev l b old.pass new.pass e)
+    pub full : IfErr result (λ e. IsLimboFull e (length old.limbo))
+    pub only : IfErr result (λ e. OfSwapOut e)
+
+  -- the victim was given up, if there is one
+  abbrev pub GivesUpVictim : EvictorView K V → EvictorView K V → Option ℕ → Bool → Type 0
+  GivesUpVictim old new None evicted = (new ≡ old) × (evicted ≡ false)
+  GivesUpVictim old new (Some v) evicted = GivesUp old new (Ok evicted)
+
+  -- a turn: a collecting, a walk of the hand, its victim given up, and another collecting
+  pub record IsTurn (old new : EvictorView K V) (answer : Turn) : Type 0 where
+    pub collected : EvictorView K V
+    pub picked : EvictorView K V
+    pub given_up : EvictorView K V
+    pub victim : Option ℕ
+    pub first : ℕ
+    pub second : ℕ
+    pub collects : Collects old collected first
+    pub picks : Picks collected picked victim
+    pub gives_up : GivesUpVictim picked given_up victim answer.evicted
+    pub collects_again : Collects given_up new second
+    pub reclaimed : answer.reclaimed ≡ shown (first + second)
+    pub kept : answer.kept ≡ length new.kept
+
+  -- a turn that ends with the table's refusal of its victim's swap-out
+  pub record IsTurnRefused (old new : EvictorView K V) (refusal : Refusal) : Type 0 where
+    pub collected : EvictorView K V
+    pub picked : EvictorView K V
+    pub victim : ℕ
+    pub first : ℕ
+    pub collects : Collects old collected first
+    pub picks : Picks collected picked (Some victim)
+    pub gives_up : GivesUp picked new (Err refusal)
