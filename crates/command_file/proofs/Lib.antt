@@ -1,5 +1,6 @@
 pub mod Lines
 pub mod Spelling
+pub mod Verbs
 pub mod Parsing
 pub mod Looks
 pub mod Progress

@@ -1,40 +1,18 @@
 -- One command of a line, one meaning and one outcome of a file.
-use Rattle.std.proofs.Common.{◌≡◌, ℕ, zero, suc, ◌<◌, cond, List, [], ◌∷◌, ◌++◌, length, take, refl, sym, ap, subst, ◌∙◌, arith}
-use Rattle.std.specs.Prelude.{codes, bytes_eq}
+use Rattle.std.proofs.Common.{◌≡◌, ℕ, zero, suc, ◌<◌, List, [], ◌∷◌, ◌++◌, length, take, refl, sym, ap, subst, ◌∙◌, arith}
 use Rattle.std.specs.List.{AllByRecursion}
-use Rattle.command_file.specs.declared.command.Command.{Command}
-use Rattle.command_file.specs.declared.command.Command.TheVariants.{Put, Get, Delete, PutIf, PutNew}
-use Rattle.command_file.specs.Grammar.{name_of, arguments_of, IsGood}
+use Rattle.command_file.specs.Grammar.{IsGood}
 use Rattle.command_file.specs.Files.{most_lines}
 use Rattle.command_file.specs.Laws.{OneCommand, OneMeaning, OneOutcome}
 use Rattle.command_file.proofs.Parsing.{reads_from_says}
 use Rattle.command_file.proofs.Progress.{good_from_say}
-
--- the command of a name and its arguments
-named : List ℕ → List (List ℕ) → Command
-named name [] = Get []
-named name (key ∷ []) = cond (bytes_eq name (codes "get")) (Get key) (Delete key)
-named name (key ∷ value ∷ []) = cond (bytes_eq name (codes "put")) (Put key value) (PutNew key value)
-named name (key ∷ expected ∷ value ∷ []) = PutIf key expected value
-named name (key ∷ expected ∷ value ∷ more ∷ words) = Get []
-
-command_of : List (List ℕ) → Command
-command_of [] = Get []
-command_of (name ∷ words) = named name words
-
-command_of-words : (command : Command) → command_of (name_of command ∷ arguments_of command) ≡ command
-unfolding command_of named
-command_of-words (Put key value) = refl
-command_of-words (Get key) = refl
-command_of-words (Delete key) = refl
-command_of-words (PutIf key expected value) = refl
-command_of-words (PutNew key value) = refl
+use Rattle.command_file.proofs.Verbs.{command_of, command_of-words_of}
 
 pub one_command_of : OneCommand
 one_command_of line command other says tells =
-    sym (command_of-words command)
+    sym (command_of-words_of command)
     ∙ ap command_of (sym (reads_from_says line command says).same ∙ (reads_from_says line other tells).same)
-    ∙ command_of-words other
+    ∙ command_of-words_of other
 
 pub one_meaning_of : OneMeaning
 one_meaning_of [] [] [] say tell = refl

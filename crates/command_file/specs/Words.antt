@@ -1,10 +1,40 @@
 -- How a line is cut into words, and what the parts of the parser give.
-use Rattle.std.specs.Prelude.{◌≡◌, ℕ, ◌==◌, List, ◌∷◌, length, Result, Ok, Err}
+use Rattle.std.specs.Prelude.{◌≡◌, ℕ, ◌==◌, List, length, codes, Result, Ok, Err}
 use Rattle.std.specs.List.{AllByRecursion, slice_split}
 use Rattle.command_file.specs.declared.command.Command.{Command}
 use Rattle.command_file.specs.declared.fault.LineFault.{LineFault}
 use Rattle.command_file.specs.declared.fault.LineFault.TheVariants.{Bad, Memory}
-use Rattle.command_file.specs.Grammar.{IsWord, name_of, arguments_of, Says}
+use Rattle.command_file.specs.declared.verb.OfKey.{OfKey}
+use Rattle.command_file.specs.declared.verb.OfKey.TheVariants as of_key
+use Rattle.command_file.specs.declared.verb.OfPair.{OfPair}
+use Rattle.command_file.specs.declared.verb.OfPair.TheVariants as of_pair
+use Rattle.command_file.specs.declared.verb.Verb.{Verb}
+use Rattle.command_file.specs.declared.verb.Verb.TheVariants as verb
+use Rattle.command_file.specs.Grammar.{IsWord, words_of, Says}
+
+-- ---- verbs, by how many texts stand behind them
+
+abbrev pub of_key_name : OfKey → List ℕ
+of_key_name of_key.Get = codes "get"
+of_key_name of_key.Delete = codes "del"
+of_key_name of_key.Hold = codes "hold"
+of_key_name of_key.Where = codes "where"
+
+abbrev pub of_pair_name : OfPair → List ℕ
+of_pair_name of_pair.Put = codes "put"
+of_pair_name of_pair.PutNew = codes "putnew"
+
+abbrev pub name_of : Verb → List ℕ
+name_of (verb.OfKey v) = of_key_name v
+name_of (verb.OfPair v) = of_pair_name v
+name_of verb.PutIf = codes "putif"
+
+abbrev pub count_of : Verb → ℕ
+count_of (verb.OfKey v) = 1
+count_of (verb.OfPair v) = 2
+count_of verb.PutIf = 3
+
+-- ---- words
 
 -- the parts between spaces
 abbrev pub words_in : List ℕ → List (List ℕ)
@@ -27,8 +57,8 @@ AreTextsOrFault n words (Err fault) list = IsArgumentFault n words fault
 
 -- the words are those of the command
 pub record Reads (words : List (List ℕ)) (command : Command) : Type 0 where
-  pub same : words ≡ name_of command ∷ arguments_of command
-  pub each : AllByRecursion IsWord (arguments_of command)
+  pub same : words ≡ words_of command
+  pub each : AllByRecursion IsWord (words_of command)
 
 abbrev pub ParsesWords : List (List ℕ) → Result Command LineFault → Type 0
 ParsesWords words (Ok command) = Reads words command

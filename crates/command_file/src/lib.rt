@@ -7,9 +7,10 @@ mod file;
 mod laws;
 mod line;
 mod parse;
+mod verb;
 mod words;
 
-pub use command::Command;
+pub use command::{Command, MapCommand, TableCommand};
 pub use fault::{FileFault, LineFault};
 pub use file::read_file;
 pub use laws::{one_command, one_meaning, one_outcome, written_is_said};

@@ -3,8 +3,9 @@ ghost use Rattle.std.specs.Prelude.{◌≡◌, ◌<◌, ◌^◌, [], ◌∷◌, 
 ghost use Rattle.command_file.specs.Grammar.{IsWord, Says, IsLineFault};
 ghost use Rattle.command_file.specs.Words.{words_in, AreTextsOrFault, ParsesWords, ParsesLine};
 
-use crate::command::Command;
+use crate::command::{Command, MapCommand};
 use crate::fault::LineFault;
+use crate::verb::{Verb, alone, verb_of};
 use crate::words::{one_word, split_once, three_words, two_words};
 use far_object::Text;
 use std::alloc::Global;
@@ -34,35 +35,43 @@ fn parse_command(alloc: Global, line: &[u8]) -> Result<Command, LineFault>
         return Err(LineFault::Bad);
     }
     match split_once(line) {
-        Some((name, arguments)) => parse_words(alloc, name, arguments),
+        Some((first, rest)) => parse_words(alloc, first, rest),
+        None => parse_word(line),
+    }
+}
+
+/// A command of one word.
+fn parse_word(word: &[u8]) -> Result<Command, LineFault>
+    ensures { ParsesWords (word.now ∷ []) result }
+{
+    match alone(word) {
+        Some(command) => Ok(Command::Table(command)),
         None => Err(LineFault::Bad),
     }
 }
 
-fn parse_words(alloc: Global, name: &[u8], arguments: &[u8]) -> Result<Command, LineFault>
-    ensures { ParsesWords (name.now ∷ words_in arguments.now) result }
+/// A command that is a verb and the words behind it.
+fn parse_words(alloc: Global, first: &[u8], rest: &[u8]) -> Result<Command, LineFault>
+    ensures { ParsesWords (first.now ∷ words_in rest.now) result }
 {
-    if name == b"put".as_slice() {
-        let (key, value) = two_texts(alloc, arguments)?;
-        Ok(Command::Put { key, value })
-    } else if name == b"get".as_slice() {
-        let key = one_text(alloc, arguments)?;
-        Ok(Command::Get { key })
-    } else if name == b"del".as_slice() {
-        let key = one_text(alloc, arguments)?;
-        Ok(Command::Delete { key })
-    } else if name == b"putif".as_slice() {
-        let (key, expected, value) = three_texts(alloc, arguments)?;
-        Ok(Command::PutIf {
-            key,
-            expected,
-            value,
-        })
-    } else if name == b"putnew".as_slice() {
-        let (key, value) = two_texts(alloc, arguments)?;
-        Ok(Command::PutNew { key, value })
-    } else {
-        Err(LineFault::Bad)
+    match verb_of(first) {
+        Some(Verb::OfKey(verb)) => {
+            let key = one_text(alloc, rest)?;
+            Ok(verb.command(key))
+        }
+        Some(Verb::OfPair(verb)) => {
+            let (key, value) = two_texts(alloc, rest)?;
+            Ok(verb.command(key, value))
+        }
+        Some(Verb::PutIf) => {
+            let (key, expected, value) = three_texts(alloc, rest)?;
+            Ok(Command::Map(MapCommand::PutIf {
+                key,
+                expected,
+                value,
+            }))
+        }
+        None => Err(LineFault::Bad),
     }
 }
 

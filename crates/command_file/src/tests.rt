@@ -1,5 +1,5 @@
 //! Worked files, readers that give few bytes at a time, and readers that fail.
-use crate::{Command, FileFault, read_file};
+use crate::{Command, FileFault, MapCommand, TableCommand, read_file};
 use std::alloc::{AllocError, Global};
 use std::io;
 use std::io::{BufRead, BufReader, ErrorKind, Read};
@@ -42,30 +42,47 @@ fn fault_of(alloc: Global, bytes: &[u8]) -> Option<FileFault> {
     read_file(alloc, &mut file).err()
 }
 
-/// The commands of a file, a letter for each with its words behind, each word behind a slash.
+/// The letter of a command on the map, and its texts.
+fn shown_map(command: &MapCommand) -> (u8, [&[u8]; 3]) {
+    match command {
+        MapCommand::Put { key, value } => (b'p', [key.as_bytes(), value.as_bytes(), b""]),
+        MapCommand::Get { key } => (b'g', [key.as_bytes(), b"", b""]),
+        MapCommand::Delete { key } => (b'd', [key.as_bytes(), b"", b""]),
+        MapCommand::PutIf {
+            key,
+            expected,
+            value,
+        } => (
+            b'i',
+            [key.as_bytes(), expected.as_bytes(), value.as_bytes()],
+        ),
+        MapCommand::PutNew { key, value } => (b'n', [key.as_bytes(), value.as_bytes(), b""]),
+        MapCommand::Hold { key } => (b'h', [key.as_bytes(), b"", b""]),
+    }
+}
+
+/// The same of a command on the table.
+fn shown_table(command: &TableCommand) -> (u8, [&[u8]; 3]) {
+    match command {
+        TableCommand::Show => (b's', [b"", b"", b""]),
+        TableCommand::Release => (b'r', [b"", b"", b""]),
+        TableCommand::Evict => (b'e', [b"", b"", b""]),
+        TableCommand::Where { key } => (b'w', [key.as_bytes(), b"", b""]),
+    }
+}
+
+/// The commands of a file, a letter for each with its texts behind, each text behind a slash.
 fn shown(alloc: Global, commands: &[Command]) -> Result<Vec<u8>, AllocError> {
     let mut shown = Vec::new(alloc);
     for command in commands {
-        let (letter, words) = match command {
-            Command::Put { key, value } => (b'p', [key.as_bytes(), value.as_bytes(), b""]),
-            Command::Get { key } => (b'g', [key.as_bytes(), b"", b""]),
-            Command::Delete { key } => (b'd', [key.as_bytes(), b"", b""]),
-            Command::PutIf {
-                key,
-                expected,
-                value,
-            } => {
-                (
-                    b'i',
-                    [key.as_bytes(), expected.as_bytes(), value.as_bytes()],
-                )
-            }
-            Command::PutNew { key, value } => (b'n', [key.as_bytes(), value.as_bytes(), b""]),
+        let (letter, texts) = match command {
+            Command::Map(command) => shown_map(command),
+            Command::Table(command) => shown_table(command),
         };
         shown.push(letter)?;
-        for word in words {
+        for text in texts {
             shown.push(b'/')?;
-            shown.extend_from_slice(word)?;
+            shown.extend_from_slice(text)?;
         }
     }
     Ok(shown)
@@ -85,13 +102,15 @@ fn assert_shown<R: BufRead>(
 
 #[test]
 fn good_files(rt: HostRuntime) -> Result<(), Fail> {
-    let rows: [(&[u8], &[u8]); 6] = [
+    let rows: [(&[u8], &[u8]); 8] = [
         (b"", b""),
         (b"\n\n", b""),
         (b"get a", b"g/a//"),
         (b"del a\n\nput a 1\n", b"d/a//p/a/1/"),
         (b"putif a 1 2\nputnew a 5\n", b"i/a/1/2n/a/5/"),
         (b"get ~!\nget get", b"g/~!//g/get//"),
+        (b"hold a\nshow\nrelease\n", b"h/a//s///r///"),
+        (b"evict\nwhere evict\nget show", b"e///w/evict//g/show//"),
     ];
     for (bytes, wanted) in &rows {
         let mut file = *bytes;
@@ -102,7 +121,7 @@ fn good_files(rt: HostRuntime) -> Result<(), Fail> {
 
 #[test]
 fn bad_lines(rt: HostRuntime) {
-    let rows: [&[u8]; 16] = [
+    let rows: [&[u8]; 24] = [
         b"put a",
         b"put  a 1",
         b"put a  1",
@@ -115,10 +134,18 @@ fn bad_lines(rt: HostRuntime) {
         b"PUT a 1",
         b"get",
         b"get a b",
-        b"hold a",
-        b"show",
-        b"where a",
         b"putif a 1",
+        b"putif a 1 2 3",
+        b"putnew a",
+        b"hold",
+        b"hold a b",
+        b"show a",
+        b"show ",
+        b" release",
+        b"release\r\n",
+        b"evicts",
+        b"where",
+        b"get a\0",
     ];
     for bytes in &rows {
         assert!(rt; fault_of(rt.alloc(), bytes) == Some(FileFault::BadLine(1)));

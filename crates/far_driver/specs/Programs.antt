@@ -35,6 +35,7 @@ run_status (fault.BadConfig n) = 2
 run_status (fault.BadLine file line) = 2
 run_status (fault.TooManyLines file) = 2
 run_status (fault.Read file) = 1
+run_status (fault.AsksTable file command) = 2
 run_status fault.Memory = 1
 run_status fault.Write = 1
 run_status (fault.Contents r) = 1

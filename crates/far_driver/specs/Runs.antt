@@ -1,5 +1,5 @@
 -- A run of one file's commands on the map of one thread, and what it writes.
-use Rattle.std.specs.Prelude.{◌≡◌, ℕ, ◌<◌, Bool, true, false, IsTrue, List, [], ◌∷◌, ◌++◌, length, map, codes, Option, Some, None, IfSome, Result, Err, ◌⊎◌, ⊤}
+use Rattle.std.specs.Prelude.{◌≡◌, ℕ, ◌+◌, ◌<◌, Bool, true, false, IsTrue, List, [], ◌∷◌, ◌++◌, length, map, codes, Option, Some, None, IfSome, Result, Err, ◌⊎◌, ⊤}
 use Rattle.std.specs.Io.KnownBytes.{Keeps}
 use Rattle.far_object.specs.Encodings.{enc_text}
 use Rattle.far_object.specs.Buckets.{bucket}
@@ -8,7 +8,10 @@ use Rattle.table_core.specs.declared.operation.Operation.{Operation}
 use Rattle.table_core.specs.declared.operation.Operation.TheVariants as op
 use Rattle.table_core.specs.Maps.{key_of, value_at, at_bucket, is_met, reply, after, map_of}
 use Rattle.command_file.specs.declared.command.Command.{Command}
-use Rattle.command_file.specs.declared.command.Command.TheVariants as command
+use Rattle.command_file.specs.declared.command.Command.TheVariants.{Map, Table}
+use Rattle.command_file.specs.declared.command.MapCommand.{MapCommand}
+use Rattle.command_file.specs.declared.command.MapCommand.TheVariants as command
+use Rattle.command_file.specs.declared.command.TableCommand.{TableCommand}
 use Rattle.command_file.specs.Lines.{lines_of}
 use Rattle.command_file.specs.Files.{IsFile, IsBadLine, IsTooMany}
 use Rattle.command_file.specs.declared.fault.FileFault.{FileFault}
@@ -29,12 +32,13 @@ Call = ℕ × Operation (List ℕ) (List ℕ)
 
 -- ---- what a command asks
 
-abbrev pub operation_of : Command → Operation (List ℕ) (List ℕ)
+abbrev pub operation_of : MapCommand → Operation (List ℕ) (List ℕ)
 operation_of (command.Put key value) = op.Put key value
 operation_of (command.Get key) = op.Get key
 operation_of (command.Delete key) = op.Remove key
 operation_of (command.PutIf key expected value) = op.PutIf key (Some expected) value
 operation_of (command.PutNew key value) = op.PutIf key None value
+operation_of (command.Hold key) = op.Get key
 
 -- whether the operation sets its key
 abbrev pub sets : Texts → Operation (List ℕ) (List ℕ) → Bool
@@ -61,13 +65,13 @@ refusal_text refusal.TooLong = codes "too long"
 
 module _ (buckets limit : ℕ) where
   -- a command whose call was done: its line is the reply of the map, and the calls go on by it
-  pub record IsDone (m : Texts) (c : Command) (line : List ℕ) (calls rest : List Call) : Type 0 where
+  pub record IsDone (m : Texts) (c : MapCommand) (line : List ℕ) (calls rest : List Call) : Type 0 where
     pub line_is : line ≡ text_of (reply enc_text m (operation_of c))
     pub fits : IsTooLong buckets limit m (operation_of c) → ⊥
     pub calls_are : calls ≡ (1, operation_of c) ∷ rest
 
   -- a command that was refused: too long where it is too long, and else for want of memory
-  abbrev pub IsRefused : Texts → Command → List ℕ → Type 0
+  abbrev pub IsRefused : Texts → MapCommand → List ℕ → Type 0
   IsRefused m c line =
       ((line ≡ refusal_text refusal.TooLong) × IsTooLong buckets limit m (operation_of c)) ⊎ (line ≡ refusal_text refusal.Memory)
 
@@ -76,7 +80,8 @@ module _ (buckets limit : ℕ) where
   Replied m [] [] calls = calls ≡ []
   Replied m [] (line ∷ lines) calls = ⊥
   Replied m (c ∷ commands) [] calls = ⊥
-  Replied m (c ∷ commands) (line ∷ lines) calls =
+  Replied m (Table c ∷ commands) (line ∷ lines) calls = ⊥
+  Replied m (Map c ∷ commands) (line ∷ lines) calls =
       ((rest : List Call) × IsDone m c line calls rest × Replied (after enc_text enc_text m (operation_of c)) commands lines rest)
       ⊎ (IsRefused m c line × Replied m commands lines calls)
 
@@ -109,11 +114,26 @@ abbrev pub told_field : Result (Unit {0}) RunFault → Option ℕ
 told_field (Err (fault.BadConfig n)) = Some n
 told_field _ = None
 
+-- the n-th command, counted from 1, asks the table itself
+pub record AsksTableAt (commands : List Command) (n : ℕ) : Type 0 where
+  pub before : List Command
+  pub command : TableCommand
+  pub behind : List Command
+  pub is : commands ≡ before ++ Table command ∷ behind
+  pub counted : n ≡ length before + 1
+
+-- the fault comes while the commands are run
+abbrev pub IsOfRunning : List Command → RunFault → Type 0
+IsOfRunning commands (fault.AsksTable file n) = (file ≡ 1) × AsksTableAt commands n
+IsOfRunning commands fault.Memory = ⊤
+IsOfRunning commands _ = ⊥
+
 -- the fault names the one file, and fits its bytes where they are known
 abbrev pub IsFaultOf : Option (List ℕ) → RunFault → Type 0
 IsFaultOf known (fault.BadLine file line) = (file ≡ 1) × IfSome known (λ bytes. IsBadLine (lines_of bytes) line)
 IsFaultOf known (fault.TooManyLines file) = (file ≡ 1) × IfSome known (λ bytes. IsTooMany (lines_of bytes))
 IsFaultOf known (fault.Read file) = file ≡ 1
+IsFaultOf known (fault.AsksTable file n) = (file ≡ 1) × IfSome known (λ bytes. (commands : List Command) × IsFile (lines_of bytes) commands × AsksTableAt commands n)
 IsFaultOf known (fault.Contents r) = r ≡ refusal.Memory
 IsFaultOf known _ = ⊤
 

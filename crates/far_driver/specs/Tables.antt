@@ -1,7 +1,6 @@
 -- The plain table: a machine, and the object of each bucket.
 use Rattle.std.specs.Prelude.{◌≡◌, ℕ, ◌+◌, ◌<◌, ◌≤◌, List, [], ◌∷◌, ◌++◌, length, slice_index_or, Option, Result, Ok, Err, MatchResult, ⊤}
 use Rattle.far_object.specs.Encodings.{enc_text}
-use Rattle.far_object.specs.Objects.{object_of}
 use Rattle.table_core.specs.declared.event.Event.{Event}
 use Rattle.table_core.specs.declared.operation.Operation.{Operation}
 use Rattle.table_core.specs.BucketWords.{name_of, place_of, empty_place}

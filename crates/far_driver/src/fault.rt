@@ -53,6 +53,9 @@ pub enum RunFault {
     /// A file of which a read failed.
     #[error("file {0}: read failed")]
     Read(u32),
+    /// A file with a command that asks the table itself, which the plain run has not. The first command has the number 1.
+    #[error("file {0} command {1}: asks the table")]
+    AsksTable(u32, u32),
     /// A growth was refused.
     #[error("memory")]
     Memory,

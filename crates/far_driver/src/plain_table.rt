@@ -35,7 +35,7 @@ ghost use Rattle.far_driver.specs.Runs.{operation_of};
 ghost use Rattle.far_driver.specs.Tables.{Log, IsAt, CallEnds, IsDrawnWord, object_in};
 
 use crate::fault::Refusal;
-use command_file::Command;
+use command_file::MapCommand;
 use far_object::{FarObject, Memory, Object, Text, bucket_of};
 use std::alloc::Global;
 use table_core::word::{EMPTY_PLACE, pack};
@@ -138,20 +138,21 @@ impl PlainTable {
     }
 
     /// Does what a command asks.
-    pub fn answer(&mut self, alloc: Global, command: &Command) -> Result<Option<Text>, Refusal>
+    pub fn answer(&mut self, alloc: Global, command: &MapCommand) -> Result<Option<Text>, Refusal>
         requires stands { (log : Log) × IsAt self.old log × (names_of log < 2 ^ 40 - 1) }
         ensures { (log : Log) → IsAt self.old log → names_of log < 2 ^ 40 - 1 → CallEnds self.old self.new log (operation_of command.now) result }
     {
         match command {
-            Command::Put { key, value } => self.put(alloc, key, value),
-            Command::Get { key } => self.get(alloc, key),
-            Command::Delete { key } => self.remove(alloc, key),
-            Command::PutIf {
+            MapCommand::Put { key, value } => self.put(alloc, key, value),
+            MapCommand::Get { key } => self.get(alloc, key),
+            MapCommand::Delete { key } => self.remove(alloc, key),
+            MapCommand::PutIf {
                 key,
                 expected,
                 value,
             } => self.put_if(alloc, key, Some(expected), value),
-            Command::PutNew { key, value } => self.put_if(alloc, key, None, value),
+            MapCommand::PutNew { key, value } => self.put_if(alloc, key, None, value),
+            MapCommand::Hold { key } => self.get(alloc, key),
         }
     }
 

@@ -58,6 +58,7 @@ impl ProgramFault {
                 RunFault::BadLine(_, _) => 2,
                 RunFault::TooManyLines(_) => 2,
                 RunFault::Read(_) => 1,
+                RunFault::AsksTable(_, _) => 2,
                 RunFault::Memory => 1,
                 RunFault::Write => 1,
                 RunFault::Contents(_) => 1,

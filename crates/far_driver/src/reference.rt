@@ -20,7 +20,7 @@ ghost use Rattle.std.specs.Io.KnownBytes.{Appends};
 ghost use Rattle.far_object.specs.Encodings.{enc_text};
 ghost use Rattle.table_core.specs.Maps.{map_of};
 ghost use Rattle.table_core.specs.Logs.{history, names_of};
-ghost use Rattle.far_driver.specs.Runs.{written, pair_line, Ran, told_field, IsFaultOf, IsOfWriting, KeepsBefore, file_fault};
+ghost use Rattle.far_driver.specs.Runs.{written, pair_line, Ran, told_field, IsFaultOf, IsOfRunning, IsOfWriting, KeepsBefore, file_fault};
 ghost use Rattle.far_driver.specs.Configs.{first_bad};
 ghost use Rattle.far_driver.specs.Tables.{Log, IsAt, line_of, RunsTo};
 
@@ -57,15 +57,23 @@ fn push_line(lines: &mut Vec<u8>, line: &[u8]) -> Result<(), Memory>
 }
 
 /// Runs the commands in order. The result has the lines of their replies.
-fn run(alloc: Global, table: &mut PlainTable, commands: &[Command]) -> Result<Vec<u8>, Memory>
+fn run(alloc: Global, table: &mut PlainTable, commands: &[Command]) -> Result<Vec<u8>, RunFault>
     requires fresh { (log : Log) × IsAt table.old log × (history log ≡ []) × (names_of log ≡ 0) }
     requires few { length commands.now ≤ 65536 }
-    ensures { IfOk result (λ text. RunsTo table.old table.new commands.now text.items) }
+    ensures ran { IfOk result (λ text. RunsTo table.old table.new commands.now text.items) }
+    ensures fault { IfErr result (IsOfRunning commands.now) }
 {
     let mut replies = Vec::new(alloc);
-    for command in commands {
+    for (at, command) in commands.iter().enumerate() {
+        let command = match command {
+            Command::Map(command) => command,
+            Command::Table(_) => return Err(RunFault::AsksTable(FILE, at as u32 + 1)),
+        };
         let reply = table.answer(alloc, command);
-        push_line(&mut replies, reply_text(&reply))?;
+        match push_line(&mut replies, reply_text(&reply)) {
+            Ok(()) => {}
+            Err(_) => return Err(RunFault::Memory),
+        }
     }
     Ok(replies)
 }
@@ -157,7 +165,7 @@ fn fault_of(file: u32, fault: FileFault) -> RunFault
 /// `too long`, and a command that is refused a growth `memory`; either leaves the table as it was.
 ///
 /// The faults come in the order of the work: `BadConfig`, whatever the reader; `BadLine`, `TooManyLines` and `Read` of the
-/// file; `Write` where a write or the last flush fails; `Contents` where there is no memory to put the pairs in order.
+/// file; `AsksTable` where a command asks the table itself; `Write` where a write or the last flush fails; `Contents` where there is no memory to put the pairs in order.
 /// `Memory` is any other growth that was refused: for the commands, the table, or a reply's line. No clause says when
 /// `Read`, `Memory`, `Write` and `Contents` come. Before the first write nothing is written.
 pub fn run_file<R: BufRead, W: Write>(
@@ -184,7 +192,7 @@ pub fn run_file<R: BufRead, W: Write>(
     };
     let replies = match run(alloc, &mut table, commands.as_slice()) {
         Ok(replies) => replies,
-        Err(_) => return Err(RunFault::Memory),
+        Err(fault) => return Err(fault),
     };
     write_run(alloc, &table, replies.as_slice(), out)
 }

@@ -6,7 +6,7 @@ use std::test::Fail;
 
 #[test]
 fn bad_lines(rt: HostRuntime) {
-    let rows: [&[u8]; 13] = [
+    let rows: [&[u8]; 9] = [
         b"put a",
         b"put a  1",
         b"put a 1 ",
@@ -15,11 +15,7 @@ fn bad_lines(rt: HostRuntime) {
         b"put a \x80",
         b"PUT a 1",
         b"get",
-        b"hold a",
-        b"show",
-        b"where a",
-        b"evict",
-        b"release",
+        b"show a",
     ];
     for file in &rows {
         let wanted = RunFault::BadLine(1, 1);
@@ -32,10 +28,25 @@ fn bad_lines_behind_others(rt: HostRuntime) {
     let rows: [(&[u8], u32); 3] = [
         (b"\nput a", 2),
         (b"put a 1\nget a\nget\nPUT a 1\n", 3),
-        (b"put a 1\nshow", 2),
+        (b"put a 1\nhold", 2),
     ];
     for (file, line) in &rows {
         let wanted = RunFault::BadLine(1, *line);
+        assert_fault(&rt, rt.alloc(), &settings(), file, wanted);
+    }
+}
+
+#[test]
+fn commands_that_ask_the_table(rt: HostRuntime) {
+    let rows: [(&[u8], u32); 5] = [
+        (b"show", 1),
+        (b"\nrelease", 1),
+        (b"put a 1\nevict\nshow", 2),
+        (b"hold a\nget a\nwhere a", 3),
+        (b"put a 1\nshow\nget b\n", 2),
+    ];
+    for (file, command) in &rows {
+        let wanted = RunFault::AsksTable(1, *command);
         assert_fault(&rt, rt.alloc(), &settings(), file, wanted);
     }
 }
@@ -189,6 +200,10 @@ fn texts(rt: HostRuntime) -> Result<(), Fail> {
         (RunFault::BadLine(1, 2), "file 1 line 2: bad command"),
         (RunFault::TooManyLines(1), "file 1: too many lines"),
         (RunFault::Read(1), "file 1: read failed"),
+        (
+            RunFault::AsksTable(1, 2),
+            "file 1 command 2: asks the table",
+        ),
         (RunFault::Memory, "memory"),
         (RunFault::Write, "write failed"),
         (RunFault::Contents(Refusal::Memory), "contents: memory"),

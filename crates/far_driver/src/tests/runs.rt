@@ -36,6 +36,18 @@ fn conditional_puts(rt: HostRuntime) {
     );
 }
 
+/// A held key is a get of the map.
+#[test]
+fn held_keys(rt: HostRuntime) {
+    assert_written(
+        &rt,
+        rt.alloc(),
+        &settings(),
+        b"hold a\nput a 1\nhold a\nhold a\n",
+        b"file 1\nnone\nnone\n1\n1\ncontents\na 1\n",
+    );
+}
+
 /// An object with the pair of `a` and `1` has 10 bytes: its count of 4, and two texts of 3.
 #[test]
 fn objects_at_the_limit(rt: HostRuntime) {

@@ -1,12 +1,21 @@
-use Rattle.std.proofs.Common.{ℕ, List, [], ◌∷◌, ◌++◌, ap, ◌∙◌}
-use Rattle.far_driver.proofs.Running.{start, next}
+use Rattle.std.proofs.Common.{ℕ, List, [], ◌∷◌, ◌++◌, ap, ◌∙◌, refl}
+use Rattle.far_driver.proofs.Running.{start, room, next, finish, here, asks_table}
 use Rattle.far_driver.proofs.reference.run.Goals as goal
 
-pub loop-command-init : goal.loop-command-init
-loop-command-init c = start c.args.table.now c.args.commands.now c.new-replies.result.items c.new-replies.ensures.items c.requires.fresh
+pub loop-at-init : goal.loop-at-init
+loop-at-init c = start c.args.table.now c.args.commands.now c.new-replies.result.items c.new-replies.ensures.items c.requires.fresh
 
-pub loop-command-preserved : goal.loop-command-preserved
-loop-command-preserved c =
-    next c.args.table.now c.loop-command.table c.answer-reply.new.self c.args.commands.now c.loop-command.command-index c.loop-command.replies.items c.push_line.new.lines.items c.command-item.result c.answer-reply.result
-    c.loop-command.invariant c.loop-command-test.true c.requires.few c.command-item.is c.answer-reply.ensures
-    (c.in_ok-push_line.ensures ∙ ap (λ (line : List ℕ). c.loop-command.replies.items ++ (line ++ 10 ∷ [])) c.reply_text.ensures)
+pub returns-in-Table-clause-fault : goal.returns-in-Table-clause-fault
+returns-in-Table-clause-fault c = (refl, asks_table c.args.commands.now c.loop-at.at c.in-Table.field-0 c.loop-at-test.true (here c.args.commands.now c.loop-at.at _ _ c.index-commands-at.is c.in-Table.is))
+
+pub answer-reply-requires : goal.answer-reply-requires
+answer-reply-requires c = record { stands = room c.args.table.now c.loop-at.table c.args.commands.now c.loop-at.at c.loop-at.replies.items c.loop-at.invariant c.loop-at-test.true c.requires.few }
+
+pub loop-at-preserved : goal.loop-at-preserved
+loop-at-preserved c =
+    next c.args.table.now c.loop-at.table c.answer-reply.new.self c.args.commands.now c.loop-at.at c.loop-at.replies.items c.push_line.new.lines.items c.in-Map.command c.answer-reply.result
+    c.loop-at.invariant c.loop-at-test.true c.requires.few (here c.args.commands.now c.loop-at.at _ _ c.index-commands-at.is c.in-Map.is) c.answer-reply.ensures
+    (c.in-Ok.ensures ∙ ap (λ (line : List ℕ). c.loop-at.replies.items ++ (line ++ 10 ∷ [])) c.reply_text.ensures)
+
+pub returns-clause-ran : goal.returns-clause-ran
+returns-clause-ran c = finish c.args.table.now c.loop-at.table c.args.commands.now c.loop-at.at c.loop-at.replies.items c.loop-at.invariant c.loop-at-test.false
