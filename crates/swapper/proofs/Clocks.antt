@@ -1,7 +1,7 @@
 -- A walk of the hand.
 use Rattle.std.proofs.Common.{◌≡◌, ◌≢◌, ℕ, zero, suc, ◌+◌, ◌-◌, ◌<◌, ◌≤◌, ◌==◌, ltb, Bool, true, false, true≢false, not, ◌&&◌, ◌||◌, cond, List, length, set, Option, Some, None, refl, ap, sym, ◌∙◌, subst, inl, inr, ◌⊎◌, ⊎_elim, arith, lt-ltb, le-ltb, add-one}
 use Rattle.std.proofs.Math.ListN.{length-set}
-use Rattle.std.proofs.lemmas.List.{get_or-set_same, get_or-set_other}
+use Rattle.std.proofs.lemmas.List.{get_or-set_same, get_or-set_other, same_lists, get_or_default}
 use Rattle.std.proofs.lemmas.Bool.Decides.{eqb_tells}
 use Rattle.swapper.specs.Chances.{at, next, flag, first, unheld, unmarked, victim, hand_after, spent, marked, chosen, IsSwept}
 use Rattle.swapper.specs.Meetings.{Finds, IsMet, Asks, IsWalked, or_this}
@@ -376,3 +376,36 @@ module _ (old : List Bool) (hand : ℕ) (may_hold may_touch : ℕ → Bool → T
   walked_lost new_hand all e w is =
       let at_end : Walked old hand may_hold may_touch marks frame spared (length old) = subst (λ (n : ℕ). Walked old hand may_hold may_touch marks frame spared n) all w in
       walked_all old hand may_hold may_touch marks frame new_hand spared at_end (is ∙ sym (ap (λ (o : Option ℕ). hand_from old hand may_hold may_touch o) e))
+
+-- ---- no victim
+
+is_some : Option ℕ → Bool
+is_some None = false
+is_some (Some v) = true
+
+-- each frame is reached by some step
+step_to : (count hand f : ℕ) → hand < count → f < count → (j : ℕ) × (j < count) × (at count hand j ≡ f)
+unfolding At
+step_to count hand f h lt = ⊎_elim
+    (λ less. (f + count - hand, omega (arith, less, h, lt), ⊎_elim (λ a. absurd (omega (arith, a.0, less, h))) (λ a. omega (arith, a.1, less, h)) (at_is count hand (f + count - hand))))
+    (λ more. (f - hand, omega (arith, more, lt), ⊎_elim (λ a. omega (arith, a.1, more)) (λ a. absurd (omega (arith, a.0, more, lt))) (at_is count hand (f - hand))))
+    (lt_or_le f hand)
+
+-- where there is no victim, nothing has changed
+pub swept_none : (held : ℕ → Bool) (old : List Bool) (hand : ℕ) (new : List Bool) (new_hand : ℕ) → hand < length old → IsSwept held (λ k. false) old hand new new_hand None → (new ≡ old) × (new_hand ≡ hand)
+unfolding is_some
+swept_none held old hand new new_hand h s = by (chosen held (λ k. false) old hand) refl
+  where
+    by : (o : Option (ℕ × ℕ)) → chosen held (λ k. false) old hand ≡ o → (new ≡ old) × (new_hand ≡ hand)
+    by (Some c) e = absurd (true≢false (sym (ap is_some (s.victim_is ∙ ap (λ (o : Option (ℕ × ℕ)). victim (length old) hand o) e))))
+    by None e = (
+      same_lists new old s.count_stays (λ f d lt.
+          let below : f < length old = omega (arith, lt, s.count_stays) in
+          let j = step_to (length old) hand f h below in
+          let stays : flag new (at (length old) hand j.0) ≡ flag old (at (length old) hand j.0) =
+          s.marks_are j.0 j.1 ∙ (ap (λ (o : Option (ℕ × ℕ)). marked held (λ k. false) old hand j.0 && (held j.0 || not (ltb j.0 (spent o)))) e
+          ∙ (ap (λ (b : Bool). marked held (λ k. false) old hand j.0 && (held j.0 || not b)) (le-ltb j.0 0 (omega arith)) ∙ (ap (λ (b : Bool). marked held (λ k. false) old hand j.0 && b) (or_true (held j.0))
+          ∙ (and_true (marked held (λ k. false) old hand j.0) ∙ or_false (flag old (at (length old) hand j.0)))))) in
+          get_or_default new f d false lt ∙ (subst (λ (x : ℕ). flag new x ≡ flag old x) j.2 stays ∙ get_or_default old f false d below)),
+      s.hand_is ∙ ap (λ (o : Option (ℕ × ℕ)). hand_after (length old) hand o) e,
+    )

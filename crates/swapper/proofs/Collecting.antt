@@ -1,8 +1,11 @@
 -- Spares that are tried one after another.
 use Rattle.std.proofs.Common.{◌≡◌, ℕ, ◌+◌, ◌-◌, ◌^◌, ◌<◌, ◌≤◌, min, List, [], ◌∷◌, ◌++◌, length, refl, ap, sym, ◌∙◌, subst, inl, inr, ◌⊎◌, ⊎_elim, Option, Result, Bool, arith, append_assoc, length-append}
 use Rattle.std.proofs.lemmas.List.{append-nil}
+use mathlib.Core.List.{IsPrefix}
+use Rattle.table_core.specs.declared.event.Event.{Event}
 use Rattle.table_core.specs.declared.limits.Limits.{Limits}
 use Rattle.version_words.specs.Views.{SpareView, Goes}
+use Rattle.version_words.proofs.Fronts.{prefix_trans}
 use Rattle.hash_table.proofs.Fronts.{goes_self, goes_trans}
 use Rattle.hash_table.specs.Reclaims.{IsReclaimed}
 use Rattle.hash_table.specs.declared.caller.Caller.{Caller}
@@ -11,7 +14,7 @@ use Rattle.swapper.specs.Meetings.{Asks}
 use Rattle.swapper.proofs.Clocks.{asks_all}
 use Rattle.swapper.specs.declared.rule.SeatView.{SeatView}
 use Rattle.swapper.specs.Seats.{TakesNext}
-use Rattle.swapper.specs.Evictors.{EvictorView, shown, Works, Tries, Stays, DrawsKept, DrawsOwn, DrawsNext, IsFull, IsDrained, Sifts, TakesAll, AreGone, Retries, Tried, Collects, Picks, GivesUp, Turns}
+use Rattle.swapper.specs.Evictors.{EvictorView, shown, Works, Tries, Stays, DrawsKept, DrawsOwn, DrawsNext, IsFull, IsDrained, Sifts, AreTold, TakesAll, AreGone, Retries, Tried, Collects, Picks, GivesUp, Turns}
 
 -- counts that are shown add up
 pub shown_more : (a b shown_a shown_b c : ℕ) → shown_a ≡ shown a → shown_b ≡ shown b → c ≡ min (shown_a + shown_b) (2 ^ 64 - 1) → c ≡ shown (a + b)
@@ -52,6 +55,18 @@ module _ {K V : Type 0} where
   keeps_shown kept new s gone (inl e) = omega (arith, e.0)
   keeps_shown kept new s gone (inr e) = omega (arith, e.0)
 
+  told_later : (log later : List (Event K V)) → IsPrefix log later → (ss : List (SpareView K V)) → AreTold log ss → AreTold later ss
+  told_later log later p [] h = tt
+  told_later log later p (s ∷ ss) h = (prefix_trans s.front log later h.0 p, told_later log later p ss h.1)
+
+  told_push : (log : List (Event K V)) (ss : List (SpareView K V)) (s : SpareView K V) → AreTold log ss → IsPrefix s.front log → AreTold log (ss ++ s ∷ [])
+  told_push log [] s h t = (t, tt)
+  told_push log (x ∷ ss) s h t = (h.0, told_push log ss s h.1 t)
+
+  told_append : (log : List (Event K V)) (a b : List (SpareView K V)) → AreTold log a → AreTold log b → AreTold log (a ++ b)
+  told_append log [] b h k = k
+  told_append log (s ∷ a) b h k = (h.0, told_append log a b h.1 k)
+
   takes_one_more : (gone : List (SpareView K V)) (x : SpareView K V) (v u w : SeatView (SpareView K V)) → TakesAll v gone u → TakesNext u x w → TakesAll v (gone ++ x ∷ []) w
   takes_one_more [] x v u w h o = (w, subst (λ (y : SeatView (SpareView K V)). TakesNext y x w) h o, refl)
   takes_one_more (y ∷ gone) x v u w h o = (h.0, h.1, takes_one_more gone x h.0 u w h.2 o)
@@ -66,6 +81,7 @@ module _ {K V : Type 0} where
     pub all : old.kept ≡ gone ++ rest
     pub here : now.kept ≡ rest ++ sifted
     pub sifts : Sifts gone sifted
+    pub told : AreTold now.pass.front gone
     pub lost : AreGone reclaimed gone sifted
     pub count : length gone ≡ k
     pub limbo : now.limbo ≡ old.limbo
@@ -80,6 +96,7 @@ module _ {K V : Type 0} where
     all = refl;
     here = sym (append-nil old.kept);
     sifts = refl;
+    told = tt;
     lost = refl;
     count = refl;
     limbo = refl;
@@ -108,6 +125,7 @@ module _ {K V : Type 0} where
             all = r.all ∙ (ap (λ (l : List (SpareView K V)). r.gone ++ l) (e ∙ ap (λ (y : SpareView K V). y ∷ rest) (sym is)) ∙ sym (append_assoc r.gone (s ∷ []) rest));
             here = k'.1;
             sifts = sifts_push r.gone r.sifted k'.0 s more r.sifts k'.2;
+            told = told_push new.pass.front r.gone s (told_later now.pass.front new.pass.front (works_trans d.works t.works).goes.grows r.gone r.told) t.told;
             lost = gone_push r.gone r.sifted k'.0 s reclaimed more r.lost k'.2;
             count = omega (arith, r.count, length-append r.gone (s ∷ []));
             limbo = t.limbo ∙ (d.limbo ∙ r.limbo);
@@ -138,6 +156,7 @@ module _ {K V : Type 0} where
           let to : r.sifted ≡ now.kept = sym (r.here ∙ ap (λ (l : List (SpareView K V)). l ++ r.sifted) e) in
           record {
             works = r.works;
+            told = subst (λ (l : List (SpareView K V)). AreTold now.pass.front l) from r.told;
             kept = subst (λ (p : List (SpareView K V) × List (SpareView K V)). Sifts p.0 p.1) (λ i. (from i, to i)) r.sifts;
             count = subst (λ (p : List (SpareView K V) × List (SpareView K V)). AreGone reclaimed p.0 p.1) (λ i. (from i, to i)) r.lost;
             limbo = r.limbo;
@@ -148,7 +167,7 @@ module _ {K V : Type 0} where
   -- ---- its own limbo, and the queue
 
   pub tried_none : (old : EvictorView K V) → Tried old old [] [] 0
-  tried_none old = record { works = works_self old; added = []; kept = sym (append-nil old.kept); sifted = refl; gone = 0; count = refl; tells = refl; limbo = refl; seat = refl }
+  tried_none old = record { works = works_self old; added = []; kept = sym (append-nil old.kept); told = tt; sifted = refl; gone = 0; count = refl; tells = refl; limbo = refl; seat = refl }
 
   keeps_added : (a b old new : List (SpareView K V)) (s : SpareView K V) (gone : ℕ) → old ≡ a ++ b → Keeps old s gone new → (c : List (SpareView K V)) × (new ≡ a ++ c) × Keeps b s gone c
   keeps_added a b old new s gone e k = keeps_behind a b new s gone (subst (λ (l : List (SpareView K V)). Keeps l s gone new) e k)
@@ -158,12 +177,15 @@ module _ {K V : Type 0} where
   tried_own old now drawn new s reclaimed more sum (went, r) d t is =
       let k = keeps_added old.kept r.added drawn.kept new.kept s more (d.kept ∙ r.kept) t.kept in
       let before : Sifts went r.added = subst (λ (l : List (SpareView K V)). Sifts l r.added) (append-nil went) r.sifted in
+      let told : AreTold now.pass.front went = subst (λ (l : List (SpareView K V)). AreTold now.pass.front l) (append-nil went) r.told in
       let lost : AreGone r.gone went r.added = subst (λ (l : List (SpareView K V)). AreGone r.gone l r.added) (append-nil went) r.count in (
         went ++ s ∷ [],
         record {
           works = works_trans r.works (works_trans d.works t.works);
           added = k.0;
           kept = k.1;
+          told = subst (λ (l : List (SpareView K V)). AreTold new.pass.front l) (sym (append-nil (went ++ s ∷ [])))
+              (told_push new.pass.front went s (told_later now.pass.front new.pass.front (works_trans d.works t.works).goes.grows went told) t.told);
           sifted = subst (λ (l : List (SpareView K V)). Sifts l k.0) (sym (append-nil (went ++ s ∷ []))) (sifts_push went r.added k.0 s more before k.2);
           gone = r.gone + more;
           count = subst (λ (l : List (SpareView K V)). AreGone (r.gone + more) l k.0) (sym (append-nil (went ++ s ∷ []))) (gone_push went r.added k.0 s r.gone more lost k.2);
@@ -182,6 +204,7 @@ module _ {K V : Type 0} where
           works = works_trans r.works (works_trans d.works t.works);
           added = k.0;
           kept = k.1;
+          told = told_push new.pass.front taken s (told_later now.pass.front new.pass.front (works_trans d.works t.works).goes.grows taken r.told) t.told;
           sifted = sifts_push taken r.added k.0 s more r.sifted k.2;
           gone = r.gone + more;
           count = gone_push taken r.added k.0 s r.gone more r.count k.2;
@@ -197,6 +220,7 @@ module _ {K V : Type 0} where
     works = works_trans r.works s.works;
     added = r.added;
     kept = s.kept ∙ r.kept;
+    told = told_later now.pass.front new.pass.front s.works.goes.grows (went ++ taken) r.told;
     sifted = r.sifted;
     gone = r.gone;
     count = r.count;
@@ -229,6 +253,8 @@ module _ {K V : Type 0} where
       taken = taken;
       limbo = sym r.limbo ∙ (o.limbo ∙ ap (λ (l : List (SpareView K V)). went ++ l) q.limbo);
       seat = subst (λ (v : SeatView (SpareView K V)). TakesAll v taken new.seat) (o.seat ∙ r.seat) q.seat;
+      told = told_append new.pass.front old.kept (went ++ taken) (told_later a.pass.front new.pass.front (works_trans o.works q.works).goes.grows old.kept r.told)
+          (told_append new.pass.front went taken (told_later b.pass.front new.pass.front q.works.goes.grows went told) q.told);
       kept = subst (λ (l : List (SpareView K V)). Sifts (old.kept ++ (went ++ taken)) l) kept (sifts_append old.kept a.kept (went ++ taken) (o.added ++ q.added) r.kept (sifts_append went o.added taken q.added sifted q.sifted));
       count = subst (λ (l : List (SpareView K V)). AreGone (x + (o.gone + q.gone)) (old.kept ++ (went ++ taken)) l) kept
           (gone_append old.kept a.kept (went ++ taken) (o.added ++ q.added) x (o.gone + q.gone) r.count (gone_append went o.added taken q.added o.gone q.gone lost q.count));
@@ -248,6 +274,9 @@ module _ {K V : Type 0} where
 
       sifted : Sifts went o.added
       sifted = subst (λ (l : List (SpareView K V)). Sifts l o.added) (append-nil went) o.sifted
+
+      told : AreTold b.pass.front went
+      told = subst (λ (l : List (SpareView K V)). AreTold b.pass.front l) (append-nil went) o.told
 
       lost : AreGone o.gone went o.added
       lost = subst (λ (l : List (SpareView K V)). AreGone o.gone l o.added) (append-nil went) o.count

@@ -1,5 +1,7 @@
 -- What an evictor does: where spares go, and whom it gives up.
-use Rattle.std.specs.Prelude.{◌≡◌, ℕ, ◌+◌, ◌-◌, ◌^◌, ◌<◌, ◌≤◌, min, Bool, false, List, [], ◌∷◌, ◌++◌, ◌⊎◌, length, Option, Some, None, Result, Ok, Err, IfOk, IfErr, IsTrue}
+use Rattle.std.specs.Prelude.{◌≡◌, ℕ, ◌+◌, ◌-◌, ◌^◌, ◌<◌, ◌≤◌, min, Bool, false, List, [], ◌∷◌, ◌++◌, ◌⊎◌, length, Option, Some, None, Result, Ok, Err, IfOk, IfErr, IsTrue, ⊤}
+use mathlib.Core.List.{IsPrefix}
+use Rattle.table_core.specs.declared.event.Event.{Event}
 use Rattle.table_core.specs.declared.limits.Limits.{Limits}
 use Rattle.table_core.specs.BucketWords.{far_place}
 use Rattle.version_words.specs.Views.{PassView, SpareView, Goes}
@@ -36,9 +38,10 @@ module _ {K V : Type 0} where
     pub clock : new.clock ≡ old.clock
     pub room : new.room ≡ old.room
 
-  -- a spare was tried: it was reclaimed, or it is kept as the last one. So many were reclaimed
+  -- a spare was tried, and so its mark learned: it was reclaimed, or it is kept as the last one. So many were reclaimed
   pub record Tries (old new : EvictorView K V) (s : SpareView K V) (reclaimed : ℕ) : Type 0 where
     pub works : Works old new
+    pub told : IsPrefix s.front new.pass.front
     pub kept : ((reclaimed ≡ 1) × (new.kept ≡ old.kept) × IsReclaimed s) ⊎ ((reclaimed ≡ 0) × (new.kept ≡ old.kept ++ s ∷ []))
     pub limbo : new.limbo ≡ old.limbo
     pub seat : new.seat ≡ old.seat
@@ -87,6 +90,11 @@ module _ {K V : Type 0} where
   Sifts [] kept = kept ≡ []
   Sifts (s ∷ ss) kept = (IsReclaimed s × Sifts ss kept) ⊎ ((rest : List (SpareView K V)) × (kept ≡ s ∷ rest) × Sifts ss rest)
 
+  -- the log begins with what each of these spares says
+  abbrev pub AreTold : List (Event K V) → List (SpareView K V) → Type 0
+  AreTold log [] = ⊤
+  AreTold log (s ∷ ss) = IsPrefix s.front log × AreTold log ss
+
   -- these were taken one after another
   abbrev pub TakesAll : SeatView (SpareView K V) → List (SpareView K V) → SeatView (SpareView K V) → Type 0
   TakesAll v [] w = w ≡ v
@@ -99,6 +107,7 @@ module _ {K V : Type 0} where
   -- the kept spares were tried, each once
   pub record Retries (old new : EvictorView K V) (reclaimed : ℕ) : Type 0 where
     pub works : Works old new
+    pub told : AreTold new.pass.front old.kept
     pub kept : Sifts old.kept new.kept
     pub count : AreGone reclaimed old.kept new.kept
     pub limbo : new.limbo ≡ old.limbo
@@ -109,6 +118,7 @@ module _ {K V : Type 0} where
     pub works : Works old new
     pub added : List (SpareView K V)
     pub kept : new.kept ≡ old.kept ++ added
+    pub told : AreTold new.pass.front (went ++ taken)
     pub sifted : Sifts (went ++ taken) added
     pub gone : ℕ
     pub count : AreGone gone (went ++ taken) added
@@ -116,13 +126,14 @@ module _ {K V : Type 0} where
     pub limbo : old.limbo ≡ went ++ new.limbo
     pub seat : TakesAll old.seat taken new.seat
 
-  -- a collecting loses no spare: each that it kept, each of these of its limbo, and each of these of the queue was reclaimed or is kept, in order. It ends where there is room for no more, or nothing is left
+  -- a collecting loses no spare: each that it kept, each of these of its limbo, and each of these of the queue was tried, and was reclaimed or is kept, in order. It ends where there is room for no more, or nothing is left
   pub record Collects (old new : EvictorView K V) (gone : ℕ) : Type 0 where
     pub works : Works old new
     pub went : List (SpareView K V)
     pub taken : List (SpareView K V)
     pub limbo : old.limbo ≡ went ++ new.limbo
     pub seat : TakesAll old.seat taken new.seat
+    pub told : AreTold new.pass.front (old.kept ++ (went ++ taken))
     pub kept : Sifts (old.kept ++ (went ++ taken)) new.kept
     pub count : AreGone gone (old.kept ++ (went ++ taken)) new.kept
     pub stopped : IsFull new ⊎ ((new.limbo ≡ []) × IsDrained new.seat)

@@ -4,7 +4,7 @@
 //! that is neither is the victim. Where a whole round meets none, the first frame that is not held is it: all marks of the
 //! others went in that round, so a second one would stop there. So no walk asks a frame twice, and it asks none behind its
 //! victim.
-ghost use Rattle.std.specs.Prelude.{◌≡◌, ◌<◌, ℕ, length, true, false, replicate, set, IfOk, IfSome};
+ghost use Rattle.std.specs.Prelude.{◌≡◌, ◌<◌, ℕ, length, true, false, replicate, set, IfOk, IfSome, IfNone};
 ghost use Rattle.swapper.specs.Chances.{flag, at, next, IsSwept};
 ghost use Rattle.swapper.specs.Meetings.{IsMet, IsWalked, Asks, or_this as first_found};
 
@@ -156,7 +156,9 @@ impl Clock {
         ensures swept { IsSwept (λ k. flag held.now (at (length self.old.marks) self.old.hand k)) (λ k. false)
             self.old.marks self.old.hand self.new.marks self.new.hand result }
         ensures below { IfSome result (λ v. v < length self.new.marks) }
+        ensures still { IfNone result (self.new ≡ self.old) }
     {
+        let _hand = self.hand();
         match self.walk(&Flags { held }, &mut ()) {
             Some(victim) => Some(victim as usize),
             None => None,

@@ -1,5 +1,6 @@
 //! Spares are tried one after another.
 ghost use Rattle.std.specs.Prelude.{◌≡◌, ◌<◌, ◌≤◌, ◌⊎◌, [], List, length, MatchBool, MatchOption, IfErr, OnOk};
+ghost use mathlib.Core.List.{IsPrefix};
 ghost use Rattle.version_words.specs.Views.{Goes, SpareView};
 ghost use Rattle.hash_table.specs.Reclaims.{IsReclaimed};
 ghost use Rattle.swapper.specs.Evictors.{Tries, Stays, DrawsKept, DrawsOwn, DrawsNext, IsFull, IsDrained, Retries, Tried};
@@ -23,6 +24,7 @@ fn reclaim<K: FarObject, V: FarObject, J: Naming, D: Device, R: Wait>(
 ) -> Result<(), Spare<K, V, J>>
     ensures goes { Goes caller.old.pass caller.new.pass }
     ensures limbo { caller.new.limbo ≡ caller.old.limbo }
+    ensures told { IsPrefix spare.front caller.new.pass.front }
     ensures reclaimed { OnOk result (IsReclaimed spare) }
     ensures back { IfErr result (λ s. s ≡ spare) }
 {

@@ -1,5 +1,5 @@
 use Rattle.std.proofs.Common.{[]}
-use Rattle.swapper.proofs.Collecting.{tried_none, tried_own}
+use Rattle.swapper.proofs.Collecting.{tried_none, tried_own, tried_empty}
 use Rattle.swapper.proofs.evictor.Evictor.empty_limbo.Goals as goal
 
 pub loop-init : goal.loop-init
@@ -7,3 +7,6 @@ loop-init g c = ([], tried_none c.args.self.now)
 
 pub loop-preserved : goal.loop-preserved
 loop-preserved g c = tried_own c.args.self.now c.loop.self c.draw_own.new.self c.try_one.new.self c.in-Some-draw_own.spare c.loop.reclaimed c.try_one.result _ c.loop.invariant c.in-Some-draw_own.ensures c.try_one.ensures c.saturating_add-reclaimed.ensures
+
+pub returns-in_default-clause-tried : goal.returns-in_default-clause-tried
+returns-in_default-clause-tried g c = tried_empty c.args.self.now c.loop.self c.draw_own.new.self c.loop.reclaimed c.loop.invariant c.in_default.ensures
