@@ -1,5 +1,1 @@
-pub mod Going
-pub mod Running
-pub mod Writing
-pub mod Ending
 pub mod Numbers

@@ -7,7 +7,7 @@ use Rattle.std.specs.Result.{result_ok}
 use Rattle.std.specs.Str.{all_ascii_digits}
 use Rattle.std.specs.Str.Parse.{ParsesUnsigned}
 use Rattle.std.specs.declared.num.ParseIntError.{ParseIntError}
-use Rattle.far_driver.specs.Programs.{is_digit, decimal_from, number_of}
+use Rattle.far_driver.specs.Arguments.{is_digit, decimal_from, number_of}
 
 own : IsNumeralModel (λ ds. all_ascii_digits ds ≡ true) (decimal_from 0)
 own = numerals_by_fold _ (search rules) decimal_from (search rules)

@@ -1,4 +1,4 @@
 pub mod Configs
 pub mod Runs
-pub mod Tables
-pub mod Programs
+pub mod Arguments
+pub mod Statuses

@@ -1,44 +1,13 @@
-//! Why a command is refused, and why a run ends early.
+//! Why a run ends early.
 ghost use Rattle.std.specs.Prelude.{◌≡◌};
-ghost use Rattle.far_driver.specs.declared.fault.Refusal.TheVariants.{Memory as refusal_memory};
+ghost use Rattle.far_driver.specs.Runs.{file_fault, run_fault};
 
-use far_object::Memory;
+use command_file::FileFault;
+use plain_run::PlainFault;
+use run_lines::Refusal;
 use thiserror::Error;
 
-/// Why a command was refused. Its text is the command's reply.
-#[derive(Clone, Copy, Debug, PartialEq, Eq, Error)]
-pub enum Refusal {
-    /// A growth was refused.
-    #[error("memory")]
-    Memory,
-    /// The new object would be longer than the limit.
-    #[error("too long")]
-    TooLong,
-}
-
-impl From<Memory> for Refusal {
-    ghost from_gives = { λ _ refusal. refusal ≡ refusal_memory };
-
-    fn from(_refused: Memory) -> Refusal {
-        Refusal::Memory
-    }
-}
-
-impl Refusal {
-    ghost use Rattle.far_driver.specs.Runs.{refusal_text};
-
-    /// The text of the reply.
-    pub fn text(self) -> &'static [u8]
-        ensures { result.now ≡ refusal_text self }
-    {
-        match self {
-            Refusal::Memory => b"memory",
-            Refusal::TooLong => b"too long",
-        }
-    }
-}
-
-/// Why a run ended early. Files are counted from 1, and so are lines.
+/// Why a run ended early. Files are counted from 1, and so are lines and commands.
 #[derive(Clone, Copy, Debug, PartialEq, Eq, Error)]
 pub enum RunFault {
     /// The first field of the settings that is outside its limits.
@@ -53,7 +22,7 @@ pub enum RunFault {
     /// A file of which a read failed.
     #[error("file {0}: read failed")]
     Read(u32),
-    /// A file with a command that asks the table itself, which the plain run has not. The first command has the number 1.
+    /// The first command of a file that asks the table itself, which the plain run has not.
     #[error("file {0} command {1}: asks the table")]
     AsksTable(u32, u32),
     /// A growth was refused.
@@ -65,4 +34,29 @@ pub enum RunFault {
     /// The contents can't be read. The lines before `contents` were written.
     #[error("contents: {0}")]
     Contents(Refusal),
+}
+
+/// The fault of a run for that of its file.
+fn of_file(file: u32, fault: FileFault) -> RunFault
+    ensures { result ≡ file_fault file fault }
+{
+    match fault {
+        FileFault::BadLine(line) => RunFault::BadLine(file, line),
+        FileFault::TooManyLines => RunFault::TooManyLines(file),
+        FileFault::Read => RunFault::Read(file),
+        FileFault::Memory => RunFault::Memory,
+    }
+}
+
+/// The fault of a run for that of a plain run of the file with this number.
+pub(crate) fn of_plain_run(file: u32, fault: PlainFault) -> RunFault
+    ensures { result ≡ run_fault file fault }
+{
+    match fault {
+        PlainFault::File(fault) => of_file(file, fault),
+        PlainFault::AsksTable(command) => RunFault::AsksTable(file, command),
+        PlainFault::Memory => RunFault::Memory,
+        PlainFault::Write => RunFault::Write,
+        PlainFault::Contents => RunFault::Contents(Refusal::Memory),
+    }
 }

@@ -1,15 +1,21 @@
-//! The program: command files, the run of their commands, and what is printed.
+//! The program: its arguments, its file, the run, the texts of faults and the statuses.
 #![tactic(auto)]
 
+mod arguments;
 mod config;
 mod fault;
-mod plain_table;
 mod program;
-pub mod reference;
+mod run;
+mod sources;
+mod status;
 
+pub use arguments::read_words;
 pub use config::Config;
-pub use fault::{Refusal, RunFault};
-pub use program::{ProgramFault, read_words, run_program};
+pub use fault::RunFault;
+pub use program::run_program;
+pub use run::run_file;
+pub use run_lines::Refusal;
+pub use status::ProgramFault;
 
 #[cfg(test)]
 mod tests;

@@ -1,14 +1,10 @@
-//! Worked runs of the plain program, its faults, and the program's words, texts and statuses.
+//! Settings and files that are refused or not, and the program's words, texts and statuses.
 mod faults;
 mod inputs;
 mod program;
-mod refused;
-mod runs;
 mod runtime;
 
-use crate::Config;
-use crate::fault::RunFault;
-use crate::reference::run_file;
+use crate::{Config, RunFault, run_file};
 use std::alloc::Global;
 use std::process::Abort;
 
@@ -42,4 +38,42 @@ fn assert_fault(rt: &impl Abort, alloc: Global, config: &Config, file: &[u8], wa
     let ended = run_file(alloc, config, &mut file, &mut out);
     assert_eq!(rt; ended, Err(wanted));
     assert!(rt; out.is_empty());
+}
+
+#[test]
+fn settings_at_their_limits(rt: HostRuntime) {
+    let least = Config {
+        buckets: 1,
+        frames: 1,
+        limit: 4,
+        names: 1,
+        passes: 1,
+        lanes: 1,
+        spares: 1,
+        format: 1,
+    };
+    let greatest = Config {
+        buckets: 65_536,
+        frames: 65_536,
+        limit: 1_048_576,
+        names: (1 << 40) - 1,
+        passes: 65_535,
+        lanes: 64,
+        spares: 4_096,
+        format: 2,
+    };
+    assert_written(
+        &rt,
+        rt.alloc(),
+        &least,
+        b"get a\nput a 1",
+        b"file 1\nnone\ntoo long\ncontents\n",
+    );
+    assert_written(
+        &rt,
+        rt.alloc(),
+        &greatest,
+        b"get a\nput a 1",
+        b"file 1\nnone\nnone\ncontents\na 1\n",
+    );
 }

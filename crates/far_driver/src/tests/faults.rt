@@ -1,71 +1,32 @@
-//! Files and settings that are refused, and the texts of the faults.
+//! Settings and files that are refused, and the texts of the faults.
 use super::{assert_fault, settings};
-use crate::Config;
-use crate::fault::{Refusal, RunFault};
+use crate::{Config, Refusal, RunFault, run_file};
 use std::test::Fail;
 
 #[test]
-fn bad_lines(rt: HostRuntime) {
-    let rows: [&[u8]; 9] = [
-        b"put a",
-        b"put a  1",
-        b"put a 1 ",
-        b"put\ta 1",
-        b"put a 1\r\n",
-        b"put a \x80",
-        b"PUT a 1",
-        b"get",
-        b"show a",
-    ];
-    for file in &rows {
-        let wanted = RunFault::BadLine(1, 1);
-        assert_fault(&rt, rt.alloc(), &settings(), file, wanted);
-    }
-}
-
-#[test]
-fn bad_lines_behind_others(rt: HostRuntime) {
-    let rows: [(&[u8], u32); 3] = [
-        (b"\nput a", 2),
-        (b"put a 1\nget a\nget\nPUT a 1\n", 3),
-        (b"put a 1\nhold", 2),
-    ];
-    for (file, line) in &rows {
-        let wanted = RunFault::BadLine(1, *line);
-        assert_fault(&rt, rt.alloc(), &settings(), file, wanted);
-    }
-}
-
-#[test]
-fn commands_that_ask_the_table(rt: HostRuntime) {
-    let rows: [(&[u8], u32); 5] = [
-        (b"show", 1),
-        (b"\nrelease", 1),
-        (b"put a 1\nevict\nshow", 2),
-        (b"hold a\nget a\nwhere a", 3),
-        (b"put a 1\nshow\nget b\n", 2),
-    ];
-    for (file, command) in &rows {
-        let wanted = RunFault::AsksTable(1, *command);
-        assert_fault(&rt, rt.alloc(), &settings(), file, wanted);
-    }
-}
-
-#[test]
-fn files_beyond_their_limits(rt: HostRuntime) -> Result<(), Fail> {
+fn refused_files(rt: HostRuntime) -> Result<(), Fail> {
     let mut lines = Vec::new(rt.alloc());
     lines.resize(65_536, b'\n')?;
     lines.extend_from_slice(b"put a")?;
-    let mut word = Vec::from_slice(rt.alloc(), b"get ")?;
-    word.resize(4 + 256, b'a')?;
     let rows = [
+        (b"put a".as_slice(), RunFault::BadLine(1, 1)),
+        (b"put a 1\n\nget\n".as_slice(), RunFault::BadLine(1, 3)),
         (lines.as_slice(), RunFault::TooManyLines(1)),
-        (word.as_slice(), RunFault::BadLine(1, 1)),
+        (b"hold a\nshow\n".as_slice(), RunFault::AsksTable(1, 2)),
     ];
     for (file, wanted) in rows {
         assert_fault(&rt, rt.alloc(), &settings(), file, wanted);
     }
     Ok(())
+}
+
+#[test]
+fn little_room(rt: HostRuntime) {
+    let mut file = b"put a 1".as_slice();
+    let mut bytes = [0u8; 8];
+    let mut out = bytes.as_mut_slice();
+    let ended = run_file(rt.alloc(), &settings(), &mut file, &mut out);
+    assert_eq!(&rt; ended, Err(RunFault::Write));
 }
 
 #[test]
@@ -211,16 +172,6 @@ fn texts(rt: HostRuntime) -> Result<(), Fail> {
     for (fault, wanted) in rows {
         let text = format!(in rt.alloc(); "{fault}")?;
         assert_eq!(&rt; text.as_str(), wanted);
-    }
-    Ok(())
-}
-
-#[test]
-fn refusals_as_replies(rt: HostRuntime) -> Result<(), Fail> {
-    for (refusal, wanted) in [(Refusal::Memory, "memory"), (Refusal::TooLong, "too long")] {
-        let text = format!(in rt.alloc(); "{refusal}")?;
-        assert_eq!(&rt; text.as_str(), wanted);
-        assert!(&rt; refusal.text() == wanted.as_bytes());
     }
     Ok(())
 }

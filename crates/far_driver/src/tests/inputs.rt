@@ -1,7 +1,6 @@
-//! Readers and writers that fail, and a runtime whose standard input is in memory and which has no files.
-use std::alloc::Global;
+//! A reader that fails.
 use std::io;
-use std::io::{BufRead, ErrorKind, Read, Write};
+use std::io::{BufRead, ErrorKind, Read};
 
 /// Gives five bytes at a time, and fails at the look with the number `failing`, counted from 0.
 #[derive(Drop)]
@@ -47,49 +46,5 @@ impl BufRead for Faltering<'_> {
 
     fn consume(&mut self, amount: usize) {
         self.rest = &self.rest[amount.min(self.rest.len())..];
-    }
-}
-
-/// Takes what it is given, and fails at one write, counted from 1, or at each flush.
-#[derive(Drop)]
-pub struct FailingWriter {
-    writes: u32,
-    failing: Option<u32>,
-}
-
-impl FailingWriter {
-    pub fn at_write(failing: u32) -> FailingWriter {
-        FailingWriter {
-            writes: 0,
-            failing: Some(failing),
-        }
-    }
-
-    pub fn at_flush() -> FailingWriter {
-        FailingWriter {
-            writes: 0,
-            failing: None,
-        }
-    }
-
-    pub fn has_failed(&self) -> bool {
-        self.failing.is_some_and(|failing| failing <= self.writes)
-    }
-}
-
-impl Write for FailingWriter {
-    fn write(&mut self, buf: &[u8]) -> io::Result<usize> {
-        self.writes = self.writes.saturating_add(1);
-        if Some(self.writes) == self.failing {
-            return Err(io::Error::from(ErrorKind::Other));
-        }
-        Ok(buf.len())
-    }
-
-    fn flush(&mut self) -> io::Result<()> {
-        match self.failing {
-            Some(_) => Ok(()),
-            None => Err(io::Error::from(ErrorKind::Other)),
-        }
     }
 }

@@ -1,0 +1,20 @@
+-- The arguments of the program.
+use Rattle.std.specs.Prelude.{ℕ, ◌+◌, ◌-◌, ◌*◌, ◌&&◌, Bool, false, nat_lt, nat_le, if◌then◌else◌, List, [], ◌∷◌, length, Option, Some, None, is_some}
+use Rattle.std.specs.List.{list_all}
+
+abbrev pub is_digit : ℕ → Bool
+is_digit byte = nat_le 48 byte && nat_le byte 57
+
+-- the number that digits write, behind those that were read
+abbrev pub decimal_from : ℕ → List ℕ → ℕ
+decimal_from n [] = n
+decimal_from n (digit ∷ digits) = decimal_from (10 * n + (digit - 48)) digits
+
+-- one to seven decimal digits are a number
+abbrev pub number_of : List ℕ → Option ℕ
+number_of text = if nat_lt 0 (length text) && (nat_le (length text) 7 && list_all is_digit text) then Some (decimal_from 0 text) else None
+
+-- words are three numbers and a file
+abbrev pub are_arguments : List (List ℕ) → Bool
+are_arguments (buckets ∷ frames ∷ limit ∷ file ∷ []) = is_some (number_of buckets) && (is_some (number_of frames) && is_some (number_of limit))
+are_arguments _ = false

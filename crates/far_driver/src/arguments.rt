@@ -1,0 +1,94 @@
+//! The words of the process, and what they ask for.
+ghost use Rattle.std.specs.Prelude.{◌≡◌, map, is_some, string_bytes, IfErr};
+ghost use Rattle.std.specs.List.{list_all};
+ghost use Rattle.far_driver.specs.Arguments.{is_digit, number_of, are_arguments};
+ghost use Rattle.far_driver.specs.Statuses.{IsOfWords};
+
+use crate::config::Config;
+use crate::fault::RunFault;
+use crate::status::ProgramFault;
+use std::env;
+use std::env::Env;
+use std::io::ErrorKind;
+
+/// The most decimal digits of a number among the arguments.
+const MOST_DIGITS: usize = 7;
+
+/// The words behind the program's name.
+///
+/// `Usage` comes where a word, or the program's name, is no UTF-8 text: a path is text here. Want of memory is
+/// `RunFault::Memory`.
+pub fn read_words<R: Env + AllocGlobal>(rt: &R) -> Result<Vec<String>, ProgramFault>
+    ensures fault { IfErr result IsOfWords }
+{
+    let all = match env::args(rt) {
+        Ok(all) => all,
+        Err(fault) if fault.kind() == ErrorKind::InvalidData => return Err(ProgramFault::Usage),
+        Err(_) => return Err(ProgramFault::Run(RunFault::Memory)),
+    };
+    let mut words = Vec::new(rt.alloc());
+    for word in all.skip(1) {
+        if words.push(word).is_err() {
+            return Err(ProgramFault::Run(RunFault::Memory));
+        }
+    }
+    Ok(words)
+}
+
+/// Whether each byte is a decimal digit.
+fn are_digits(text: &[u8]) -> bool
+    ensures { result ≡ list_all is_digit text.now }
+{
+    text.iter().all(|byte| b'0' <= *byte && *byte <= b'9')
+}
+
+/// The number that one to seven decimal digits write.
+fn number(text: &str) -> Option<u32>
+    ensures { result ≡ number_of text.now }
+{
+    if text.is_empty() || text.len() > MOST_DIGITS {
+        return None;
+    }
+    if !are_digits(text.as_bytes()) {
+        return None;
+    }
+    text.parse::<u32>().ok()
+}
+
+/// What the arguments ask for.
+#[derive(Drop)]
+pub(crate) struct Arguments<'a> {
+    pub(crate) config: Config,
+    pub(crate) file: &'a str,
+}
+
+/// The arguments: three numbers and one file.
+pub(crate) fn read_arguments(words: &[String]) -> Option<Arguments<'_>>
+    ensures { is_some result ≡ are_arguments (map string_bytes words.now) }
+{
+    match words {
+        [buckets, frames, limit, file] => Some(Arguments {
+            config: settings(
+                number(buckets.as_str())?,
+                number(frames.as_str())?,
+                number(limit.as_str())?,
+            ),
+            file: file.as_str(),
+        }),
+        _ => None,
+    }
+}
+
+/// The settings that the program runs with.
+fn settings(buckets: u32, frames: u32, limit: u32) -> Config {
+    Config {
+        buckets,
+        frames,
+        limit,
+        names: (1 << 40) - 1,
+        passes: 65_535,
+        lanes: 4,
+        spares: 256,
+        format: 2,
+    }
+}

@@ -1,0 +1,162 @@
+-- What one command after another is replied.
+use Rattle.std.proofs.Common.{◌≡◌, ℕ, ◌+◌, ◌-◌, ◌^◌, ◌<◌, ◌≤◌, List, [], ◌∷◌, ◌++◌, Option, Result, Ok, Err, MatchResult, length, length-take, take, drop, suc, get_or, take-append-drop, drop-cons, refl, ap, sym, ◌∙◌, subst, arith, inl, inr, add-one}
+use Rattle.std.proofs.lemmas.List.{append-nil, take_all}
+use Rattle.std.proofs.Math.Seq.{take-suc}
+use Rattle.std.specs.List.{AllByRecursion, fold}
+use Rattle.far_object.specs.Encodings.{enc_text}
+use Rattle.table_core.specs.Maps.{after, map_of, reply}
+use Rattle.table_core.specs.Logs.{history, names_of}
+use Rattle.table_core.specs.Machines.{buckets_of}
+use Rattle.command_file.specs.declared.command.Command.{Command}
+use Rattle.command_file.specs.declared.command.Command.TheVariants.{Map, Table}
+use Rattle.command_file.specs.declared.command.MapCommand.{MapCommand}
+use Rattle.command_file.specs.declared.command.TableCommand.{TableCommand}
+use Rattle.run_lines.specs.declared.refusal.Refusal.{Refusal}
+use Rattle.run_lines.specs.Calls.{Texts, Asked, Call, calls_by, operation_of, IsTooLong}
+use Rattle.run_lines.specs.Replies.{line_of}
+use Rattle.run_lines.proofs.Calls.{calls_by-append, calls_by-own}
+use Rattle.run_lines.proofs.Replying.{Step, replied_more}
+use Rattle.run_lines.proofs.Written.{written-more}
+use Rattle.plain_run.specs.declared.table.PlainTable.{PlainTable}
+use Rattle.plain_run.specs.Tables.{Log, IsAt, IsWhy, CallEnds}
+use Rattle.plain_run.specs.Runs.{IsOfMap, MayRefuse, Fits, AsksTableAt, RunsTo}
+
+-- ---- lists
+
+all-push : {A : Type 0} (P : A → Type 0) (xs : List A) (x : A) → AllByRecursion P xs → P x → AllByRecursion P (xs ++ x ∷ [])
+all-push P [] x all p = (p, tt)
+all-push P (y ∷ xs) x all p = (all.0, all-push P xs x all.1 p)
+
+-- the command that was looked at is the one that was found
+pub here : (commands : List Command) (i : ℕ) (c d : Command) → c ≡ get_or commands i c → c ≡ d → d ≡ get_or commands i d
+here commands i c d at is = subst (λ (x : Command). x ≡ get_or commands i x) is at
+
+-- ---- calls
+
+abbrev map_from : Texts → List Call → Texts
+map_from m calls = fold (λ m call. after enc_text enc_text m call.1) m calls
+
+fits_more : (buckets limit : ℕ) (m : Texts) (calls : List Call) (call : Call) → Fits buckets limit m calls → (IsTooLong buckets limit (map_from m calls) call.1 → ⊥) → Fits buckets limit m (calls ++ call ∷ [])
+fits_more buckets limit m [] call fits not = (not, tt)
+fits_more buckets limit m (x ∷ calls) call fits not = (fits.0, fits_more buckets limit (after enc_text enc_text m x.1) calls call fits.1 not)
+
+-- a call that ends is one more command, and the calls stay sound
+pub record Ends (buckets limit : ℕ) (h h' : List Call) (c : MapCommand) (line : List ℕ) : Type 0 where
+  pub step : Step (MayRefuse buckets limit) h h' 1 (Map c) line
+  pub rest : List Call
+  pub grows : h ++ rest ≡ h'
+  pub own : AllByRecursion (λ call. call.0 ≡ 1) h → AllByRecursion (λ call. call.0 ≡ 1) h'
+  pub fits : Fits buckets limit [] h → Fits buckets limit [] h'
+
+ends : (buckets limit : ℕ) (h h' : List Call) (c : MapCommand) (r : Result (Option (List ℕ)) Refusal)
+    → MatchResult r
+    (λ answer. (h' ≡ h ++ (1, operation_of c) ∷ []) × (answer ≡ reply enc_text (map_of enc_text enc_text h) (operation_of c)) × (IsTooLong buckets limit (map_of enc_text enc_text h) (operation_of c) → ⊥))
+    (λ why. (h' ≡ h) × IsWhy buckets limit (map_of enc_text enc_text h) (operation_of c) why)
+    → Ends buckets limit h h' c (line_of r)
+ends buckets limit h h' c (Ok answer) w =
+    let o : Asked = operation_of c in
+    record {
+      step =
+          inl (
+            answer,
+            refl,
+            record { before = h; later = []; stands = w.0; past = refl; told = w.1 },
+            ap (calls_by 1) w.0 ∙ (calls_by-append 1 h ((1, o) ∷ []) ∙ ap (λ (x : List Asked). calls_by 1 h ++ x) (calls_by-own 1 o)),
+          );
+      rest = (1, o) ∷ [];
+      grows = sym w.0;
+      own = λ all. subst (λ (x : List Call). AllByRecursion (λ call. call.0 ≡ 1) x) (sym w.0) (all-push (λ (call : Call). call.0 ≡ 1) h (1, o) all refl);
+      fits = λ fits. subst (λ (x : List Call). Fits buckets limit [] x) (sym w.0) (fits_more buckets limit [] h (1, o) fits w.2);
+    }
+ends buckets limit h h' c (Err why) w =
+    record {
+      step =
+          inr (
+            record { why = why; line_is = refl; place = record { before = h; later = []; stands = w.0 ∙ sym (append-nil h); past = refl }; may = w.1 },
+            ap (calls_by 1) w.0,
+          );
+      rest = [];
+      grows = append-nil h ∙ sym w.0;
+      own = λ all. subst (λ (x : List Call). AllByRecursion (λ call. call.0 ≡ 1) x) (sym w.0) all;
+      fits = λ fits. subst (λ (x : List Call). Fits buckets limit [] x) (sym w.0) fits;
+    }
+
+-- ---- the loop
+
+-- i commands have been run
+pub record Running (old new : PlainTable) (commands : List Command) (i : ℕ) (text : List ℕ) : Type 0 where
+  pub so_far : RunsTo old new (take i commands) text
+  pub buckets : buckets_of new.machine ≡ buckets_of old.machine
+  pub limit : new.limit ≡ old.limit
+  pub few : names_of so_far.log ≤ i
+
+pub start : (old : PlainTable) (commands : List Command) (text : List ℕ) → text ≡ [] → ((log : Log) × IsAt old log × (history log ≡ []) × (names_of log ≡ 0)) → Running old old commands 0 text
+start old commands text none fresh =
+    record {
+      so_far = record {
+        log = fresh.0;
+        stands = fresh.1;
+        lines = [];
+        mapped = tt;
+        replied = ap (calls_by 1) fresh.2;
+        own = subst (λ (x : List Call). AllByRecursion (λ call. call.0 ≡ 1) x) (sym fresh.2) tt;
+        fits = subst (λ (x : List Call). Fits (buckets_of old.machine) old.limit [] x) (sym fresh.2) tt;
+        text_is = none;
+      };
+      buckets = refl;
+      limit = refl;
+      few = omega (arith, fresh.3);
+    }
+
+pub room : (old new : PlainTable) (commands : List Command) (i : ℕ) (text : List ℕ) → Running old new commands i text → i < length commands → length commands ≤ 65536 → (log : Log) × IsAt new log × (names_of log < 2 ^ 40 - 1)
+room old new commands i text r lt few = (r.so_far.log, r.so_far.stands, omega (arith, r.few))
+
+pub next : (old new last : PlainTable) (commands : List Command) (i : ℕ) (text more : List ℕ) (c : MapCommand) (r : Result (Option (List ℕ)) Refusal)
+    → Running old new commands i text → i < length commands → length commands ≤ 65536 → Map c ≡ get_or commands i (Map c)
+    → ((log : Log) → IsAt new log → names_of log < 2 ^ 40 - 1 → CallEnds new last log (operation_of c) r) → more ≡ text ++ (line_of r ++ 10 ∷ []) → Running old last commands (i + 1) more
+next old new last commands i text more c r run lt few at on more_is = record {
+  so_far = record {
+    log = g.later;
+    stands = g.stands;
+    lines = run.so_far.lines ++ line_of r ∷ [];
+    mapped = rw taken (all-push IsOfMap (take i commands) (Map c) run.so_far.mapped tt);
+    replied =
+        rw taken
+        (replied_more (MayRefuse (buckets_of old.machine) old.limit) (history run.so_far.log) (history g.later) 1 [] (take i commands) run.so_far.lines (Map c) (line_of r)
+        (e.rest, e.grows) run.so_far.replied e.step);
+    own = e.own run.so_far.own;
+    fits = e.fits run.so_far.fits;
+    text_is = more_is ∙ (ap (λ (z : List ℕ). z ++ (line_of r ++ 10 ∷ [])) run.so_far.text_is ∙ sym (written-more run.so_far.lines (line_of r)));
+  };
+  buckets = g.buckets ∙ run.buckets;
+  limit = g.limit ∙ run.limit;
+  few = omega (arith, g.names, run.few);
+}
+  where
+    g : CallEnds new last run.so_far.log (operation_of c) r
+    g = on run.so_far.log run.so_far.stands (omega (arith, run.few))
+
+    e : Ends (buckets_of old.machine) old.limit (history run.so_far.log) (history g.later) c (line_of r)
+    e =
+        subst (λ (l : ℕ). Ends (buckets_of old.machine) l (history run.so_far.log) (history g.later) c (line_of r)) run.limit
+        (subst (λ (n : ℕ). Ends n new.limit (history run.so_far.log) (history g.later) c (line_of r)) run.buckets
+        (ends (buckets_of new.machine) new.limit (history run.so_far.log) (history g.later) c r g.went))
+
+    taken : take (i + 1) commands ≡ take i commands ++ Map c ∷ []
+    taken = rw add-one (take-suc commands i (Map c) lt) ∙ ap (λ (x : Command). take i commands ++ x ∷ []) (sym at)
+
+pub finish : (old new : PlainTable) (commands : List Command) (i : ℕ) (text : List ℕ) → Running old new commands i text → length commands ≤ i → RunsTo old new commands text
+finish old new commands i text run all = subst (λ (cs : List Command). RunsTo old new cs text) (take_all i commands all) run.so_far
+
+-- the command that asks the table, with those before and behind it
+pub asks_table : (old new : PlainTable) (commands : List Command) (i : ℕ) (text : List ℕ) (c : TableCommand) → Running old new commands i text → i < length commands → Table c ≡ get_or commands i (Table c) → AsksTableAt commands (i + 1)
+asks_table old new commands i text c run lt at = record {
+  before = take i commands;
+  command = c;
+  behind = drop (i + 1) commands;
+  is =
+      sym (take-append-drop i commands)
+      ∙ ap (λ (rest : List Command). take i commands ++ rest) (rw (add-one, drop-cons commands i (Table c)) (ap (λ (x : Command). x ∷ drop (suc i) commands) (sym at)));
+  mapped = run.so_far.mapped;
+  counted = omega (arith, length-take i commands);
+}

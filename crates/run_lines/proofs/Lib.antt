@@ -1,0 +1,4 @@
+pub mod Calls
+pub mod Replying
+pub mod Written
+pub mod Texts
