@@ -5,6 +5,7 @@ use crate::together::{Lost, Runner, Took, together};
 use anyhow::Result;
 use std::alloc::{AllocError, Global};
 use std::rt::Clock;
+use std::sync::Wait;
 use std::sync::atomic::{AtomicU64, Ordering};
 use std::thread::Threads;
 
@@ -32,7 +33,7 @@ struct Raises {
 }
 
 impl Runner<Plain> for Raises {
-    fn run(&mut self, plain: &Plain, rounds: u32) -> Lost {
+    fn run<R: Wait>(&mut self, _rt: &R, plain: &Plain, rounds: u32) -> Lost {
         match plain.words.get(self.place as usize) {
             Some(word) => raise(word, rounds),
             None => Lost::NONE,
@@ -57,7 +58,7 @@ fn raise(word: &AtomicU64, rounds: u32) -> Lost {
 }
 
 /// The time of bare compare-exchanges on plain words.
-pub fn on_plain<R: Clock + Threads + Sync>(
+pub fn on_plain<R: Clock + Threads + Wait + Sync>(
     rt: &R,
     alloc: Global,
     plain: &Plain,

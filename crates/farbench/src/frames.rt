@@ -13,6 +13,7 @@ use frame_cache::{Frames, Missed, NoFrame, Version};
 use std::alloc::Global;
 use std::marker::Brand;
 use std::rt::Clock;
+use std::sync::Wait;
 use std::thread::Threads;
 use version_words::{Naming, Opened, Pass, Sizes, Words};
 
@@ -38,7 +39,7 @@ const HEAD: &str =
 struct Reserves;
 
 impl<J: Naming> Runner<Frames<u64, u64, J>> for Reserves {
-    fn run(&mut self, frames: &Frames<u64, u64, J>, rounds: u32) -> Lost {
+    fn run<R: Wait>(&mut self, _rt: &R, frames: &Frames<u64, u64, J>, rounds: u32) -> Lost {
         let mut lost = Lost::NONE;
         for _ in 0..rounds {
             match frames.reserve() {
@@ -58,7 +59,7 @@ struct Enters {
 }
 
 impl<J: Naming> Runner<Frames<u64, u64, J>> for Enters {
-    fn run(&mut self, frames: &Frames<u64, u64, J>, rounds: u32) -> Lost {
+    fn run<R: Wait>(&mut self, _rt: &R, frames: &Frames<u64, u64, J>, rounds: u32) -> Lost {
         let mut lost = Lost::NONE;
         for _ in 0..rounds {
             match frames.enter(self.frame, self.name) {
@@ -98,7 +99,7 @@ fn fill<J: Naming>(
 }
 
 /// The time of reserves, each with its cancel.
-fn on_reserves<R: Clock + Threads + Sync, J: Naming + Send + Sync>(
+fn on_reserves<R: Clock + Threads + Wait + Sync, J: Naming + Send + Sync>(
     rt: &R,
     alloc: Global,
     frames: &Frames<u64, u64, J>,
@@ -112,7 +113,7 @@ fn on_reserves<R: Clock + Threads + Sync, J: Naming + Send + Sync>(
 }
 
 /// The time of enters, each with its close.
-fn on_enters<R: Clock + Threads + Sync, J: Naming + Send + Sync>(
+fn on_enters<R: Clock + Threads + Wait + Sync, J: Naming + Send + Sync>(
     rt: &R,
     alloc: Global,
     frames: &Frames<u64, u64, J>,
@@ -134,7 +135,7 @@ fn on_enters<R: Clock + Threads + Sync, J: Naming + Send + Sync>(
 }
 
 /// Measures one setting, and prints it.
-fn row_of_table<R: Clock + Print + Threads + Sync, J: Naming + Send + Sync>(
+fn row_of_table<R: Clock + Print + Threads + Wait + Sync, J: Naming + Send + Sync>(
     rt: &R,
     alloc: Global,
     frames: &Frames<u64, u64, J>,
@@ -159,7 +160,7 @@ fn row_of_table<R: Clock + Print + Threads + Sync, J: Naming + Send + Sync>(
 }
 
 /// Fills all frames but the last few, measures each setting, and prints the table.
-fn table<R: Clock + Print + Threads + Sync, J: Naming + Send + Sync>(
+fn table<R: Clock + Print + Threads + Wait + Sync, J: Naming + Send + Sync>(
     rt: &R,
     alloc: Global,
     opened: Opened<u64, u64, Unvouched>,
@@ -194,7 +195,7 @@ fn table<R: Clock + Print + Threads + Sync, J: Naming + Send + Sync>(
 }
 
 /// Prints the nanoseconds of each kind of call by 1, 2 and 4 threads, where all of so many frames but four are filled.
-pub fn measure<R: Alloc<A = Global> + Clock + Print + Threads + Sync>(
+pub fn measure<R: Alloc<A = Global> + Clock + Print + Threads + Wait + Sync>(
     rt: &R,
     count: u32,
     rounds: u32,

@@ -10,7 +10,7 @@ use anyhow::{Result, bail};
 use far_device::FakeDevice;
 use far_object::{Format, Object, Text};
 use lane_store::LaneStore;
-use rounds::{Draws, Names, OnDevice, OnLane, Round};
+use rounds::{Draws, Names, OnDevice, OnLane, Reads, Round};
 use std::alloc::Global;
 use std::marker::Brand;
 use std::rt::Clock;
@@ -97,6 +97,25 @@ fn table<R: Clock + Print + Wait, J: Naming>(
     println!(rt; "{HEAD}")?;
     println!(rt; "{bytes:>7}{draw}{device}{one}{two}{one_part}{two_part}")?;
     Ok(())
+}
+
+/// The nanoseconds of as many reads through a lane as there are objects, each of one pair with this value.
+pub fn time_of_reads<R: Clock + Wait, J: Naming>(
+    rt: &R,
+    alloc: Global,
+    opened: Opened<u64, Text, Unvouched>,
+    value: &Text,
+    count: u64,
+) -> Result<u64>
+    requires { (opened.book ≡ J.book) × (opened.names ≡ J.names) × (limits_of opened.sizes false ≡ J.limits) }
+{
+    let object = Object::of_pair(alloc, &0, value)?;
+    let Some(mut names) = Names::<J>::new(opened, object) else {
+        bail!("no pass is left");
+    };
+    let store = LaneStore::open(alloc, Vec::from_array(alloc, [FakeDevice::new(alloc)])?)?;
+    let mut round = Reads::new(rt, &mut names, store, count)?;
+    time(rt, alloc, &mut names, &mut round, u32::try_from(count)?)
 }
 
 /// Prints the nanoseconds of a round on a bare device and through a lane, over so many rounds of each kind.

@@ -6,6 +6,7 @@ mod frames;
 mod lanes;
 mod replay;
 mod setting;
+mod table;
 mod tenths;
 mod together;
 mod unvouched;
@@ -25,6 +26,8 @@ fn run<R: Alloc<A = Global> + Clock + Env + Print + Threads + Wait + Sync>(rt: &
         println!(rt; "       farbench words THREADS ROUNDS")?;
         println!(rt; "       farbench frames FRAMES ROUNDS")?;
         println!(rt; "       farbench lanes ROUNDS")?;
+        println!(rt; "       farbench table BUCKETS ROUNDS")?;
+        println!(rt; "       farbench far BUCKETS")?;
         return Ok(());
     };
     let count = count.as_str().parse::<u32>()?;
@@ -33,6 +36,8 @@ fn run<R: Alloc<A = Global> + Clock + Env + Print + Threads + Wait + Sync>(rt: &
         ("words", Some(rounds)) => words::measure(rt, count, rounds.as_str().parse::<u32>()?),
         ("frames", Some(rounds)) => frames::measure(rt, count, rounds.as_str().parse::<u32>()?),
         ("lanes", None) => lanes::measure(rt, count),
+        ("far", None) => table::far::measure(rt, count),
+        ("table", Some(rounds)) => table::measure(rt, count, rounds.as_str().parse::<u32>()?),
         _ => bail!("no such benchmark: without arguments their usage is printed"),
     }
 }

@@ -3,6 +3,7 @@
 use anyhow::{Result, bail};
 use std::hint::spin_loop;
 use std::rt::Clock;
+use std::sync::Wait;
 use std::sync::atomic::{AtomicU64, Ordering};
 use std::thread::{Threads, map_vec};
 use std::time::Instant;
@@ -24,7 +25,7 @@ impl Lost {
 /// What a thread does with what all threads share.
 pub trait Runner<S> {
     /// Makes a call this many times.
-    fn run(&mut self, shared: &S, rounds: u32) -> Lost;
+    fn run<R: Wait>(&mut self, rt: &R, shared: &S, rounds: u32) -> Lost;
 }
 
 /// How long the threads took, one after another added up, and what they lost.
@@ -40,7 +41,8 @@ impl Took {
         lost: Lost::NONE,
     };
 
-    fn and(self, other: Took) -> Took {
+    /// Both, added up.
+    pub fn and(self, other: Took) -> Took {
         Took {
             nanoseconds: self.nanoseconds.wrapping_add(other.nanoseconds),
             lost: Lost {
@@ -72,7 +74,7 @@ impl Gate {
 }
 
 /// The rounds of one thread, with the clock read right before and right after them.
-fn timed<R: Clock, S, T: Runner<S> + Drop>(
+fn timed<R: Clock + Wait, S, T: Runner<S> + Drop>(
     rt: &R,
     gate: &Gate,
     shared: &S,
@@ -81,14 +83,14 @@ fn timed<R: Clock, S, T: Runner<S> + Drop>(
 ) -> Option<Took> {
     gate.pass();
     let start = Instant::now(rt).ok()?;
-    let lost = runner.run(shared, rounds);
+    let lost = runner.run(rt, shared, rounds);
     let elapsed = start.elapsed(rt).ok()?;
     let nanoseconds = u64::try_from(elapsed.as_nanos()).ok()?;
     Some(Took { nanoseconds, lost })
 }
 
 /// Runs each in a thread of its own.
-pub fn together<R: Clock + Threads + Sync, S: Sync, T: Runner<S> + Send + Drop>(
+pub fn together<R: Clock + Threads + Wait + Sync, S: Sync, T: Runner<S> + Send + Drop>(
     rt: &R,
     shared: &S,
     runners: Vec<T>,

@@ -15,6 +15,7 @@ use far_object::Object;
 use std::alloc::Global;
 use std::marker::Brand;
 use std::rt::Clock;
+use std::sync::Wait;
 use std::thread::Threads;
 use version_words::{Naming, Opened, Sizes};
 
@@ -33,7 +34,7 @@ const HEAD: &str =
 
 /// The time of calls of this kind on the row.
 fn on_row<
-    R: Clock + Threads + Sync,
+    R: Clock + Threads + Wait + Sync,
     J: Naming + Send + Sync,
     T: Runner<Row<J>> + From<Caller<J>> + Send + Drop,
 >(rt: &R, alloc: Global, row: &Row<J>, setting: Setting) -> Result<Took> {
@@ -49,7 +50,7 @@ fn on_row<
 }
 
 /// Measures one setting, and prints it.
-fn row_of_table<R: Clock + Print + Threads + Sync, J: Naming + Send + Sync>(
+fn row_of_table<R: Clock + Print + Threads + Wait + Sync, J: Naming + Send + Sync>(
     rt: &R,
     alloc: Global,
     row: &Row<J>,
@@ -77,7 +78,7 @@ fn row_of_table<R: Clock + Print + Threads + Sync, J: Naming + Send + Sync>(
 }
 
 /// Measures each setting up to so many threads, and prints the table.
-fn table<R: Clock + Print + Threads + Sync, J: Naming + Send + Sync>(
+fn table<R: Clock + Print + Threads + Wait + Sync, J: Naming + Send + Sync>(
     rt: &R,
     alloc: Global,
     opened: Opened<u64, u64, Unvouched>,
@@ -106,7 +107,7 @@ fn table<R: Clock + Print + Threads + Sync, J: Naming + Send + Sync>(
 }
 
 /// Prints the nanoseconds of each kind of call, by 1, 2 and 4 threads, as far as these are at most so many.
-pub fn measure<R: Alloc<A = Global> + Clock + Print + Threads + Sync>(
+pub fn measure<R: Alloc<A = Global> + Clock + Print + Threads + Wait + Sync>(
     rt: &R,
     most: u32,
     rounds: u32,

@@ -14,7 +14,7 @@ use crate::{Frames, Missed, Version};
 use far_object::{Memory, Object, Text};
 use std::alloc::Global;
 use table_core::word::{EMPTY_PLACE, place_of};
-use version_words::{EnterFault, Honesty, Name, Naming, Opened, Pass, Sizes, Spare, Words};
+use version_words::{Honesty, Name, Naming, Opened, Pass, Sizes, Spare, Words};
 
 /// How often a draw is tried while other threads draw.
 const TRIES: u32 = 1_000_000;
@@ -41,10 +41,8 @@ fn opened(alloc: Global) -> Result<Opened<Text, Text, Unvouched>, Memory> {
 /// Draws a pass, also while other threads draw.
 fn entered<J: Naming>(words: &Words<Text, Text, J>) -> Option<Pass<Text, Text, J>> {
     for _ in 0..TRIES {
-        match words.enter() {
-            Ok(pass) => return Some(pass),
-            Err(EnterFault::PassesSpent(_)) => return None,
-            Err(EnterFault::Moved(_)) => {}
+        if let Ok(pass) = words.enter() {
+            return Some(pass);
         }
     }
     None

@@ -109,3 +109,48 @@ impl<J: Naming> Round<Names<J>> for OnLane<J> {
         Ok(())
     }
 }
+
+/// Reads objects that stay, one after another, through the one lane of a store.
+#[derive(Drop)]
+pub struct Reads<J: Naming> {
+    store: LaneStore<u64, Text, J, FakeDevice>,
+    count: u64,
+    last: u64,
+}
+
+impl<J: Naming> Reads<J> {
+    /// Writes the object under so many names, which are the first ones.
+    ///
+    /// An error comes where no name is left, a call or a growth of memory is refused.
+    pub fn new<R: Wait>(
+        rt: &R,
+        names: &mut Names<J>,
+        store: LaneStore<u64, Text, J, FakeDevice>,
+        count: u64,
+    ) -> Result<Reads<J>> {
+        for _ in 0..count {
+            let name = names.draw()?;
+            store.write(rt, &name, &names.object, Format::Two)?;
+            let _spare = name.give_up(FAR_PLACE);
+        }
+        Ok(Reads {
+            store,
+            count,
+            last: 0,
+        })
+    }
+}
+
+impl<J: Naming> Round<Names<J>> for Reads<J> {
+    fn make<R: Wait>(&mut self, rt: &R, _names: &mut Names<J>, out: &mut Vec<u8>) -> Result<()> {
+        self.last = if self.last < self.count {
+            self.last + 1
+        } else {
+            1
+        };
+        if self.store.read(rt, self.last, out)?.is_none() {
+            bail!("the lane has lost the object");
+        }
+        Ok(())
+    }
+}

@@ -8,6 +8,7 @@ ghost use Rattle.version_words.specs.Rows.{limits_of};
 use crate::together::{Lost, Runner};
 use crate::unvouched::Unvouched;
 use far_object::{Object, bucket_of};
+use std::sync::Wait;
 use version_words::{Change, Moved, Naming, Opened, Pass, Probe, Words};
 
 /// The place that each put says. No frame is behind it, since the row is measured alone.
@@ -122,7 +123,7 @@ impl<J: Naming> From<Caller<J>> for Looks<J> {
 }
 
 impl<J: Naming> Runner<Row<J>> for Looks<J> {
-    fn run(&mut self, row: &Row<J>, rounds: u32) -> Lost {
+    fn run<R: Wait>(&mut self, _rt: &R, row: &Row<J>, rounds: u32) -> Lost {
         for _ in 0..rounds {
             self.0.look(row);
         }
@@ -141,7 +142,7 @@ impl<J: Naming> From<Caller<J>> for Checks<J> {
 }
 
 impl<J: Naming> Runner<Row<J>> for Checks<J> {
-    fn run(&mut self, row: &Row<J>, rounds: u32) -> Lost {
+    fn run<R: Wait>(&mut self, _rt: &R, row: &Row<J>, rounds: u32) -> Lost {
         let mut lost = Lost::NONE;
         for _ in 0..rounds {
             if !self.0.check(row) {
@@ -163,7 +164,7 @@ impl<J: Naming> From<Caller<J>> for Puts<J> {
 }
 
 impl<J: Naming> Runner<Row<J>> for Puts<J> {
-    fn run(&mut self, row: &Row<J>, rounds: u32) -> Lost {
+    fn run<R: Wait>(&mut self, _rt: &R, row: &Row<J>, rounds: u32) -> Lost {
         let mut lost = Lost::NONE;
         for _ in 0..rounds {
             match self.0.put(row) {

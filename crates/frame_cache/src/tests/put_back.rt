@@ -20,20 +20,27 @@ fn emptied<J: Naming>(
     name: u64,
     spare: Spare<Text, Text, J>,
 ) -> Option<bool> {
-    let claim = take(frames.slot(frame)?, word_of(name)).ok()?;
-    Some(frames.empty(claim, spare, frame))
+    let slot = frames.slot(frame)?;
+    match take(slot, word_of(name)) {
+        Ok(claim) => Some(frames.empty(claim, spare, frame)),
+        Err(_) => None,
+    }
 }
 
 // Whether the frame shows the object of one pair of this value under the name.
 fn holds<J: Naming>(frames: &Frames<Text, Text, J>, frame: u32, name: u64, value: u8) -> bool {
     match frames.enter(frame, name) {
         Ok(scope) => {
-            let same = scope.object().as_bytes() == one_pair(value).as_slice();
+            let same = is_pair(scope.object().as_bytes(), value);
             scope.close();
             same
         }
         Err(_) => false,
     }
+}
+
+fn is_pair(bytes: &[u8], value: u8) -> bool {
+    bytes == one_pair(value).as_slice()
 }
 
 #[test]

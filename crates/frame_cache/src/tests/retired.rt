@@ -83,6 +83,16 @@ fn other_spares<J: Naming, R: Abort>(
     Ok(())
 }
 
+// The version, where each spare hands it back.
+fn left<J: Naming>(
+    version: Version<Text, Text, J>,
+    one: &Spare<Text, Text, J>,
+    two: &Spare<Text, Text, J>,
+) -> Option<Version<Text, Text, J>> {
+    let once = retire(version, one).err()?;
+    retire(once, two).err()
+}
+
 // Whether each spare hands the version back, which then goes into the frame.
 fn comes_back<J: Naming>(
     reserved: Reserved<'_, Text, Text, J>,
@@ -90,20 +100,10 @@ fn comes_back<J: Naming>(
     one: &Spare<Text, Text, J>,
     two: &Spare<Text, Text, J>,
 ) -> bool {
-    match retire(version, one) {
-        Ok(()) => {
-            reserved.cancel();
-            false
-        }
-        Err(once) => match retire(once, two) {
-            Ok(()) => {
-                reserved.cancel();
-                false
-            }
-            Err(twice) => {
-                reserved.fill(twice);
-                true
-            }
-        },
-    }
+    let Some(version) = left(version, one, two) else {
+        reserved.cancel();
+        return false;
+    };
+    reserved.fill(version);
+    true
 }

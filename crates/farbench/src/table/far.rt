@@ -1,0 +1,96 @@
+//! A table whose contents go to a device, are read there and come back, beside a lane's bare reads.
+ghost use Rattle.std.specs.Prelude.{◌≡◌, true, false};
+ghost use Rattle.version_words.specs.Rows.{limits_of};
+ghost use Rattle.hash_table.specs.Configs.{sizes_of};
+
+use super::calls::{Call, Own};
+use super::{fill, openings, value};
+use crate::lanes::time_of_reads;
+use crate::tenths::Tenths;
+use crate::together::{Took, together};
+use crate::unvouched::Unvouched;
+use anyhow::{Result, bail};
+use far_device::FakeDevice;
+use far_object::Text;
+use hash_table::{FarTable, Opening};
+use std::alloc::Global;
+use std::marker::Brand;
+use std::rt::Clock;
+use std::sync::Wait;
+use std::thread::Threads;
+use version_words::{Naming, Opened};
+
+/// Nanoseconds of a swap-out with the removal of the version in the frame, of a get from the device, of a lane's bare read
+/// of as long an object, the get in percent of it, and of a swap-in with the removal from the device.
+const HEAD: &str = "buckets    swap-out        read        lane       part%       fetch";
+
+/// The time of one call with each of the keys.
+fn on_all<R: Clock + Threads + Wait + Sync, J: Naming + Send + Sync>(
+    rt: &R,
+    alloc: Global,
+    table: &FarTable<u64, Text, J, FakeDevice>,
+    keys: &Vec<u64>,
+    call: Call,
+) -> Result<Took> {
+    let Ok(caller) = table.enter() else {
+        bail!("no pass is left");
+    };
+    let mut runners = Vec::with_capacity(alloc, 1)?;
+    runners.push(Own {
+        alloc,
+        caller,
+        keys: Vec::from_slice(alloc, keys)?,
+        value: value(alloc)?,
+        call,
+    })?;
+    let took = together(rt, table, runners, u32::try_from(keys.len())?)?;
+    if took.lost.words != 0 {
+        bail!("a call was not done");
+    }
+    Ok(took)
+}
+
+/// Measures each kind of call, and prints the table.
+fn table<R: Clock + Print + Threads + Wait + Sync, J: Naming + Send + Sync, L: Naming>(
+    rt: &R,
+    alloc: Global,
+    opening: Opening<u64, Text, FakeDevice>,
+    opened: Opened<u64, Text, Unvouched>,
+    buckets: u32,
+) -> Result<()>
+    requires table { (opening.row.book ≡ J.book) × (opening.row.names ≡ J.names) × (limits_of (sizes_of opening.config) true ≡ J.limits) }
+    requires lane { (opened.book ≡ L.book) × (opened.names ≡ L.names) × (limits_of opened.sizes false ≡ L.limits) }
+{
+    let table = opening.named::<J>(alloc)?;
+    let keys = fill(rt, alloc, &table, buckets)?;
+    let count = keys.len() as u64;
+    let mut frames = Vec::with_capacity(alloc, keys.len())?;
+    for frame in 0..count {
+        frames.push(frame)?;
+    }
+    let out = on_all(rt, alloc, &table, &frames, Call::SwapOut)?;
+    let read = on_all(rt, alloc, &table, &keys, Call::ReadThrough)?;
+    let lane = time_of_reads::<R, L>(rt, alloc, opened, &value(alloc)?, count)?;
+    let fetched = on_all(rt, alloc, &table, &keys, Call::Fetch)?;
+    let swap_out = Tenths::quotient(out.nanoseconds, count);
+    let through = Tenths::quotient(read.nanoseconds, count);
+    let bare = Tenths::quotient(lane, count);
+    let part = Tenths::percentage(read.nanoseconds, lane);
+    let fetch = Tenths::quotient(fetched.nanoseconds, count);
+    println!(rt; "{HEAD}")?;
+    println!(rt; "{buckets:>7}{swap_out}{through}{bare}{part}{fetch}")?;
+    Ok(())
+}
+
+/// Prints the nanoseconds of moves and of reads on a table of so many buckets and frames, by one thread, each once for each
+/// of the keys.
+///
+/// An error comes where memory, a thread, the clock or the output fails, or the count is outside its limits.
+pub fn measure<R: Alloc<A = Global> + Clock + Print + Threads + Wait + Sync>(
+    rt: &R,
+    buckets: u32,
+) -> Result<()> {
+    let alloc = rt.alloc();
+    let (opening, opened) = openings(alloc, buckets)?;
+    table::<R, Brand, Brand>(rt, alloc, opening, opened, buckets)
+}
