@@ -25,3 +25,6 @@ pub use evictor::{Collected, Evictor, Turn};
 pub use naming::QueueNaming;
 pub use opening::QueueOpening;
 pub use queue::{QueueSeat, SpareQueue};
+
+#[cfg(test)]
+mod tests;
