@@ -15,7 +15,7 @@ use Rattle.table_core.specs.Logs.{history, passes_of}
 use Rattle.table_core.specs.Lawful.{IsLawful}
 use Rattle.table_core.proofs.Gathering.{joined_more}
 use Rattle.version_words.specs.Laws.{SameHistory}
-use Rattle.version_words.specs.Views.{PassView, Goes, IsWhole, AreNone, calls_of}
+use Rattle.version_words.specs.Views.{PassView, Goes, IsWhole, AreNone, AreApart, calls_of}
 use Rattle.version_words.proofs.Fronts.{prefix_self, prefix_trans}
 use Rattle.hash_table.specs.declared.caller.Caller.{Caller}
 use Rattle.hash_table.specs.Closes.{IsClosed, AreBack, HistoryStays, passes}
@@ -80,12 +80,13 @@ module _ {K V : Type 0} (ek : K → List ℕ) (ev : V → List ℕ) (l : Limits)
     back_gathered olds news count goes rest = record { count = count; goes = goes; limbos = λ k d lt. ap (λ (c : Caller K V J). c.limbo) (rest k d lt) }
 
     -- with no pass drawn there is no history
-    pub closed_none : (callers : List (Caller K V J)) (log : List (Event K V)) → SameHistory K V → length callers ≡ 0 → IsLawful ek ev l log → passes_of log ≡ length callers
+    pub closed_none : (callers : List (Caller K V J)) (log : List (Event K V)) → SameHistory K V → length callers ≡ 0 → IsLawful ek ev l log → passes_of log ≡ length callers → AreApart (passes callers)
         → ((k : ℕ) (d : Caller K V J) → k < length callers → IsWhole log (slice_index_or callers k d).pass) → ((pass : PassView K V) → AreNone pass (passes callers) → calls_of pass.number log ≡ []) → IsClosed ek ev l callers []
-    closed_none callers log law none lawful all whole other = record {
+    closed_none callers log law none lawful all apart whole other = record {
       log = log;
       lawful = lawful;
       all = all;
+      apart = apart;
       whole = whole;
       no_other = other;
       pairs_are = λ honest. sym (ap (λ (h : List (ℕ × Operation K V)). map_of ek ev h) (law [] log (passes callers) (log, refl) (λ k d lt. absurd (omega (arith, lt, none, length-map callers (λ (c : Caller K V J). c.pass)))) other log (log, refl) (prefix_self log)));
@@ -134,13 +135,13 @@ module _ {K V : Type 0} (ek : K → List ℕ) (ev : V → List ℕ) (l : Limits)
         limbos = λ k d lt. last.limbos k d (let e = back_read.count in omega (arith, lt, e)) ∙ back_read.limbos k d lt;
       }
 
-      pub closed : (pairs sorted : List (K × V)) → SameHistory K V → IsPrefix first now.pass.front → IsLawful ek ev l second → passes_of second ≡ length read_by
+      pub closed : (pairs sorted : List (K × V)) → SameHistory K V → IsPrefix first now.pass.front → IsLawful ek ev l second → passes_of second ≡ length read_by → AreApart (passes olds)
           → ((k : ℕ) (d : Caller K V J) → k < length olds → IsWhole first (slice_index_or olds k d).pass)
           → ((k : ℕ) (d : Caller K V J) → k < length read_by → IsWhole second (slice_index_or read_by k d).pass)
           → ((pass : PassView K V) → AreNone pass (passes read_by) → calls_of pass.number second ≡ [])
           → (IsTrue l.honest → (log : List (Event K V)) → IsPrefix now.pass.front log → HistoryStays first log → pairs ≡ joined (part log) l.buckets)
           → BucketsMakeMap K V ek ev → 0 < l.buckets → IsPermutation pairs sorted → IsSortedBy (λ a b. is_lt (key_cmp ek a.0 b.0)) sorted → IsClosed ek ev l olds sorted
-      closed pairs sorted same_law told lawful all whole1 whole2 other gathered law buckets moved up =
+      closed pairs sorted same_law told lawful all apart whole1 whole2 other gathered law buckets moved up =
           let long : length read_by ≡ length olds = back_read.count in
           let whole : (k : ℕ) (d : Caller K V J) → k < length olds → IsWhole second (slice_index_or olds k d).pass = λ k d lt. whole_from second (slice_index_or olds k d).pass (slice_index_or read_by k d).pass (back_read.goes k d lt) (whole2 k d (omega (arith, lt, long))) in
           let no_other : (pass : PassView K V) → AreNone pass (passes olds) → calls_of pass.number second ≡ [] = λ pass none. other pass (none_of pass olds read_by long (λ k d lt. let g = back_read.goes k d lt in g.number) none) in
@@ -154,6 +155,7 @@ module _ {K V : Type 0} (ek : K → List ℕ) (ev : V → List ℕ) (l : Limits)
             log = second;
             lawful = lawful;
             all = all ∙ long;
+            apart = apart;
             whole = whole;
             no_other = no_other;
             pairs_are = λ honest. law (history second) l.buckets sorted buckets (subst (λ (z : List (K × V)). IsPermutation z sorted) (gathered honest second reader.seen stays) moved) up;

@@ -6,7 +6,7 @@ use Rattle.table_core.specs.declared.limits.Limits.{Limits}
 use Rattle.table_core.specs.Maps.{map_of}
 use Rattle.table_core.specs.Logs.{history, passes_of}
 use Rattle.table_core.specs.Lawful.{IsLawful}
-use Rattle.version_words.specs.Views.{PassView, Goes, IsWhole, AreNone, calls_of}
+use Rattle.version_words.specs.Views.{PassView, Goes, IsWhole, AreNone, AreApart, calls_of}
 use Rattle.hash_table.specs.declared.caller.Caller.{Caller}
 use Rattle.hash_table.specs.declared.closing.CloseFault.{CloseFault}
 use Rattle.hash_table.specs.declared.closing.CloseFault.TheVariants.{PassMissing, Memory, Device, Damaged, Missed}
@@ -26,11 +26,12 @@ module _ {K V J : Type 0} where
     pub limbos : (k : ℕ) (d : Caller K V J) → k < length old → (slice_index_or new k d).limbo ≡ (slice_index_or old k d).limbo
 
 module _ {K V J : Type 0} (ek : K → List ℕ) (ev : V → List ℕ) (l : Limits) where
-  -- a lawful log begins with the front of every caller, has as many passes, their calls and no others, and the pairs are its map
+  -- a lawful log begins with the front of every caller, has as many passes, which all differ, their calls and no others, and the pairs are its map
   pub record IsClosed (callers : List (Caller K V J)) (pairs : List (K × V)) : Type 0 where
     pub log : List (Event K V)
     pub lawful : IsLawful ek ev l log
     pub all : passes_of log ≡ length callers
+    pub apart : AreApart (passes callers)
     pub whole : (k : ℕ) (d : Caller K V J) → k < length callers → IsWhole log (slice_index_or callers k d).pass
     pub no_other : (pass : PassView K V) → AreNone pass (passes callers) → calls_of pass.number log ≡ []
     pub pairs_are : IsTrue l.honest → pairs ≡ map_of ek ev (history log)

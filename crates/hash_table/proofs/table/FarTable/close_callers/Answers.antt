@@ -12,7 +12,7 @@ pub returns-then-callers-eq0-clause-closed : goal.returns-then-callers-eq0-claus
 returns-then-callers-eq0-clause-closed g c =
     let e = c.in-Ok.ensures in
     let none : length c.args.callers.now ≡ 0 = omega (arith, c.if-callers-eq0.true, e.count) in
-    rw c.new.ensures.items (closed_none g.K.FarObject.enc g.V.FarObject.enc g.J.Naming.limits c.args.callers.now c.in-Ok.mark c.same_history.ensures none e.lawful e.all e.whole e.no_other)
+    rw c.new.ensures.items (closed_none g.K.FarObject.enc g.V.FarObject.enc g.J.Naming.limits c.args.callers.now c.in-Ok.mark c.same_history.ensures none e.lawful e.all e.apart e.whole e.no_other)
 
 pub returns-in-Err-clause-fault : goal.returns-in-Err-clause-fault
 returns-in-Err-clause-fault g c = c.unread.ensures (length c.args.callers.now)
@@ -108,5 +108,5 @@ returns-clause-closed g c =
     let b = c.buckets-buckets.ensures in
     let told = prefix_trans c.in-Ok.mark was.pass.front now.pass.front (subst (λ caller. IsPrefix c.in-Ok.mark caller.pass.front) (sym c.index-callers-0.is) (e.told 0 was some)) read.grows in
     let up = s.sorted (λ x y. is_lt (key_cmp ek x.0 y.0)) (ranks_by (total ek) (λ (x : g.row.K.Denot × g.row.V.Denot). x.0)) (answers_always _ _ _ (λ f a r f2 k. search rules)) in
-    closed ek ev l olds mids c.gather-2.new.holders was now c.in-Ok.mark c.in-Ok-gather.field-0 back some c.index-callers-0.is read limbo c.in-Ok-all_pairs.pairs.items c.sort_unstable_by.new.self.items c.same_history.ensures told f.lawful f.all e.whole f.whole f.no_other
+    closed ek ev l olds mids c.gather-2.new.holders was now c.in-Ok.mark c.in-Ok-gather.field-0 back some c.index-callers-0.is read limbo c.in-Ok-all_pairs.pairs.items c.sort_unstable_by.new.self.items c.same_history.ensures told f.lawful f.all e.apart e.whole f.whole f.no_other
     c.in-Ok-all_pairs.ensures.pairs c.buckets_make_map.ensures (omega (arith, b.count, b.some)) s.permutation up
