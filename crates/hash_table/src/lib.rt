@@ -32,3 +32,6 @@ pub use refusal::{OpenFault, ReclaimFault, Refusal};
 pub use scope::TableScope;
 pub use table::FarTable;
 pub use telling::BucketState;
+
+#[cfg(test)]
+mod tests;
