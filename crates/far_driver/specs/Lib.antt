@@ -1,4 +1,5 @@
 pub mod Configs
 pub mod Runs
+pub mod Reading
 pub mod Arguments
 pub mod Statuses

@@ -1,7 +1,7 @@
 //! The words of the process, and what they ask for.
 ghost use Rattle.std.specs.Prelude.{◌≡◌, map, is_some, string_bytes, IfErr};
 ghost use Rattle.std.specs.List.{list_all};
-ghost use Rattle.far_driver.specs.Arguments.{is_digit, number_of, are_arguments};
+ghost use Rattle.far_driver.specs.Arguments.{is_digit, number_of, are_files, are_arguments};
 ghost use Rattle.far_driver.specs.Statuses.{IsOfWords};
 
 use crate::config::Config;
@@ -13,6 +13,9 @@ use std::io::ErrorKind;
 
 /// The most decimal digits of a number among the arguments.
 const MOST_DIGITS: usize = 7;
+
+/// The most files.
+const MOST_FILES: usize = 64;
 
 /// The words behind the program's name.
 ///
@@ -59,22 +62,35 @@ fn number(text: &str) -> Option<u32>
 #[derive(Drop)]
 pub(crate) struct Arguments<'a> {
     pub(crate) config: Config,
-    pub(crate) file: &'a str,
+    /// The names of the files; `-` is standard input.
+    pub(crate) files: &'a [String],
 }
 
-/// The arguments: three numbers and one file.
+/// Whether they are 1 to 64 names, and standard input is among them at most once.
+fn are_files(names: &[String]) -> bool
+    ensures { result ≡ are_files (map string_bytes names.now) }
+{
+    let inputs = names.iter().filter(|name| name.as_str() == "-").count();
+    !names.is_empty() && names.len() <= MOST_FILES && inputs <= 1
+}
+
+/// The arguments: three numbers, and the files.
 pub(crate) fn read_arguments(words: &[String]) -> Option<Arguments<'_>>
     ensures { is_some result ≡ are_arguments (map string_bytes words.now) }
 {
     match words {
-        [buckets, frames, limit, file] => Some(Arguments {
-            config: settings(
+        [buckets, frames, limit, files @ ..] => {
+            let config = settings(
                 number(buckets.as_str())?,
                 number(frames.as_str())?,
                 number(limit.as_str())?,
-            ),
-            file: file.as_str(),
-        }),
+            );
+            if are_files(files) {
+                Some(Arguments { config, files })
+            } else {
+                None
+            }
+        }
         _ => None,
     }
 }

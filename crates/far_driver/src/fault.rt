@@ -37,7 +37,7 @@ pub enum RunFault {
 }
 
 /// The fault of a run for that of its file.
-fn of_file(file: u32, fault: FileFault) -> RunFault
+pub(crate) fn of_file(file: u32, fault: FileFault) -> RunFault
     ensures { result ≡ file_fault file fault }
 {
     match fault {

@@ -3,7 +3,7 @@ ghost use Rattle.std.specs.Prelude.{◌≡◌, ◌≤◌, false, map, string_byt
 ghost use Rattle.far_driver.specs.Arguments.{are_arguments};
 
 use crate::arguments::read_arguments;
-use crate::sources::run_source;
+use crate::sources::run_sources;
 use crate::status::ProgramFault;
 use std::io::Write;
 use std::rt::Files;
@@ -18,7 +18,7 @@ where
     let Some(arguments) = read_arguments(words) else {
         return Err(ProgramFault::Usage);
     };
-    run_source(rt, &arguments.config, arguments.file, out)
+    run_sources(rt, &arguments.config, arguments.files, out)
 }
 
 /// Runs the program on the words behind its name, `BUCKETS FRAMES LIMIT FILE`, and gives the status that it ends with.

@@ -24,17 +24,21 @@ fn run_reader<S: Read + Drop, W: Write>(
     Ok(())
 }
 
-/// Runs the commands of the file of this name; `-` is standard input.
-pub(crate) fn run_source<R, W>(
+/// Runs the commands of the files of these names; `-` is standard input. More than one are `Usage`: the run is one file's.
+pub(crate) fn run_sources<R, W>(
     rt: &R,
     config: &Config,
-    name: &str,
+    names: &[String],
     out: &mut W,
 ) -> Result<(), ProgramFault>
 where
     R: Files + Input + AllocGlobal,
     W: Write,
 {
+    let [name] = names else {
+        return Err(ProgramFault::Usage);
+    };
+    let name = name.as_str();
     if name == "-" {
         return run_reader(rt.alloc(), config, rt.reader(), out);
     }

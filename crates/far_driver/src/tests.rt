@@ -1,5 +1,6 @@
 //! Settings and files that are refused or not, and the program's words, texts and statuses.
 mod faults;
+mod files;
 mod inputs;
 mod program;
 mod runtime;
