@@ -18,7 +18,7 @@ SIMPLE = ["put a 1", "put e 2", "put i 3", "del e", "get a", "get e", "get i"]
 # Each command, at a key that is there and at one that is not, beside others in its bucket.
 ALL = [
     *["put a 1", "putnew e 2", "put b 4", "putnew e 3", "put a 5", "putif a 5 6", "putif a 5 7", "putif i 1 2"],
-    *["del e", "del e", "", "put i 8", "get a", "get b", "get e", "del a", "del b", "get i"],
+    *["del e", "del e", "", "put i 8", "hold a", "get a", "get b", "get e", "del a", "del b", "get i"],
 ]
 
 

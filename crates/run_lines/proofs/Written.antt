@@ -71,6 +71,3 @@ more_files a b c texts i t text lt at same p q =
     ∙ (ap (λ (m : ℕ). file_texts 1 (texts_of (take i texts)) ++ (codes "file " ++ (decimal m ++ 10 ∷ t.items))) count
     ∙ ap (λ (x : List ℕ). file_texts 1 (texts_of (take i texts)) ++ (codes "file " ++ (decimal (i + 1) ++ 10 ∷ x))) (sym same)))) in
     subst (λ (x : List ℕ). Appends a c x) (sym is) (both a b c _ _ p q)
-
-pub all_files : (a b : Option (List ℕ)) (texts : List (Vec ℕ Global)) (i : ℕ) → length texts ≤ i → Appends a b (file_texts 1 (texts_of (take i texts))) → Appends a b (file_texts 1 (texts_of texts))
-all_files a b texts i le p = subst (λ (x : List (Vec ℕ Global)). Appends a b (file_texts 1 (texts_of x))) (take_all i texts le) p
