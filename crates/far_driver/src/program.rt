@@ -25,8 +25,8 @@ where
 ///
 /// Numbers have one to seven decimal digits; the file `-` is standard input. What the run writes goes to `out`; the text
 /// of a fault is one line on `err`, where a fault of writing it is ignored. The faults come in the order of the work:
-/// the arguments, the opening of the file, and then those of `run_file`. Of these the clauses speak of the
-/// arguments alone.
+/// the arguments, more than one file among them, the opening of the file, and then those of `run_file`. Of these the
+/// clauses speak of the arguments alone.
 pub fn run_program<R, W, E>(rt: &R, words: &[String], out: &mut W, err: &mut E) -> u8
 where
     R: Files + Input + AllocGlobal,
