@@ -5,6 +5,7 @@
 #![tactic(auto)]
 
 mod devices;
+mod evicting;
 mod lanes;
 mod machines;
 mod objects;
@@ -18,5 +19,6 @@ fn main(rt: HostRuntime) -> io::Result<()> {
     devices::tell_all(&rt)?;
     machines::tell_all(&rt)?;
     shared::tell_all(&rt)?;
-    lanes::tell_all(&rt)
+    lanes::tell_all(&rt)?;
+    evicting::tell_all(&rt)
 }

@@ -1,0 +1,5 @@
+use Rattle.growths.proofs.evicting.on_table.Given as goal
+
+-- the queue that was just opened
+abbrev pub ghosts-on_queue : goal.ghosts-on_queue
+ghosts-on_queue g a = record { table = a.queue.table }

@@ -1,0 +1,5 @@
+use Rattle.growths.proofs.evicting.seats.Given as goal
+
+-- the queue that was just opened
+abbrev pub ghosts-is_named : goal.ghosts-is_named
+ghosts-is_named a = record { table = a.opening.table }
