@@ -107,6 +107,7 @@ impl<K: FarObject, V: FarObject, J: Naming, D: Device> FarTable<K, V, J, D> {
             return Ok(false);
         }
         match split(word) {
+            // A move from nothing is none.
             Place::Nothing => return Ok(false),
             Place::Device => return Ok(false),
             Place::Frame(place) => {
