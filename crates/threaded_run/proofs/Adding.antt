@@ -1,0 +1,17 @@
+-- A line that is added to others.
+use Rattle.std.proofs.Common.{◌≡◌, ℕ, List, [], ◌∷◌, ◌++◌, Result, Ok, Err, OnOk, ap, sym, ◌∙◌, append_assoc}
+
+-- the line is one of which this is so
+pub line_so : {T E : Type 0} (r : Result T E) (old new line : List ℕ) (P : List ℕ → Type 0) → P line → OnOk r (new ≡ old ++ (line ++ 10 ∷ [])) → OnOk r ((x : List ℕ) × (new ≡ old ++ (x ++ 10 ∷ [])) × P x)
+line_so (Ok done) old new line P so h = (line, h, so)
+line_so (Err e) old new line P so h = tt
+
+pub some_line : {T E : Type 0} (r : Result T E) (old new line : List ℕ) → OnOk r (new ≡ old ++ (line ++ 10 ∷ [])) → OnOk r ((x : List ℕ) × (new ≡ old ++ (x ++ 10 ∷ [])))
+some_line (Ok done) old new line h = (line, h)
+some_line (Err e) old new line h = tt
+
+-- a line that is added in two parts
+pub two_parts : {T E : Type 0} (r : Result T E) (old mid new place digits : List ℕ) → mid ≡ old ++ place → OnOk r (new ≡ mid ++ (digits ++ 10 ∷ [])) → OnOk r ((x : List ℕ) × (new ≡ old ++ (x ++ 10 ∷ [])))
+two_parts (Ok done) old mid new place digits is h =
+    (place ++ digits, h ∙ (ap (λ (z : List ℕ). z ++ (digits ++ 10 ∷ [])) is ∙ (append_assoc old place (digits ++ 10 ∷ []) ∙ ap (λ (z : List ℕ). old ++ z) (sym (append_assoc place digits (10 ∷ []))))))
+two_parts (Err e) old mid new place digits is h = tt

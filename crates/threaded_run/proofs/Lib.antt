@@ -1,0 +1,7 @@
+pub mod Trying
+pub mod Stepping
+pub mod Working
+pub mod Ending
+pub mod Adding
+pub mod Jobs
+pub mod Settings

@@ -1,0 +1,8 @@
+use Rattle.far_object.specs.Encodings.{enc_text}
+use Rattle.table_core.specs.declared.operation.Operation.TheVariants.{Get}
+use Rattle.hash_table.specs.Scopes.{shown}
+use Rattle.hash_table.proofs.Fronts.{finished_from}
+use Rattle.threaded_run.proofs.holding.open_near.Goals as goal
+
+pub returns-in-Ok : goal.returns-in-Ok
+returns-in-Ok g c = finished_from enc_text enc_text g.J.Naming.limits (Get c.args.key.now) (shown c.in-Ok.held) c.loop.invariant c.in-Ok.ensures.finished

@@ -1,0 +1,58 @@
+//! Why a run ends early.
+ghost use Rattle.std.specs.Prelude.{◌≡◌};
+ghost use Rattle.threaded_run.specs.declared.fault.WorkFault.TheVariants.{Memory as work_memory};
+ghost use Rattle.threaded_run.specs.Runs.{IsEarly};
+
+use far_object::Memory;
+use run_lines::Refusal;
+use thiserror::Error;
+
+/// Why a run ended early.
+#[derive(Clone, Copy, Debug, PartialEq, Eq, Error)]
+pub enum ThreadedFault {
+    /// A growth was refused.
+    #[error("memory")]
+    Memory,
+    /// A device failed as it was made empty.
+    #[error("device")]
+    Device,
+    /// There are not as many passes as files and one more.
+    #[error("passes spent")]
+    Passes,
+    /// The gate gave up.
+    #[error("gate gave up")]
+    Gate,
+    /// A write of the output failed.
+    #[error("write failed")]
+    Write,
+    /// The contents can't be read. The lines before `contents` were written.
+    #[error("contents: {0}")]
+    Contents(Refusal),
+}
+
+/// Why no workers were made, or one gave up.
+#[derive(Clone, Copy, Debug, PartialEq, Eq)]
+pub(crate) enum WorkFault {
+    Memory,
+    Passes,
+    Gate,
+}
+
+impl From<Memory> for WorkFault {
+    ghost from_gives = { λ _ fault. fault ≡ work_memory };
+
+    fn from(_refused: Memory) -> WorkFault {
+        WorkFault::Memory
+    }
+}
+
+/// The fault of the run.
+pub(crate) fn of_work(fault: WorkFault) -> ThreadedFault
+    ensures { IsEarly result }
+{
+    match fault {
+        WorkFault::Memory => ThreadedFault::Memory,
+        WorkFault::Passes => ThreadedFault::Passes,
+        WorkFault::Gate => ThreadedFault::Gate,
+    }
+}

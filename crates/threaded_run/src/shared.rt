@@ -1,0 +1,63 @@
+//! What the workers and the evictor's thread share.
+ghost use Rattle.std.specs.Prelude.{◌≡◌};
+
+use far_device::Device;
+use far_object::Text;
+use hash_table::{Caller, FarTable, Refusal};
+use std::sync::atomic::{AtomicBool, Ordering};
+use std::sync::{Mutex, Wait};
+use swapper::{Evictor, QueueNaming, QueueSeat, SpareQueue};
+use version_words::Naming;
+
+/// A caller, and its seat at the queue of spares.
+#[derive(Drop)]
+pub(crate) struct Seated<J: Naming, B: QueueNaming> {
+    pub(crate) caller: Caller<Text, Text, J>,
+    pub(crate) seat: QueueSeat<Text, Text, J, B>,
+}
+
+/// The table, the queue of spares to the evictor, and the evictor. While one thread has the evictor, others wait for it.
+#[derive(Drop)]
+pub(crate) struct Shared<J: Naming, B: QueueNaming, D: Device> {
+    pub(crate) table: FarTable<Text, Text, J, D>,
+    pub(crate) queue: SpareQueue<Text, Text, J, B>,
+    pub(crate) evictor: Mutex<Evictor<Text, Text, J, B>>,
+    /// How many frames the evictor's thread keeps free.
+    pub(crate) reserve: u32,
+    /// Whether the evictor's thread has started.
+    pub(crate) started: AtomicBool,
+    /// Whether all workers have ended.
+    pub(crate) ended: AtomicBool,
+}
+
+impl<J: Naming, B: QueueNaming, D: Device> Shared<J, B, D> {
+    /// An evictor's turn, which says whether a frame was emptied, or why none was.
+    pub(crate) fn turn<R: Wait>(&self, rt: &R) -> Result<bool, Refusal> {
+        match self.evictor.lock(rt).turn(rt, &self.table, &self.queue) {
+            Ok(turn) => Ok(turn.evicted),
+            Err(refusal) => Err(refusal),
+        }
+    }
+
+    /// Has spares reclaimed.
+    pub(crate) fn collect<R: Wait>(&self, rt: &R) {
+        self.evictor.lock(rt).collect(rt, &self.table, &self.queue);
+    }
+
+    /// Hands over the spares that the caller's calls have left, as far as the queue has room.
+    pub(crate) fn settle<R: Wait>(&self, rt: &R, seated: &mut Seated<J, B>)
+        ensures { seated.new.caller.pass ≡ seated.old.caller.pass }
+    {
+        self.queue.settle(rt, &mut seated.seat, &mut seated.caller);
+    }
+
+    /// What follows each command: the caller's spares are handed over, and reclaimed where the evictor has no thread.
+    pub(crate) fn after_command<R: Wait>(&self, rt: &R, seated: &mut Seated<J, B>)
+        ensures { seated.new.caller.pass ≡ seated.old.caller.pass }
+    {
+        self.settle(rt, seated);
+        if !self.started.load(Ordering::SeqCst) {
+            self.collect(rt);
+        }
+    }
+}

@@ -1,0 +1,96 @@
+//! One worker per file, each in a thread of its own where one can be started, beside the evictor's.
+ghost use Rattle.std.specs.Prelude.{map, IfOk};
+ghost use Rattle.std.specs.Thread.{IsSync, IsSend};
+ghost use Rattle.threaded_run.specs.Runs.{EndedIs, WorkedAll};
+
+use crate::evicting::evict;
+use crate::fault::WorkFault;
+use crate::gate::Gate;
+use crate::shared::Shared;
+use crate::worker::{Ended, Job};
+use far_device::Device;
+use far_object::Text;
+use hash_table::Caller;
+use std::alloc::Global;
+use std::sync::Wait;
+use std::sync::atomic::Ordering;
+use std::thread::{Threads, join};
+use swapper::QueueNaming;
+use version_words::Naming;
+
+/// The callers of workers that have ended, and their lines, in the order of the files.
+pub(crate) type Worked<J> = (Vec<Caller<Text, Text, J>>, Vec<Vec<u8>>);
+
+/// Runs each job by a worker.
+fn workers<J, B, D, G, R>(
+    rt: &R,
+    alloc: Global,
+    shared: &Shared<J, B, D>,
+    gate: &G,
+    mut jobs: Vec<Job<J, B>>,
+) -> Result<Worked<J>, WorkFault>
+where
+    J: Naming + Send + Sync,
+    B: QueueNaming + Send + Sync,
+    D: Device + Send,
+    G: Gate,
+    R: Threads + Wait + Sync,
+    ensures { IfOk result (λ r. WorkedAll J.limits shared.now.table.limit jobs.items (map (λ c. c.pass) r.0.items) (map (λ t. t.items) r.1.items)) }
+{
+    let Some(job) = jobs.pop() else {
+        return Ok((Vec::new(alloc), Vec::new(alloc)));
+    };
+    let (last, others) = join(
+        rt,
+        || -> Result<Ended<J>, WorkFault>
+            requires { IsSync R.row }
+            ensures { IfOk result (λ e. EndedIs J.limits shared.entry.now.table.limit job.pass job.commands e) }
+        { job.run(rt, alloc, shared, gate) },
+        || -> Result<Worked<J>, WorkFault>
+            requires { IsSync R.row × IsSend J.row × IsSync J.row × IsSend B.row × IsSync B.row × IsSend D.row }
+            ensures { IfOk result (λ r. WorkedAll J.limits shared.entry.now.table.limit jobs.items (map (λ c. c.pass) r.0.items) (map (λ t. t.items) r.1.items)) }
+        { workers(rt, alloc, shared, gate, jobs) },
+    );
+    let last = last?;
+    let (mut callers, mut texts) = others?;
+    let Ended { caller, lines } = last;
+    let (Ok(()), Ok(())) = (callers.push(caller), texts.push(lines)) else {
+        return Err(WorkFault::Memory);
+    };
+    Ok((callers, texts))
+}
+
+/// Runs the jobs. Where they are several the evictor has a thread beside them. Where that can't be started its loop begins
+/// when all workers have ended, and ends at once; the workers have spares reclaimed themselves then.
+pub(crate) fn run_jobs<J, B, D, G, R>(
+    rt: &R,
+    alloc: Global,
+    shared: &Shared<J, B, D>,
+    gate: &G,
+    jobs: Vec<Job<J, B>>,
+) -> Result<Worked<J>, WorkFault>
+where
+    J: Naming + Send + Sync,
+    B: QueueNaming + Send + Sync,
+    D: Device + Send,
+    G: Gate,
+    R: Threads + Wait + Sync,
+    ensures { IfOk result (λ r. WorkedAll J.limits shared.now.table.limit jobs.items (map (λ c. c.pass) r.0.items) (map (λ t. t.items) r.1.items)) }
+{
+    if jobs.len() < 2 {
+        return workers(rt, alloc, shared, gate, jobs);
+    }
+    let (_, done) = join(
+        rt,
+        || evict(rt, shared),
+        || -> Result<Worked<J>, WorkFault>
+            requires { IsSync R.row × IsSend J.row × IsSync J.row × IsSend B.row × IsSync B.row × IsSend D.row }
+            ensures { IfOk result (λ r. WorkedAll J.limits shared.entry.now.table.limit jobs.items (map (λ c. c.pass) r.0.items) (map (λ t. t.items) r.1.items)) }
+        {
+            let done = workers(rt, alloc, shared, gate, jobs);
+            shared.ended.store(true, Ordering::SeqCst);
+            done
+        },
+    );
+    done
+}

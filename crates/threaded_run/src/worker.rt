@@ -1,0 +1,130 @@
+//! One worker: the commands of a file, one after another.
+ghost use Rattle.std.specs.Prelude.{◌≡◌, ◌++◌, ◌∷◌, [], ◌≤◌, ℕ, List, length, IfOk, OnOk};
+ghost use Rattle.version_words.specs.Views.{calls};
+ghost use Rattle.threaded_run.specs.Runs.{EndedIs};
+
+use crate::fault::WorkFault;
+use crate::gate::Gate;
+use crate::holding::Held;
+use crate::running::run_command;
+use crate::shared::{Seated, Shared};
+use command_file::Command;
+use far_device::Device;
+use far_object::Text;
+use hash_table::Caller;
+use std::alloc::Global;
+use std::marker::Model;
+use std::sync::Wait;
+use swapper::QueueNaming;
+use version_words::Naming;
+
+/// A file that is to be run: its number, a caller that has made no call, and its commands.
+#[derive(Drop)]
+pub(crate) struct Job<J: Naming, B: QueueNaming> {
+    number: u32,
+    seated: Seated<J, B>,
+    commands: Vec<Command>,
+}
+
+impl<J: Naming, B: QueueNaming> Model for Job<J, B> {
+    ghost use Rattle.std.specs.Prelude.{◌≡◌, ◌≤◌, [], length};
+    ghost use Rattle.version_words.specs.Views.{calls};
+    ghost use Rattle.threaded_run.specs.Runs.{JobView};
+
+    ghost Value = { JobView };
+
+    ghost view = { λ j. record { pass = j.seated.caller.pass; commands = j.commands.items } };
+
+    ghost invariant = { λ j. (calls j.seated.caller.pass ≡ []) × (length j.commands.items ≤ 65536) };
+}
+
+/// A worker that has ended: its caller, and its lines, each with an LF behind it.
+#[derive(Drop)]
+pub(crate) struct Ended<J: Naming> {
+    pub(crate) caller: Caller<Text, Text, J>,
+    pub(crate) lines: Vec<u8>,
+}
+
+impl<J: Naming> Model for Ended<J> {
+    ghost use Rattle.threaded_run.specs.Runs.{EndedView};
+
+    ghost Value = { EndedView };
+
+    ghost view = { λ e. record { pass = e.caller.pass; text = e.lines.items } };
+}
+
+impl<J: Naming, B: QueueNaming> Job<J, B> {
+    pub(crate) fn new(number: u32, seated: Seated<J, B>, commands: Vec<Command>) -> Job<J, B>
+        requires new { calls seated.caller.pass ≡ [] }
+        requires short { length commands.items ≤ 65536 }
+        ensures { (result.pass ≡ seated.caller.pass) × (result.commands ≡ commands.items) }
+    {
+        Job {
+            number,
+            seated,
+            commands,
+        }
+    }
+
+    /// Runs the commands in order. A scope that is then open is closed, also where the run is given up.
+    pub(crate) fn run<D: Device, G: Gate, R: Wait>(
+        self,
+        rt: &R,
+        alloc: Global,
+        shared: &Shared<J, B, D>,
+        gate: &G,
+    ) -> Result<Ended<J>, WorkFault>
+        ensures { IfOk result (λ e. EndedIs J.limits shared.now.table.limit self.pass self.commands e) }
+    {
+        let Job {
+            number,
+            mut seated,
+            commands,
+        } = self;
+        let mut held = None;
+        let ran = work(
+            rt,
+            alloc,
+            shared,
+            gate,
+            number,
+            &mut seated,
+            &mut held,
+            commands.as_slice(),
+        );
+        match held {
+            Some(scope) => scope.close(),
+            None => {}
+        }
+        let lines = ran?;
+        let Seated { caller, seat: _ } = seated;
+        Ok(Ended { caller, lines })
+    }
+}
+
+/// Runs the commands in order, each between the gate's two calls, and gives their lines.
+fn work<'a, J: Naming, B: QueueNaming, D: Device, G: Gate, R: Wait>(
+    rt: &R,
+    alloc: Global,
+    shared: &'a Shared<J, B, D>,
+    gate: &G,
+    number: u32,
+    seated: &mut Seated<J, B>,
+    held: &mut Held<'a, J>,
+    commands: &[Command],
+) -> Result<Vec<u8>, WorkFault>
+    requires new { calls seated.old.caller.pass ≡ [] }
+    requires short { length commands.now ≤ 65536 }
+    ensures { IfOk result (λ lines. EndedIs J.limits shared.now.table.limit seated.old.caller.pass commands.now (record { pass = seated.new.caller.pass; text = lines.items })) }
+{
+    let mut lines = Vec::new(alloc);
+    for (at, command) in commands.iter().enumerate() {
+        let call = at as u32 + 1;
+        if !gate.before(number, call) {
+            return Err(WorkFault::Gate);
+        }
+        run_command(rt, alloc, shared, seated, held, &mut lines, command)?;
+        gate.after(number, call);
+    }
+    Ok(lines)
+}
