@@ -10,10 +10,16 @@ import collections
 import os
 import sys
 
-from refused_growths import MOST_RUNS, run
+from refused_growths import run
 
-# The calls that take no memory. For the devices that wrap another, and for lanes, no clause says so.
-WITHOUT_GROWTH = {"Machine::enter", "Machine::move_to", "Lane::open", "Lane::remove", "LaneStore::remove"} | {
+# The program makes fewer requests.
+MOST_GROWTHS = 3_000
+
+# The calls that take no memory. For the devices that wrap another, for lanes and for the table no clause says so.
+WITHOUT_GROWTH = {
+    "Machine::enter", "Machine::move_to", "Lane::open", "Lane::remove", "LaneStore::remove", "FarTable::enter",
+    "FarTable::open_scope", "FarTable::reclaim, a frame", "FarTable::reclaim, the device",
+} | {
     f"{device}Device::{call}"
     for device in ("Fake", "Faulty", "Lying", "Canned", "Watched")
     for call in ("remove", "construct")
@@ -34,7 +40,7 @@ def sweep(program, library):
     whole = run(program, library, [], [], "")
     names, growths = told(whole), whole[3]
     growths_of, preparations, wrong = collections.Counter(), 0, []
-    if not names or set(names.values()) != {"ok"} or growths >= MOST_RUNS:
+    if not names or set(names.values()) != {"ok"} or growths >= MOST_GROWTHS:
         return growths_of, 0, [f"none refused: {whole}"]
     for number in range(1, growths + 1):
         ran = run(program, library, [], [], str(number))

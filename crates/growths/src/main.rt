@@ -10,7 +10,9 @@ mod lanes;
 mod machines;
 mod objects;
 mod outcome;
+mod passes;
 mod shared;
+mod tables;
 
 use std::io;
 
@@ -19,6 +21,8 @@ fn main(rt: HostRuntime) -> io::Result<()> {
     devices::tell_all(&rt)?;
     machines::tell_all(&rt)?;
     shared::tell_all(&rt)?;
+    passes::tell_all(&rt)?;
     lanes::tell_all(&rt)?;
+    tables::tell_all(&rt)?;
     evicting::tell_all(&rt)
 }
