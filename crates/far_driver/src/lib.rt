@@ -4,7 +4,6 @@
 mod arguments;
 mod config;
 mod fault;
-mod gate;
 mod program;
 mod reading;
 mod run;
@@ -14,7 +13,6 @@ mod status;
 pub use arguments::read_words;
 pub use config::Config;
 pub use fault::RunFault;
-pub use gate::{Gate, OpenGate};
 pub use program::run_program;
 pub use reading::read_files;
 pub use run::run_file;

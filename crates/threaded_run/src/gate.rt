@@ -3,18 +3,20 @@
 /// Is asked before each command, and told after it. Workers are counted from 1, and so are the commands of each.
 pub trait Gate: Sync {
     /// Whether the command may be run. False gives up the run.
-    fn before(&self, worker: u32, call: u32) -> bool;
+    fn before(&self, worker: u32, command: u32) -> bool;
 
-    fn after(&self, worker: u32, call: u32);
+    /// The command has been replied.
+    fn after(&self, worker: u32, command: u32);
 }
 
-/// Lets all pass.
+/// Lets every command pass.
+#[derive(Clone, Copy, Debug)]
 pub struct OpenGate;
 
 impl Gate for OpenGate {
-    fn before(&self, _worker: u32, _call: u32) -> bool {
+    fn before(&self, _worker: u32, _command: u32) -> bool {
         true
     }
 
-    fn after(&self, _worker: u32, _call: u32) {}
+    fn after(&self, _worker: u32, _command: u32) {}
 }

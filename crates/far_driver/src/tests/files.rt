@@ -1,6 +1,6 @@
 //! Several files, read in order; and the gate that lets every command pass.
 use super::inputs::Faltering;
-use crate::{Gate, OpenGate, RunFault, read_files};
+use crate::{RunFault, read_files};
 use command_file::Command;
 use std::alloc::Global;
 use std::test::Fail;
@@ -54,10 +54,4 @@ fn second_file_fails(rt: HostRuntime) -> Result<(), Fail> {
         assert_eq!(&rt; found, Some(RunFault::Read(2)));
     }
     Ok(())
-}
-
-#[test]
-fn open_gate(rt: HostRuntime) {
-    OpenGate.after(1, 1);
-    assert!(&rt; OpenGate.before(1, 1) && OpenGate.before(64, 65_536));
 }
