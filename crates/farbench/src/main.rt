@@ -2,6 +2,7 @@
 #![tactic(auto)]
 
 mod bare;
+mod evicting;
 mod frames;
 mod lanes;
 mod replay;
@@ -28,6 +29,7 @@ fn run<R: Alloc<A = Global> + Clock + Env + Print + Threads + Wait + Sync>(rt: &
         println!(rt; "       farbench lanes ROUNDS")?;
         println!(rt; "       farbench table BUCKETS ROUNDS")?;
         println!(rt; "       farbench far BUCKETS")?;
+        println!(rt; "       farbench swapper ROUNDS")?;
         return Ok(());
     };
     let count = count.as_str().parse::<u32>()?;
@@ -38,6 +40,7 @@ fn run<R: Alloc<A = Global> + Clock + Env + Print + Threads + Wait + Sync>(rt: &
         ("lanes", None) => lanes::measure(rt, count),
         ("far", None) => table::far::measure(rt, count),
         ("table", Some(rounds)) => table::measure(rt, count, rounds.as_str().parse::<u32>()?),
+        ("swapper", None) => evicting::measure(rt, count),
         _ => bail!("no such benchmark: without arguments their usage is printed"),
     }
 }
