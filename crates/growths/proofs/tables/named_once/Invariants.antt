@@ -5,4 +5,4 @@ use Rattle.growths.proofs.tables.named_once.Given as goal
 
 -- the row that was opened
 abbrev pub ghosts-is_named : goal.ghosts-is_named
-ghosts-is_named g a = record { book = a.opening.row.book; names = a.opening.row.names; limits = limits_of (sizes_of a.opening.config) true }
+ghosts-is_named a = record { book = a.opening.row.book; names = a.opening.row.names; limits = limits_of (sizes_of a.opening.config) true }
