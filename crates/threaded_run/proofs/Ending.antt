@@ -1,10 +1,9 @@
 -- The end of a run: every worker's record at one log.
-use Rattle.std.proofs.Common.{◌≡◌, ◌≢◌, ℕ, suc, ◌+◌, ◌<◌, ◌==◌, Bool, true, false, IsTrue, List, [], ◌∷◌, ◌++◌, Option, Some, None, Result, Ok, Err, OnOk, IfErr, length, map, refl, ap, sym, ◌∙◌, subst, arith}
+use Rattle.std.proofs.Common.{◌≡◌, ◌≢◌, ℕ, suc, ◌<◌, ◌==◌, Bool, true, false, IsTrue, List, [], ◌∷◌, ◌++◌, Option, Some, None, Result, Ok, Err, OnOk, IfErr, length, map, refl, ap, sym, ◌∙◌, subst, arith}
 use Rattle.std.specs.Prelude.{codes, slice_index_or}
 use Rattle.std.proofs.lemmas.Bool.Decides.{nat_tests}
 use Rattle.std.proofs.lemmas.List.{map-append}
 use Rattle.std.specs.List.{AllByRecursion}
-use Rattle.std.specs.Io.KnownBytes.{Appends}
 use Rattle.far_object.specs.Encodings.{enc_text}
 use Rattle.table_core.specs.declared.limits.Limits.{Limits}
 use Rattle.table_core.specs.Maps.{map_of}
@@ -12,7 +11,7 @@ use Rattle.table_core.specs.Logs.{history}
 use Rattle.hash_table.specs.declared.caller.Caller.{Caller}
 use Rattle.hash_table.specs.Closes.{IsClosed}
 use Rattle.command_file.specs.declared.command.Command.{Command}
-use Rattle.version_words.specs.Views.{PassView, IsWhole, AreNone, calls, calls_of}
+use Rattle.version_words.specs.Views.{IsWhole, AreNone, calls}
 use Rattle.version_words.specs.Views.{AreApart as AreApartViews}
 use Rattle.run_lines.specs.Calls.{Texts, calls_by}
 use Rattle.run_lines.specs.Replies.{RepliedIn}

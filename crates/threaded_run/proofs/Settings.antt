@@ -1,5 +1,5 @@
 -- Settings of which none is bad.
-use Rattle.std.proofs.Common.{◌≡◌, ℕ, ◌<◌, ◌≤◌, ◌==◌, Bool, true, false, Option, Some, None, refl, arith, rules}
+use Rattle.std.proofs.Common.{◌≡◌, ℕ, ◌<◌, ◌==◌, Bool, true, false, Option, Some, None, arith, rules}
 use Rattle.std.proofs.lemmas.Grind.{common_steps}
 use Rattle.hash_table.specs.declared.config.Config.{Config}
 use Rattle.hash_table.specs.Configs.{first_bad, first_bad_with, or_lanes}

@@ -1,7 +1,5 @@
 -- One try of a command after another.
-use Rattle.std.proofs.Common.{◌≡◌, ℕ, IsTrue, List, Option, None, Result, Ok, Err, sym, subst, inl, inr, ◌⊎◌}
-use Rattle.std.specs.Prelude.{⊤}
-use mathlib.Core.List.{IsPrefix}
+use Rattle.std.proofs.Common.{◌≡◌, ℕ, List, Option, None, Result, Ok, Err, sym, subst, inl, inr, ◌⊎◌}
 use Rattle.far_object.specs.Encodings.{enc_text}
 use Rattle.far_object.specs.Buckets.{bucket}
 use Rattle.table_core.specs.declared.limits.Limits.{Limits}

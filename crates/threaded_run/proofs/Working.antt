@@ -1,5 +1,5 @@
 -- A worker, one command after another, and workers that have ended.
-use Rattle.std.proofs.Common.{◌≡◌, ℕ, ◌+◌, ◌<◌, ◌≤◌, IsTrue, List, [], ◌∷◌, ◌++◌, length, take, get_or, map, refl, ap, sym, ◌∙◌, subst, arith, add-one, length-append, Vec, Global}
+use Rattle.std.proofs.Common.{◌≡◌, ℕ, ◌+◌, ◌<◌, ◌≤◌, Result, Ok, Err, IfOk, List, [], ◌∷◌, ◌++◌, length, take, get_or, map, refl, ap, sym, ◌∙◌, subst, arith, add-one, length-append, Vec, Global}
 use Rattle.std.proofs.lemmas.List.{take_all, map-append}
 use Rattle.std.proofs.Math.Seq.{take-suc}
 use Rattle.std.specs.List.{AllByRecursion}
@@ -8,7 +8,6 @@ use Rattle.table_core.specs.Logs.{history}
 use Rattle.version_words.specs.Views.{calls}
 use Rattle.command_file.specs.declared.command.Command.{Command}
 use Rattle.run_lines.specs.Output.{written}
-use Rattle.run_lines.specs.Replies.{RepliedIn}
 use Rattle.run_lines.proofs.Replying.{replied_more}
 use Rattle.run_lines.proofs.Written.{written-more}
 use Rattle.hash_table.specs.declared.caller.Caller.{Caller}
@@ -94,3 +93,10 @@ module _ (l : Limits) (limit : ℕ) where
             ∙ (ap (λ (x : List (List ℕ)). x ++ written ended.lines ∷ []) w.texts_are ∙ (ap (λ (x : List ℕ). texts ++ x ∷ []) (sym ended.text_is) ∙ sym t));
         served = all-push (IsServed l limit) w.all one w.served ended.served;
       }
+
+  -- the same of what was answered, where it was
+  pub more_ok : {R E : Type 0} (result : Result R E) (passes_of : R → List View) (texts_of : R → List (List ℕ)) (jobs rest : List JobView) (job : JobView) (e : EndedView) (passes : List View) (texts : List (List ℕ))
+      → jobs ≡ rest ++ job ∷ [] → IfOk result (λ r. passes_of r ≡ passes ++ e.pass ∷ []) → IfOk result (λ r. texts_of r ≡ texts ++ e.text ∷ [])
+      → WorkedAll l limit rest passes texts → EndedIs l limit job.pass job.commands e → IfOk result (λ r. WorkedAll l limit jobs (passes_of r) (texts_of r))
+  more_ok (Ok r) passes_of texts_of jobs rest job e passes texts j p t w ended = more jobs rest job e passes (passes_of r) texts (texts_of r) j p t w ended
+  more_ok (Err e) passes_of texts_of jobs rest job ended_e passes texts j p t w ended = tt

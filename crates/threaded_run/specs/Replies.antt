@@ -1,5 +1,5 @@
 -- What a table that threads share replies to a command, and why it may refuse one.
-use Rattle.std.specs.Prelude.{◌≡◌, ℕ, ◌<◌, IsTrue, List, length, Option, Some, None, Result, Ok, Err, ⊤, ◌⊎◌}
+use Rattle.std.specs.Prelude.{◌≡◌, ℕ, ◌<◌, IsTrue, List, length, Option, Result, Ok, Err, ⊤}
 use Rattle.far_object.specs.Encodings.{enc_text}
 use Rattle.far_object.specs.Buckets.{bucket}
 use Rattle.far_object.specs.Objects.{object_of}

@@ -1,5 +1,5 @@
 //! One worker per file, each in a thread of its own where one can be started, beside the evictor's.
-ghost use Rattle.std.specs.Prelude.{map, IfOk};
+ghost use Rattle.std.specs.Prelude.{◌≡◌, ◌++◌, ◌∷◌, [], map, IfOk};
 ghost use Rattle.std.specs.Thread.{IsSync, IsSend};
 ghost use Rattle.threaded_run.specs.Runs.{EndedIs, WorkedAll};
 
@@ -21,7 +21,21 @@ use version_words::Naming;
 /// The callers of workers that have ended, and their lines, in the order of the files.
 pub(crate) type Worked<J> = (Vec<Caller<Text, Text, J>>, Vec<Vec<u8>>);
 
-/// Runs each job by a worker.
+/// The worker's caller and its lines, behind those of the others.
+fn with_last<J: Naming>(others: Worked<J>, last: Ended<J>) -> Result<Worked<J>, WorkFault>
+    ensures callers { IfOk result (λ r. map (λ c. c.pass) r.0.items ≡ map (λ c. c.pass) others.0.items ++ last.pass ∷ []) }
+    ensures texts { IfOk result (λ r. map (λ t. t.items) r.1.items ≡ map (λ t. t.items) others.1.items ++ last.text ∷ []) }
+{
+    let (mut callers, mut texts) = others;
+    let Ended { caller, lines } = last;
+    let (Ok(()), Ok(())) = (callers.push(caller), texts.push(lines)) else {
+        return Err(WorkFault::Memory);
+    };
+    Ok((callers, texts))
+}
+
+/// Runs each job by a worker: the first on this thread, and each other on one of its own. Of several workers' faults that of
+/// the first is answered.
 fn workers<J, B, D, G, R>(
     rt: &R,
     alloc: Global,
@@ -40,6 +54,10 @@ where
     let Some(job) = jobs.pop() else {
         return Ok((Vec::new(alloc), Vec::new(alloc)));
     };
+    if jobs.is_empty() {
+        let alone = job.run(rt, alloc, shared, gate)?;
+        return with_last((Vec::new(alloc), Vec::new(alloc)), alone);
+    }
     let (last, others) = join(
         rt,
         || -> Result<Ended<J>, WorkFault>
@@ -51,13 +69,9 @@ where
             ensures { IfOk result (λ r. WorkedAll J.limits shared.entry.now.table.limit jobs.items (map (λ c. c.pass) r.0.items) (map (λ t. t.items) r.1.items)) }
         { workers(rt, alloc, shared, gate, jobs) },
     );
+    let others = others?;
     let last = last?;
-    let (mut callers, mut texts) = others?;
-    let Ended { caller, lines } = last;
-    let (Ok(()), Ok(())) = (callers.push(caller), texts.push(lines)) else {
-        return Err(WorkFault::Memory);
-    };
-    Ok((callers, texts))
+    with_last(others, last)
 }
 
 /// Runs the jobs. Where they are several the evictor has a thread beside them. Where that can't be started its loop begins

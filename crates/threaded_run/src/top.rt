@@ -101,14 +101,15 @@ where
 /// that the table holds, in key order. There are 1 to 64 files of at most 65,536 commands, and the settings are within
 /// their limits.
 ///
-/// Each worker has a thread, as far as threads can be started, and so has the evictor where there is more than one file.
+/// The first file's worker has this thread. Each other has one of its own, as far as threads can be started, and so has the
+/// evictor where there is more than one file.
 /// Round each command the gate is asked and told, in the worker's thread.
 ///
 /// The faults come in the order of the work: `Device` where a device fails as it is made empty; `Passes` where there are not
 /// as many passes as files and one more; `Gate` where the gate gave up; `Write` where a write or the last flush fails;
 /// `Contents` where the pairs can't be read, and then all lines before `contents` are written. `Memory` is a growth that was
 /// refused for the table, the queue, the evictor or a line. Before the first write nothing is written. Of several workers'
-/// faults that of the last file comes first.
+/// faults that of the first file is answered.
 pub fn run_files<D, G, R, W>(
     rt: &R,
     alloc: Global,

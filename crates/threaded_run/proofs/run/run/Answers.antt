@@ -1,8 +1,8 @@
-use Rattle.std.proofs.Common.{rules, ◌≡◌, ℕ, List, [], ◌∷◌, ◌++◌, map, sym, subst}
+use Rattle.std.proofs.Common.{rules, ◌≡◌, [], ◌∷◌, ◌++◌, map, sym, subst}
 use Rattle.std.specs.Prelude.{codes}
 use Rattle.run_lines.specs.Output.{written, pair_line, file_texts}
 use Rattle.threaded_run.specs.Runs.{WorkedAll}
-use Rattle.threaded_run.proofs.Ending.{ran, lines_before, ended, before, kept}
+use Rattle.threaded_run.proofs.Ending.{ran, lines_before, ended, before}
 use Rattle.threaded_run.proofs.run.run.Goals as goal
 
 pub returns-clause-ran : goal.returns-clause-ran

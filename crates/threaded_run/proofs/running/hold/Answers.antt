@@ -1,4 +1,4 @@
-use Rattle.std.proofs.Common.{◌≡◌, ℕ, List, Ok, Err, None, refl, rules}
+use Rattle.std.proofs.Common.{ℕ, List, Ok, Err, None, refl, rules}
 use Rattle.std.specs.Prelude.{codes}
 use Rattle.command_file.specs.declared.command.Command.TheVariants.{Map}
 use Rattle.command_file.specs.declared.command.MapCommand.TheVariants.{Hold}
