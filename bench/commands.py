@@ -1,5 +1,5 @@
 #!/usr/bin/env python3
-"""Writes a command file: commands.py COUNT [SEED].
+"""Writes a command file: commands.py COUNT [SEED [FILE]]. Files of other numbers have other keys.
 
 Of 100 commands 50 put, 30 get, 10 del, 5 putif and 5 putnew, on average. The 20,000 keys are drawn evenly: the key n is
 `key` and the eight hexadecimal digits of n * 2654435761 mod 2^32, so the program's hash (each byte added to 31 times the
@@ -22,11 +22,11 @@ def value_of(number):
     return f"value{number:08d}".ljust(VALUE_BYTES, "v")
 
 
-def commands(count, seed):
+def commands(count, seed, file):
     chosen = random.Random(seed)
     held = {}
     for number in range(count):
-        verb, key, value = chosen.choice(VERBS), key_of(chosen.randrange(KEYS)), value_of(number)
+        verb, key, value = chosen.choice(VERBS), key_of(file * KEYS + chosen.randrange(KEYS)), value_of(number)
         is_met = chosen.random() < 0.5
         if verb in ("get", "del"):
             yield f"{verb} {key}"
@@ -43,8 +43,8 @@ def commands(count, seed):
             held[key] = value
 
 
-def main(count, seed="1"):
-    sys.stdout.writelines(f"{line}\n" for line in commands(int(count), int(seed)))
+def main(count, seed="1", file="0"):
+    sys.stdout.writelines(f"{line}\n" for line in commands(int(count), int(seed), int(file)))
 
 
 main(*sys.argv[1:])

@@ -5,6 +5,8 @@
 #include <errno.h>
 #include <stdio.h>
 #include <stdlib.h>
+#include <sys/syscall.h>
+#include <unistd.h>
 
 extern void *__libc_malloc(size_t);
 extern void *__libc_calloc(size_t, size_t);
@@ -20,9 +22,9 @@ __attribute__((constructor)) static void read_refused(void) {
     requests = 0;
 }
 
-__attribute__((destructor)) static void write_requests(void) {
+static void write_requests(void) {
     const char *path = getenv("GROWTHS");
-    unsigned long made = requests;
+    unsigned long made = __atomic_load_n(&requests, __ATOMIC_SEQ_CST);
     FILE *file;
     refused = 0;
     if (path && (file = fopen(path, "w"))) {
@@ -31,9 +33,19 @@ __attribute__((destructor)) static void write_requests(void) {
     }
 }
 
+/* A program that may start threads ends by this call. */
+void _exit(int status) {
+    write_requests();
+    for (;;)
+        syscall(SYS_exit_group, status);
+}
+
+/* And every other by returning. */
+__attribute__((destructor)) static void end(void) { write_requests(); }
+
 static int is_refused(void) {
-    requests++;
-    if (!refused || requests < refused || last < requests)
+    unsigned long number = __atomic_add_fetch(&requests, 1, __ATOMIC_SEQ_CST);
+    if (!refused || number < refused || last < number)
         return 0;
     errno = ENOMEM;
     return 1;

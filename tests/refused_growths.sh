@@ -1,6 +1,6 @@
 #!/usr/bin/env bash
-# Refuses requests for memory, each in turn: those of the proved program on two small files, whose replies are compared
-# with a plain map, and those of each public call that can answer want of memory, which the program growths makes.
+# Refuses requests for memory, each in turn: those of the proved program on one file, on another and on three, whose replies
+# have to come from a history, and those of each public call that can answer want of memory, which the program growths makes.
 # refused_growths.py and refused_calls.py say what may come, and the status is 1 where something else does.
 # FARTABLE=PATH takes that program, in place of what bin/fartable proves and builds, and CALLS=PATH that one for growths.
 set -euo pipefail

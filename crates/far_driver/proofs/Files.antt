@@ -1,6 +1,9 @@
 -- The files that were read, one after another.
-use Rattle.std.proofs.Common.{◌≡◌, ℕ, List, [], ◌∷◌, ◌++◌, Option, IfSome, map, ap, ◌∙◌, sym, subst, append_assoc, Vec, Global}
-use Rattle.std.proofs.lemmas.List.{map-append}
+use Rattle.std.proofs.Common.{◌≡◌, ◌≤◌, ℕ, length, refl, arith, List, [], ◌∷◌, ◌++◌, Option, IfSome, map, ap, ◌∙◌, sym, subst, append_assoc, Vec, Global}
+use Rattle.std.specs.Prelude.{vec_len}
+use Rattle.std.specs.List.{All, AllByRecursion}
+use Rattle.std.proofs.lemmas.List.{map-append, length-map}
+use Rattle.std.proofs.lemmas.List.Elements.{All-head, All-tail}
 use Rattle.command_file.specs.declared.command.Command.{Command}
 use Rattle.command_file.specs.Lines.{lines_of}
 use Rattle.command_file.specs.Files.{IsFile}
@@ -51,3 +54,24 @@ pub fault_before : {B : Type 0} (known : B → Option (List ℕ)) (files rest : 
 fault_before known files rest file f files_are h =
     let all : map known rest ++ known file ∷ [] ≡ map known files = sym (ap (λ fs. map known fs) files_are ∙ map-append known rest (file ∷ [])) in
     subst (λ (ks : List (Option (List ℕ))). IsFaultOfOne ks f) all (fault_more (map known rest) (known file) f h)
+
+-- ---- how many there are
+
+count_same : (ks : List (Option (List ℕ))) (fs : List (List Command)) → AreFiles ks fs → length fs ≡ length ks
+count_same [] [] h = refl
+count_same [] (f ∷ fs) h = absurd h
+count_same (k ∷ ks) [] h = absurd h
+count_same (k ∷ ks) (f ∷ fs) h = omega (arith, count_same ks fs h.1)
+
+-- there are as many files as readers
+pub same_count : {B : Type 0} (known : B → Option (List ℕ)) (readers : List B) (files : List File) → AreFiles (map known readers) (map (λ (f : File). f.items) files) → length files ≡ length readers
+same_count known readers files h = sym (length-map files (λ (f : File). f.items)) ∙ (count_same (map known readers) (map (λ (f : File). f.items) files) h ∙ length-map readers known)
+
+-- the same of what the readers gave
+pub given_count : {B : Type 0} (known : B → Option (List ℕ)) (readers : List B) (files : List (List Command)) → AreFiles (map known readers) files → length files ≡ length readers
+given_count known readers files h = count_same (map known readers) files h ∙ length-map readers known
+
+-- each has so many commands at most, said by recursion
+pub by_recursion : (files : List File) → All (λ (f : File). vec_len f ≤ 65536) files → AllByRecursion (λ (f : File). vec_len f ≤ 65536) files
+by_recursion [] h = tt
+by_recursion (f ∷ fs) h = (All-head (λ (f : File). vec_len f ≤ 65536) f fs h, by_recursion fs (All-tail (λ (f : File). vec_len f ≤ 65536) f fs h))

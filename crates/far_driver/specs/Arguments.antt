@@ -1,6 +1,7 @@
 -- The arguments of the program.
-use Rattle.std.specs.Prelude.{ℕ, ◌+◌, ◌-◌, ◌*◌, ◌&&◌, Bool, false, nat_lt, nat_le, if◌then◌else◌, List, [], ◌∷◌, length, codes, bytes_eq, Option, Some, None, is_some}
+use Rattle.std.specs.Prelude.{◌≡◌, ℕ, ◌+◌, ◌-◌, ◌*◌, ◌&&◌, Bool, false, nat_lt, nat_le, if◌then◌else◌, List, [], ◌∷◌, length, codes, bytes_eq, Option, Some, None, is_some}
 use Rattle.std.specs.List.{list_all, count_by}
+use Rattle.hash_table.specs.declared.config.Config.{Config}
 
 abbrev pub is_digit : ℕ → Bool
 is_digit byte = nat_le 48 byte && nat_le byte 57
@@ -22,3 +23,8 @@ are_files names = nat_lt 0 (length names) && (nat_le (length names) 64 && nat_le
 abbrev pub are_arguments : List (List ℕ) → Bool
 are_arguments (buckets ∷ frames ∷ limit ∷ files) = is_some (number_of buckets) && (is_some (number_of frames) && (is_some (number_of limit) && are_files files))
 are_arguments _ = false
+
+-- the words are three numbers, which are these settings, and so many files
+abbrev pub AskFor : List (List ℕ) → Config → ℕ → Type 0
+AskFor (buckets ∷ frames ∷ limit ∷ files) c count = (number_of buckets ≡ Some c.buckets) × (number_of frames ≡ Some c.frames) × (number_of limit ≡ Some c.limit) × (length files ≡ count)
+AskFor _ c count = ⊥

@@ -1,5 +1,5 @@
-pub mod Configs
-pub mod Runs
+pub mod Faults
 pub mod Reading
+pub mod Runs
 pub mod Arguments
 pub mod Statuses

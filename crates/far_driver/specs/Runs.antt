@@ -1,49 +1,55 @@
--- The faults of the program's run.
-use Rattle.std.specs.Prelude.{◌≡◌, ℕ, List, Option, Some, None, IfSome, Result, Err, ⊤}
-use Rattle.std.specs.Io.KnownBytes.{Keeps}
+-- What is said of a run of files that readers give, and of its faults.
+use Rattle.std.specs.Prelude.{ℕ, List, length, Option, Some, None, Result, Err, ⊤}
+use Rattle.std.specs.Io.KnownBytes.{Keeps, Appends}
+use Rattle.hash_table.specs.declared.config.Config.{Config}
 use Rattle.command_file.specs.declared.command.Command.{Command}
-use Rattle.command_file.specs.declared.fault.FileFault.{FileFault}
-use Rattle.command_file.specs.declared.fault.FileFault.TheVariants as of_file
-use Rattle.command_file.specs.Lines.{lines_of}
-use Rattle.command_file.specs.Files.{IsFile, IsBadLine, IsTooMany}
-use Rattle.run_lines.specs.declared.refusal.Refusal.TheVariants as refusal
-use Rattle.plain_run.specs.declared.fault.PlainFault.{PlainFault}
-use Rattle.plain_run.specs.declared.fault.PlainFault.TheVariants as plain
-use Rattle.plain_run.specs.Runs.{AsksTableAt}
+use Rattle.run_lines.specs.Runs.{Ran}
+use Rattle.threaded_run.specs.Replies.{MayRefuse}
+use Rattle.threaded_run.specs.Runs.{AreLines}
 use Rattle.far_driver.specs.declared.fault.RunFault.{RunFault}
 use Rattle.far_driver.specs.declared.fault.RunFault.TheVariants as fault
+use Rattle.far_driver.specs.Arguments.{AskFor}
+use Rattle.far_driver.specs.Reading.{AreFiles, IsFaultOfOne}
 
--- the fault of a run for that of a file
-abbrev pub file_fault : ℕ → FileFault → RunFault
-file_fault file (of_file.BadLine line) = fault.BadLine file line
-file_fault file of_file.TooManyLines = fault.TooManyLines file
-file_fault file of_file.Read = fault.Read file
-file_fault file of_file.Memory = fault.Memory
+-- the readers gave these files, where they tell their bytes, and the writer got what one history replies to them
+pub record RanOn (buckets limit : ℕ) (readers : List (Option (List ℕ))) (old new : Option (List ℕ)) : Type 0 where
+  pub files : List (List Command)
+  pub files_are : AreFiles readers files
+  pub text : List ℕ
+  pub ran : Ran (MayRefuse buckets limit) files text
+  pub appends : Appends old new text
 
--- the fault of a run for that of a plain run
-abbrev pub run_fault : ℕ → PlainFault → RunFault
-run_fault file (plain.File f) = file_fault file f
-run_fault file (plain.AsksTable n) = fault.AsksTable file n
-run_fault file plain.Memory = fault.Memory
-run_fault file plain.Write = fault.Write
-run_fault file plain.Contents = fault.Contents refusal.Memory
+-- the readers gave these files, where they tell their bytes, and the writer got a line for each command
+pub record WroteLines (readers : List (Option (List ℕ))) (old new : Option (List ℕ)) : Type 0 where
+  pub files : List (List Command)
+  pub files_are : AreFiles readers files
+  pub text : List ℕ
+  pub lines : AreLines files text
+  pub appends : Appends old new text
 
 -- the field of the settings that a run names as outside its limits
 abbrev pub told_field : Result (Unit {0}) RunFault → Option ℕ
 told_field (Err (fault.BadConfig n)) = Some n
 told_field _ = None
 
--- the fault names the one file, and fits its bytes where they are known
-abbrev pub IsFaultOf : Option (List ℕ) → RunFault → Type 0
-IsFaultOf known (fault.BadLine file line) = (file ≡ 1) × IfSome known (λ bytes. IsBadLine (lines_of bytes) line)
-IsFaultOf known (fault.TooManyLines file) = (file ≡ 1) × IfSome known (λ bytes. IsTooMany (lines_of bytes))
-IsFaultOf known (fault.Read file) = file ≡ 1
-IsFaultOf known (fault.AsksTable file n) = (file ≡ 1) × IfSome known (λ bytes. (commands : List Command) × IsFile (lines_of bytes) commands × AsksTableAt commands n)
-IsFaultOf known (fault.Contents r) = r ≡ refusal.Memory
-IsFaultOf known _ = ⊤
+-- a fault of a file is that of the first file that has one
+abbrev pub FitsFiles : List (Option (List ℕ)) → RunFault → Type 0
+FitsFiles readers (fault.BadLine number line) = IsFaultOfOne readers (fault.BadLine number line)
+FitsFiles readers (fault.TooManyLines number) = IsFaultOfOne readers (fault.TooManyLines number)
+FitsFiles readers (fault.Read number) = IsFaultOfOne readers (fault.Read number)
+FitsFiles readers _ = ⊤
 
--- before the first write the writer has what it had
-abbrev pub KeepsBefore : Option (List ℕ) → Option (List ℕ) → RunFault → Type 0
-KeepsBefore old new fault.Write = ⊤
-KeepsBefore old new (fault.Contents r) = ⊤
-KeepsBefore old new _ = Keeps old new
+-- what the writer has after a fault: all lines before the contents where these can't be read, and what it had where nothing was written yet
+abbrev pub WritesBefore : List (Option (List ℕ)) → Option (List ℕ) → Option (List ℕ) → RunFault → Type 0
+WritesBefore readers old new fault.Write = ⊤
+WritesBefore readers old new (fault.Contents r) = WroteLines readers old new
+WritesBefore readers old new _ = Keeps old new
+
+-- the words are arguments, and the writer got what one history replies to as many files as they name
+pub record RanWords (words : List (List ℕ)) (old new : Option (List ℕ)) : Type 0 where
+  pub config : Config
+  pub files : List (List Command)
+  pub asked : AskFor words config (length files)
+  pub text : List ℕ
+  pub ran : Ran (MayRefuse config.buckets config.limit) files text
+  pub appends : Appends old new text

@@ -17,8 +17,10 @@ run_status (fault.BadConfig n) = 2
 run_status (fault.BadLine file line) = 2
 run_status (fault.TooManyLines file) = 2
 run_status (fault.Read file) = 1
-run_status (fault.AsksTable file command) = 2
 run_status fault.Memory = 1
+run_status fault.Device = 1
+run_status fault.Passes = 1
+run_status fault.Gate = 1
 run_status fault.Write = 1
 run_status (fault.Contents r) = 1
 

@@ -1,12 +1,12 @@
 //! The words of the process, and what they ask for.
-ghost use Rattle.std.specs.Prelude.{◌≡◌, map, is_some, string_bytes, IfErr};
+ghost use Rattle.std.specs.Prelude.{◌≡◌, ◌<◌, ◌≤◌, map, length, is_some, string_bytes, IfErr, IfSome};
 ghost use Rattle.std.specs.List.{list_all};
-ghost use Rattle.far_driver.specs.Arguments.{is_digit, number_of, are_files, are_arguments};
+ghost use Rattle.far_driver.specs.Arguments.{is_digit, number_of, are_files, are_arguments, AskFor};
 ghost use Rattle.far_driver.specs.Statuses.{IsOfWords};
 
-use crate::config::Config;
 use crate::fault::RunFault;
 use crate::status::ProgramFault;
+use hash_table::Config;
 use std::env;
 use std::env::Env;
 use std::io::ErrorKind;
@@ -76,7 +76,9 @@ fn are_files(names: &[String]) -> bool
 
 /// The arguments: three numbers, and the files.
 pub(crate) fn read_arguments(words: &[String]) -> Option<Arguments<'_>>
-    ensures { is_some result ≡ are_arguments (map string_bytes words.now) }
+    ensures arguments { is_some result ≡ are_arguments (map string_bytes words.now) }
+    ensures asked { IfSome result (λ a. AskFor (map string_bytes words.now) a.config (length a.files.now)) }
+    ensures few { IfSome result (λ a. (0 < length a.files.now) × (length a.files.now ≤ 64)) }
 {
     match words {
         [buckets, frames, limit, files @ ..] => {
@@ -96,7 +98,9 @@ pub(crate) fn read_arguments(words: &[String]) -> Option<Arguments<'_>>
 }
 
 /// The settings that the program runs with.
-fn settings(buckets: u32, frames: u32, limit: u32) -> Config {
+fn settings(buckets: u32, frames: u32, limit: u32) -> Config
+    ensures { (result.buckets ≡ buckets) × (result.frames ≡ frames) × (result.limit ≡ limit) }
+{
     Config {
         buckets,
         frames,

@@ -1,13 +1,13 @@
 //! Why a run ends early.
 ghost use Rattle.std.specs.Prelude.{◌≡◌};
-ghost use Rattle.far_driver.specs.Runs.{file_fault, run_fault};
+ghost use Rattle.far_driver.specs.Faults.{of_file, of_threads};
 
 use command_file::FileFault;
-use plain_run::PlainFault;
 use run_lines::Refusal;
 use thiserror::Error;
+use threaded_run::ThreadedFault;
 
-/// Why a run ended early. Files are counted from 1, and so are lines and commands.
+/// Why a run ended early. Files are counted from 1, and so are the lines of each.
 #[derive(Clone, Copy, Debug, PartialEq, Eq, Error)]
 pub enum RunFault {
     /// The first field of the settings that is outside its limits.
@@ -22,12 +22,18 @@ pub enum RunFault {
     /// A file of which a read failed.
     #[error("file {0}: read failed")]
     Read(u32),
-    /// The first command of a file that asks the table itself, which the plain run has not.
-    #[error("file {0} command {1}: asks the table")]
-    AsksTable(u32, u32),
     /// A growth was refused.
     #[error("memory")]
     Memory,
+    /// A device failed as it was made empty.
+    #[error("device")]
+    Device,
+    /// There are not as many passes as files and one more.
+    #[error("passes spent")]
+    Passes,
+    /// The gate gave up.
+    #[error("gate gave up")]
+    Gate,
     /// A write of the output failed.
     #[error("write failed")]
     Write,
@@ -38,7 +44,7 @@ pub enum RunFault {
 
 /// The fault of a run for that of its file.
 pub(crate) fn of_file(file: u32, fault: FileFault) -> RunFault
-    ensures { result ≡ file_fault file fault }
+    ensures { result ≡ of_file file fault }
 {
     match fault {
         FileFault::BadLine(line) => RunFault::BadLine(file, line),
@@ -48,15 +54,16 @@ pub(crate) fn of_file(file: u32, fault: FileFault) -> RunFault
     }
 }
 
-/// The fault of a run for that of a plain run of the file with this number.
-pub(crate) fn of_plain_run(file: u32, fault: PlainFault) -> RunFault
-    ensures { result ≡ run_fault file fault }
+/// The fault of a run for that of its workers and its table.
+pub(crate) fn of_threads(fault: ThreadedFault) -> RunFault
+    ensures { result ≡ of_threads fault }
 {
     match fault {
-        PlainFault::File(fault) => of_file(file, fault),
-        PlainFault::AsksTable(command) => RunFault::AsksTable(file, command),
-        PlainFault::Memory => RunFault::Memory,
-        PlainFault::Write => RunFault::Write,
-        PlainFault::Contents => RunFault::Contents(Refusal::Memory),
+        ThreadedFault::Memory => RunFault::Memory,
+        ThreadedFault::Device => RunFault::Device,
+        ThreadedFault::Passes => RunFault::Passes,
+        ThreadedFault::Gate => RunFault::Gate,
+        ThreadedFault::Write => RunFault::Write,
+        ThreadedFault::Contents(refusal) => RunFault::Contents(refusal),
     }
 }

@@ -1,9 +1,9 @@
-//! The program: its arguments, its file, the run, the texts of faults and the statuses.
+//! The program: its arguments, its files, the run, the texts of faults and the statuses.
 #![tactic(auto)]
 
 mod arguments;
-mod config;
 mod fault;
+mod lanes;
 mod program;
 mod reading;
 mod run;
@@ -11,11 +11,10 @@ mod sources;
 mod status;
 
 pub use arguments::read_words;
-pub use config::Config;
 pub use fault::RunFault;
 pub use program::run_program;
 pub use reading::read_files;
-pub use run::run_file;
+pub use run::run_files;
 pub use run_lines::Refusal;
 pub use status::ProgramFault;
 

@@ -1,39 +1,50 @@
-//! The program `fartable BUCKETS FRAMES LIMIT FILE`.
-ghost use Rattle.std.specs.Prelude.{◌≡◌, ◌≤◌, false, map, string_bytes, Err};
+//! The program `fartable BUCKETS FRAMES LIMIT FILE...`.
+ghost use Rattle.std.specs.Prelude.{◌≡◌, ◌≤◌, false, map, string_bytes, Err, OnOk};
 ghost use Rattle.far_driver.specs.Arguments.{are_arguments};
+ghost use Rattle.far_driver.specs.Runs.{RanWords};
 
 use crate::arguments::read_arguments;
-use crate::sources::run_sources;
+use crate::lanes::lanes;
+use crate::run::run_files;
+use crate::sources::open_sources;
 use crate::status::ProgramFault;
 use std::io::Write;
 use std::rt::Files;
+use std::sync::Wait;
+use std::thread::Threads;
+use threaded_run::OpenGate;
 
 /// Runs what the arguments ask for.
 fn run_words<R, W>(rt: &R, words: &[String], out: &mut W) -> Result<(), ProgramFault>
 where
-    R: Files + Input + AllocGlobal,
+    R: Files + Input + AllocGlobal + Threads + Wait + Sync,
     W: Write,
     ensures usage { are_arguments (map string_bytes words.now) ≡ false → (result ≡ Err ProgramFault.Usage) × (out.new ≡ out.old) }
+    ensures ran { OnOk result (RanWords (map string_bytes words.now) (W.contents out.old) (W.contents out.new)) }
 {
     let Some(arguments) = read_arguments(words) else {
         return Err(ProgramFault::Usage);
     };
-    run_sources(rt, &arguments.config, arguments.files, out)
+    let sources = open_sources(rt, arguments.files)?;
+    let devices = lanes(rt.alloc(), arguments.config.lanes)?;
+    run_files(rt, arguments.config, devices, sources, &OpenGate, out)?;
+    Ok(())
 }
 
-/// Runs the program on the words behind its name, `BUCKETS FRAMES LIMIT FILE`, and gives the status that it ends with.
+/// Runs the program on the words behind its name, `BUCKETS FRAMES LIMIT FILE...`, and gives the status that it ends with.
 ///
-/// Numbers have one to seven decimal digits; the file `-` is standard input. What the run writes goes to `out`; the text
-/// of a fault is one line on `err`, where a fault of writing it is ignored. The faults come in the order of the work:
-/// the arguments, more than one file among them, the opening of the file, and then those of `run_file`. Of these the
-/// clauses speak of the arguments alone.
+/// Numbers have one to seven decimal digits; there are 1 to 64 files, and `-`, which may be one of them, is standard input.
+/// The table lies over four devices in the process. What the run writes goes to `out`; the text of a fault is one line on
+/// `err`, where a fault of writing it is ignored, and nothing else is written there. The faults come in the order of the
+/// work: the arguments, the opening of the files, and then those of `run_files`.
 pub fn run_program<R, W, E>(rt: &R, words: &[String], out: &mut W, err: &mut E) -> u8
 where
-    R: Files + Input + AllocGlobal,
+    R: Files + Input + AllocGlobal + Threads + Wait + Sync,
     W: Write,
     E: Write,
     ensures status { result ≤ 2 }
     ensures usage { are_arguments (map string_bytes words.now) ≡ false → (result ≡ 2) × (out.new ≡ out.old) }
+    ensures ran { result ≡ 0 → RanWords (map string_bytes words.now) (W.contents out.old) (W.contents out.new) × (err.new ≡ err.old) }
 {
     match run_words(rt, words, out) {
         Ok(()) => 0,

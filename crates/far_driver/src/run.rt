@@ -1,39 +1,55 @@
-//! The run of the program's file.
-ghost use Rattle.std.specs.Prelude.{◌≡◌, ℕ, List, IfErr, IfSome, OnOk};
-ghost use Rattle.std.specs.Io.KnownBytes.{Appends};
-ghost use Rattle.plain_run.specs.Runs.{PlainRan};
-ghost use Rattle.far_driver.specs.Configs.{first_bad};
-ghost use Rattle.far_driver.specs.Runs.{told_field, IsFaultOf, KeepsBefore};
+//! The run of the files that readers give.
+ghost use Rattle.std.specs.Prelude.{◌≡◌, ◌<◌, ◌≤◌, IsTrue, vec_len, map, IfErr, OnOk};
+ghost use Rattle.hash_table.specs.Configs.{first_bad_with};
+ghost use Rattle.far_driver.specs.Runs.{told_field, RanOn, FitsFiles, WritesBefore};
 
-use crate::config::Config;
-use crate::fault::{RunFault, of_plain_run};
-use std::alloc::Global;
+use crate::fault::{RunFault, of_threads};
+use crate::reading::read_files;
+use far_device::Device;
+use hash_table::Config;
 use std::io::{BufRead, Write};
+use std::sync::Wait;
+use std::thread::Threads;
+use threaded_run::Gate;
 
-/// The number of the one file.
-const FILE: u32 = 1;
-
-/// Runs the commands of one file on a table of one thread, with the settings' buckets and limit: `plain_run::run_file`
-/// says what it writes and replies. Of the settings it obeys these two; all are looked at.
+/// Runs the files that the readers give, each by a worker of its own, on a table that they share over these devices, and
+/// writes the replies and the contents: `threaded_run::run_files` says how. There are 1 to 64 files. All are read, in order,
+/// before anything runs. Round each command the gate is asked and told.
 ///
-/// The faults come in the order of the work: `BadConfig`, whatever the reader, and then those of `plain_run::run_file`,
-/// with the file's number, 1. `Contents` says `Memory`. Before the first write nothing is written.
-pub fn run_file<R: BufRead, W: Write>(
-    alloc: Global,
-    config: &Config,
-    file: &mut R,
+/// The faults come in the order of the work: `BadConfig`, whatever the readers, where a setting is outside its limits or
+/// there are not as many devices as lanes; `BadLine`, `TooManyLines` and `Read` of the first file that has one; `Device`,
+/// `Passes`, `Gate`, `Write` and `Contents` as `threaded_run::run_files` says. `Memory` is a growth that was refused. Before
+/// the first write nothing is written, and after `Contents` all lines before `contents` are.
+pub fn run_files<D, G, R, B, W>(
+    rt: &R,
+    config: Config,
+    devices: Vec<D>,
+    files: Vec<B>,
+    gate: &G,
     out: &mut W,
 ) -> Result<(), RunFault>
-    ensures ran { OnOk result (IfSome (R.remaining file.old) (λ bytes. (text : List ℕ) × PlainRan config.now.buckets config.now.limit bytes text × Appends (W.contents out.old) (W.contents out.new) text)) }
-    ensures settings { told_field result ≡ first_bad config.now }
-    ensures fault { IfErr result (IsFaultOf (R.remaining file.old)) }
-    ensures before { IfErr result (λ fault. KeepsBefore (W.contents out.old) (W.contents out.new) fault) }
+where
+    D: Device + Send,
+    G: Gate,
+    R: Threads + Wait + AllocGlobal + Sync,
+    B: BufRead + Drop,
+    W: Write,
+    requires some { 0 < vec_len files }
+    requires few { vec_len files ≤ 64 }
+    ensures ran { OnOk result (IsTrue D.HONEST → RanOn config.buckets config.limit (map (λ f. B.remaining f) files.items) (W.contents out.old) (W.contents out.new)) }
+    ensures settings { told_field result ≡ first_bad_with (vec_len devices) config }
+    ensures fault { IfErr result (FitsFiles (map (λ f. B.remaining f) files.items)) }
+    ensures before { IfErr result (WritesBefore (map (λ f. B.remaining f) files.items) (W.contents out.old) (W.contents out.new)) }
 {
-    if let Some(field) = config.first_bad() {
+    if let Some(field) = config.first_bad_with(devices.len()) {
         return Err(RunFault::BadConfig(field));
     }
-    match plain_run::run_file(alloc, config.buckets, config.limit, file, out) {
+    let files = match read_files(rt.alloc(), files) {
+        Ok(files) => files,
+        Err(fault) => return Err(fault),
+    };
+    match threaded_run::run_files(rt, rt.alloc(), config, devices, files, gate, out) {
         Ok(()) => Ok(()),
-        Err(fault) => Err(of_plain_run(FILE, fault)),
+        Err(fault) => Err(of_threads(fault)),
     }
 }

@@ -1,49 +1,55 @@
-//! Where commands come from: a file, or standard input.
+//! Where commands come from: files, and standard input.
+ghost use Rattle.std.specs.Prelude.{◌≡◌, ◌≤◌, length, vec_len, IfOk};
 
-use crate::config::Config;
 use crate::fault::RunFault;
-use crate::run::run_file;
 use crate::status::ProgramFault;
-use std::alloc::Global;
 use std::fs::File;
-use std::io::{BufReader, Read, Write};
+use std::io;
+use std::io::{BufReader, Read};
 use std::rt::Files;
 
-/// Runs the commands that the reader gives, with a buffer of its own.
-fn run_reader<S: Read + Drop, W: Write>(
-    alloc: Global,
-    config: &Config,
-    reader: S,
-    out: &mut W,
-) -> Result<(), ProgramFault> {
-    let mut file = match BufReader::new(alloc, reader) {
-        Ok(file) => file,
-        Err(_) => return Err(ProgramFault::Run(RunFault::Memory)),
-    };
-    run_file(alloc, config, &mut file, out)?;
-    Ok(())
+/// An open file, or standard input.
+#[derive(Drop)]
+pub(crate) enum Source<F, I> {
+    File(F),
+    Input(I),
 }
 
-/// Runs the commands of the files of these names; `-` is standard input. More than one are `Usage`: the run is one file's.
-pub(crate) fn run_sources<R, W>(
+impl<F: Read, I: Read> Read for Source<F, I> {
+    fn read(&mut self, buf: &mut [u8]) -> io::Result<usize> {
+        match self {
+            Source::File(file) => file.read(buf),
+            Source::Input(input) => input.read(buf),
+        }
+    }
+}
+
+/// The sources of the files of these names, in order, each with a buffer of its own; `-` is standard input.
+///
+/// `CannotOpen` names the first that can't be opened.
+pub(crate) fn open_sources<R: Files + Input + AllocGlobal>(
     rt: &R,
-    config: &Config,
     names: &[String],
-    out: &mut W,
-) -> Result<(), ProgramFault>
-where
-    R: Files + Input + AllocGlobal,
-    W: Write,
+) -> Result<Vec<BufReader<Source<R::File, R::Reader>>>, ProgramFault>
+    requires few { length names.now ≤ 64 }
+    ensures { IfOk result (λ sources. vec_len sources ≡ length names.now) }
 {
-    let [name] = names else {
-        return Err(ProgramFault::Usage);
-    };
-    let name = name.as_str();
-    if name == "-" {
-        return run_reader(rt.alloc(), config, rt.reader(), out);
+    let mut sources = Vec::new(rt.alloc());
+    for (at, name) in names.iter().enumerate() {
+        let source = if name.as_str() == "-" {
+            Source::Input(rt.reader())
+        } else {
+            match File::open(rt, name.as_str()) {
+                Ok(file) => Source::File(file),
+                Err(_) => return Err(ProgramFault::CannotOpen(at as u32 + 1)),
+            }
+        };
+        let Ok(source) = BufReader::new(rt.alloc(), source) else {
+            return Err(ProgramFault::Run(RunFault::Memory));
+        };
+        let Ok(()) = sources.push(source) else {
+            return Err(ProgramFault::Run(RunFault::Memory));
+        };
     }
-    match File::open(rt, name) {
-        Ok(file) => run_reader(rt.alloc(), config, file, out),
-        Err(_) => Err(ProgramFault::CannotOpen(1)),
-    }
+    Ok(sources)
 }

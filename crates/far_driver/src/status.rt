@@ -9,7 +9,7 @@ use thiserror::Error;
 /// Why the program ends early. Its text is the line on standard error.
 #[derive(Clone, Copy, Debug, PartialEq, Eq, Error)]
 pub enum ProgramFault {
-    /// The arguments are no three numbers and a file.
+    /// The arguments are no three numbers and 1 to 64 files.
     #[error("usage: fartable BUCKETS FRAMES LIMIT FILE...")]
     Usage,
     /// A file, counted from 1, that can't be opened.
@@ -46,8 +46,10 @@ impl ProgramFault {
                 RunFault::BadLine(_, _) => 2,
                 RunFault::TooManyLines(_) => 2,
                 RunFault::Read(_) => 1,
-                RunFault::AsksTable(_, _) => 2,
                 RunFault::Memory => 1,
+                RunFault::Device => 1,
+                RunFault::Passes => 1,
+                RunFault::Gate => 1,
                 RunFault::Write => 1,
                 RunFault::Contents(_) => 1,
             },

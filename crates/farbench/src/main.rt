@@ -5,6 +5,7 @@ mod bare;
 mod evicting;
 mod frames;
 mod lanes;
+mod plain;
 mod replay;
 mod setting;
 mod table;
@@ -20,7 +21,9 @@ use std::rt::{Clock, Env};
 use std::sync::Wait;
 use std::thread::Threads;
 
-fn run<R: Alloc<A = Global> + Clock + Env + Print + Threads + Wait + Sync>(rt: &R) -> Result<()> {
+fn run<R: Alloc<A = Global> + Clock + Env + Input + Print + Threads + Wait + Sync>(
+    rt: &R,
+) -> Result<()> {
     let mut words = env::args(rt)?.skip(1);
     let (Some(layer), Some(count)) = (words.next(), words.next()) else {
         println!(rt; "usage: farbench replay EVENTS")?;
@@ -30,6 +33,7 @@ fn run<R: Alloc<A = Global> + Clock + Env + Print + Threads + Wait + Sync>(rt: &
         println!(rt; "       farbench table BUCKETS ROUNDS")?;
         println!(rt; "       farbench far BUCKETS")?;
         println!(rt; "       farbench swapper ROUNDS")?;
+        println!(rt; "       farbench plain BUCKETS <FILE")?;
         return Ok(());
     };
     let count = count.as_str().parse::<u32>()?;
@@ -41,6 +45,7 @@ fn run<R: Alloc<A = Global> + Clock + Env + Print + Threads + Wait + Sync>(rt: &
         ("far", None) => table::far::measure(rt, count),
         ("table", Some(rounds)) => table::measure(rt, count, rounds.as_str().parse::<u32>()?),
         ("swapper", None) => evicting::measure(rt, count),
+        ("plain", None) => plain::run(rt, count),
         _ => bail!("no such benchmark: without arguments their usage is printed"),
     }
 }

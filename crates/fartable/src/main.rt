@@ -1,20 +1,28 @@
-//! `fartable BUCKETS FRAMES LIMIT FILE...`: runs command files on a table, and prints the replies and the contents.
+//! `fartable BUCKETS FRAMES LIMIT FILE...`: runs command files on a table that threads share, and prints the replies and the
+//! contents.
 #![tactic(auto)]
 
 use far_driver::{ProgramFault, RunFault, read_words, run_program};
-use std::io::BufWriter;
+use std::env::Env;
+use std::io::{BufWriter, Stderr, Stdout};
 use std::process::ExitCode;
+use std::rt::Files;
+use std::sync::Wait;
+use std::thread::Threads;
 
-fn run(rt: &HostRuntime) -> Result<u8, ProgramFault> {
+fn run<R>(rt: &R, out: Stdout, err: &mut Stderr) -> Result<u8, ProgramFault>
+where
+    R: Files + Input + Env + AllocGlobal + Threads + Wait + Sync,
+{
     let words = read_words(rt)?;
-    match BufWriter::new(rt.alloc(), rt.stdout()) {
-        Ok(mut out) => Ok(run_program(rt, words.as_slice(), &mut out, &mut rt.stderr())),
+    match BufWriter::new(rt.alloc(), out) {
+        Ok(mut out) => Ok(run_program(rt, words.as_slice(), &mut out, err)),
         Err(_) => Err(ProgramFault::Run(RunFault::Memory)),
     }
 }
 
 fn main(rt: HostRuntime) -> ExitCode {
-    let status = match run(&rt) {
+    let status = match run(&rt, rt.stdout(), &mut rt.stderr()) {
         Ok(status) => status,
         Err(fault) => {
             let _ = eprintln!(rt; "{fault}");

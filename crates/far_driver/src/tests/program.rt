@@ -5,7 +5,9 @@ use std::alloc::{AllocError, Global};
 use std::fs;
 use std::process::Abort;
 use std::rt::Files;
+use std::sync::Wait;
 use std::test::Fail;
+use std::thread::Threads;
 
 fn owned_words(alloc: Global, words: &[&str]) -> Result<Vec<String>, AllocError> {
     let mut owned = Vec::new(alloc);
@@ -25,7 +27,7 @@ fn assert_ends<R>(
     err_wanted: &str,
 ) -> Result<(), Fail>
 where
-    R: Files + Input + AllocGlobal,
+    R: Files + Input + AllocGlobal + Threads + Wait + Sync,
 {
     let words = owned_words(rt.alloc(), words)?;
     let mut out = Vec::new(rt.alloc());
@@ -39,11 +41,10 @@ where
 
 #[test]
 fn wrong_words(rt: HostRuntime) -> Result<(), Fail> {
-    let rows: [&[&str]; 9] = [
+    let rows: [&[&str]; 8] = [
         &[],
         &["4", "2", "4096"],
         &["4", "2", "4096", "-", "-"],
-        &["4", "2", "4096", "one", "two"],
         &["00000004", "2", "4096", "-"],
         &["4", "2", "x", "-"],
         &["+4", "2", "4096", "-"],
@@ -152,6 +153,38 @@ fn absent_files(rt: HostRuntime) -> Result<(), Fail> {
         "",
         "file 1: cannot open\n",
     )?;
+    fs::write(&rt, "there", "get")?;
+    assert_ends(
+        &rt,
+        &rt,
+        &["0", "2", "4096", "there", "absent", "gone"],
+        1,
+        "",
+        "file 2: cannot open\n",
+    )?;
+    Ok(())
+}
+
+#[test]
+fn sixty_four_files(rt: HostRuntime) -> Result<(), Fail> {
+    fs::write(&rt, "short", "get a\n")?;
+    let mut words = owned_words(rt.alloc(), &["4", "2", "4096"])?;
+    for _ in 0..64 {
+        words.push(String::from_str(rt.alloc(), "short")?)?;
+    }
+    let mut out = Vec::new(rt.alloc());
+    let mut err = Vec::new(rt.alloc());
+    let ended = run_program(&rt, words.as_slice(), &mut out, &mut err);
+    assert_eq!(&rt; ended, 0);
+    assert!(&rt; err.is_empty());
+    assert_eq!(&rt; out.iter().filter(|byte| **byte == b'\n').count(), 129);
+    assert!(&rt; out.as_slice().ends_with(b"file 64\nnone\ncontents\n"));
+    words.push(String::from_str(rt.alloc(), "short")?)?;
+    out.clear();
+    let ended = run_program(&rt, words.as_slice(), &mut out, &mut err);
+    assert_eq!(&rt; ended, 2);
+    assert!(&rt; out.is_empty());
+    assert!(&rt; err.as_slice() == b"usage: fartable BUCKETS FRAMES LIMIT FILE...\n".as_slice());
     Ok(())
 }
 
@@ -169,6 +202,35 @@ fn files(rt: HostRuntime) -> Result<(), Fail> {
         2,
         "",
         "file 1 line 2: bad command\n",
+    )?;
+    fs::write(
+        &rt,
+        "other",
+        "put b 2\nget b\nshow\nrelease\nhold b\nshow\nrelease\n",
+    )?;
+    assert_ends(
+        &rt,
+        &rt,
+        &["4", "4", "4096", "good", "other"],
+        0,
+        "file 1\nnone\n1\nfile 2\nnone\n2\nnothing held\nnothing held\n2\n2\nreleased\ncontents\na 1\nb 2\n",
+        "",
+    )?;
+    assert_ends(
+        &rt,
+        &rt,
+        &["4", "4", "4096", "good", "bad", "absent"],
+        1,
+        "",
+        "file 3: cannot open\n",
+    )?;
+    assert_ends(
+        &rt,
+        &rt,
+        &["4", "4", "4096", "good", "bad"],
+        2,
+        "",
+        "file 2 line 2: bad command\n",
     )?;
     Ok(())
 }
@@ -192,6 +254,7 @@ fn little_room(rt: HostRuntime) -> Result<(), Fail> {
 #[test]
 fn standard_input(rt: HostRuntime) -> Result<(), Fail> {
     let alone = InputAlone {
+        threads: &rt,
         alloc: rt.alloc(),
         bytes: b"put a 1\nget a",
         failing: 255,

@@ -6,10 +6,14 @@ use std::fs::{File, Metadata, OpenOptions};
 use std::io;
 use std::io::{BufRead, ErrorKind, Lines};
 use std::rt::Files;
+use std::sync::Wait;
+use std::thread::Threads;
 
-/// Standard input has these bytes, and the look at it with the number `failing`, counted from 0, fails.
+/// Standard input has these bytes, and the look at it with the number `failing`, counted from 0, fails. Threads are those of
+/// another runtime.
 #[derive(Clone, Copy)]
-pub struct InputAlone {
+pub struct InputAlone<R> {
+    pub threads: R,
     pub alloc: Global,
     pub bytes: &'static [u8],
     pub failing: u8,
@@ -19,7 +23,11 @@ fn unsupported() -> io::Error {
     io::Error::from(ErrorKind::Unsupported)
 }
 
-impl Alloc for InputAlone {
+impl<R: Threads> Threads for InputAlone<R> {}
+
+impl<R: Wait> Wait for InputAlone<R> {}
+
+impl<R> Alloc for InputAlone<R> {
     type A = Global;
 
     fn alloc(&self) -> Global {
@@ -27,7 +35,7 @@ impl Alloc for InputAlone {
     }
 }
 
-impl Input for InputAlone {
+impl<R> Input for InputAlone<R> {
     type Reader = Faltering<'static>;
 
     fn read_line<A: Allocator + Clone>(&self, buf: &mut String<A>) -> io::Result<usize> {
@@ -43,7 +51,7 @@ impl Input for InputAlone {
     }
 }
 
-impl Files for InputAlone {
+impl<R> Files for InputAlone<R> {
     type File = File;
 
     type Dir = File;

@@ -1,0 +1,91 @@
+"""Times the program on command files: fartable.py PROGRAM FARBENCH PLAIN [RUNS].
+
+PROGRAM is fartable, FARBENCH has the plain run as `farbench plain`, PLAIN is plain/main.rs, built: a plain Rust program that
+does the same. commands.py says what the files hold. The best of RUNS runs, 5 if not given, of each kind, which take turns, so
+that all meet what else the machine does. What is said of a command has the time of an empty file taken off. On a busy
+machine the wall time says little, and the processor time more.
+
+The status is 1 where a goal is missed: a command's wall time may grow by at most a quarter from the smallest file to the
+largest; one file may take at most 1.5 times the plain run's processor time where there are as many frames as buckets; four
+files of other keys have to run at least 2.5 times one file's commands in a second; and one file where the frames are a
+quarter of the buckets that it uses may take at most 4 times the wall time that it takes with frames for all.
+"""
+import os
+import subprocess
+import sys
+import tempfile
+import time
+
+BUCKETS = 65_536
+SIZES = [0, 8_192, 16_384, 32_768, 65_536]
+LARGEST = SIZES[-1]
+# 20,000 keys whose hashes spread over the buckets use some 17,000 of them.
+FEW_FRAMES = 17_000 // 4
+
+
+def take_time(arguments, given, out):
+    """Runs a command once, and gives its wall and processor time in seconds, and its peak memory in KiB."""
+    with open(given) as source, open(out, "w") as sink:
+        began = time.perf_counter()
+        child = subprocess.Popen(arguments, stdin=source, stdout=sink)
+        _, status, used = os.wait4(child.pid, 0)
+        took = time.perf_counter() - began
+    assert status == 0, arguments
+    return took, used.ru_utime + used.ru_stime, used.ru_maxrss
+
+
+def same(one, other):
+    with open(one, "rb") as left, open(other, "rb") as right:
+        return left.read() == right.read()
+
+
+def main(program, farbench, plain, runs="5"):
+    here = os.path.dirname(os.path.abspath(__file__))
+    best = {}
+    with tempfile.TemporaryDirectory() as folder:
+        files = {}
+        for file in range(4):
+            for size in SIZES if file == 0 else [LARGEST]:
+                files[size, file] = f"{folder}/{size}-{file}"
+                with open(files[size, file], "w") as out:
+                    subprocess.run([sys.executable, f"{here}/commands.py", str(size), "1", str(file)], stdout=out, check=True)
+        kinds = {}
+        for size in SIZES:
+            given = files[size, 0]
+            kinds["ample", size] = [program, str(BUCKETS), str(BUCKETS), "4096", "-"], given
+            kinds["plain run", size] = [farbench, "plain", str(BUCKETS)], given
+            kinds["plain Rust", size] = [plain, str(BUCKETS), "2", "4096", given], given
+        kinds["few frames", LARGEST] = [program, str(BUCKETS), str(FEW_FRAMES), "4096", "-"], files[LARGEST, 0]
+        four = [files[LARGEST, file] for file in range(4)]
+        kinds["four files", LARGEST] = [program, str(BUCKETS), str(BUCKETS), "4096", *four], files[0, 0]
+        kinds["four empty files", 0] = [program, str(BUCKETS), str(BUCKETS), "4096", *[files[0, 0]] * 4], files[0, 0]
+        load = os.getloadavg()
+        for _ in range(int(runs)):
+            for kind, (arguments, given) in kinds.items():
+                took = take_time(arguments, given, f"{folder}/{kind[0]}")
+                best[kind] = tuple(map(min, best.get(kind, took), took))
+            for name in ("plain run", "plain Rust", "few frames"):
+                assert same(f"{folder}/ample", f"{folder}/{name}"), f"{name} writes something else"
+    print(f"{time.strftime('%Y-%m-%d %H:%M')}, {os.cpu_count()} processors, load before {load[0]:.1f}, after {os.getloadavg()[0]:.1f}; best of {runs} runs, {BUCKETS} buckets")
+    print(f"{'what':>17} {'commands':>9} {'ms':>8} {'us/command':>11} {'cpu-ms':>8} {'cpu-us/command':>15} {'peak-KiB':>9}")
+    each = {}
+    for (name, size), (wall, cpu, peak) in best.items():
+        empty = best["four empty files" if name == "four files" else "ample" if name == "few frames" else name, 0]
+        commands = 4 * size if name == "four files" else size
+        each[name, size] = [(took - less) / commands * 1e6 if commands else 0 for took, less in ((wall, empty[0]), (cpu, empty[1]))]
+        print(f"{name:>17} {commands:>9} {wall * 1e3:>8.1f} {each[name, size][0]:>11.3f} {cpu * 1e3:>8.0f} {each[name, size][1]:>15.3f} {peak:>9}")
+    goals = [
+        ("a command's time, largest file to smallest", each["ample", LARGEST][0] / each["ample", SIZES[1]][0], 1.25, -1),
+        ("processor time, to the plain run's", each["ample", LARGEST][1] / each["plain run", LARGEST][1], 1.5, -1),
+        ("commands in a second, four files to one", each["ample", LARGEST][0] / each["four files", LARGEST][0], 2.5, 1),
+        ("time with few frames, to ample", each["few frames", LARGEST][0] / each["ample", LARGEST][0], 4, -1),
+    ]
+    missed = 0
+    for name, found, goal, sign in goals:
+        is_missed = (found - goal) * sign < 0
+        missed += is_missed
+        print(f"{name}: {found:.2f}, at {'most' if sign < 0 else 'least'} {goal} wanted{': MISSED' if is_missed else ''}")
+    sys.exit(1 if missed else 0)
+
+
+main(*sys.argv[1:])

@@ -1,0 +1,41 @@
+"""Runs the program with starts of threads refused: thread_starts.py PROGRAM LIBRARY.
+
+LIBRARY is refuse_start.c, built. Each start of a run's threads is refused alone, and with all behind it. Every run has to
+end with status 0, and with replies and contents that histories.py finds a history for; and one file starts no thread.
+"""
+import os
+import sys
+import tempfile
+
+from histories import judge, run
+
+SETTINGS = [4, 2, 4096]
+FILES = [
+    ["put a 1", "evict", "get a", "del a", "get b", "put e 1", "where e"],
+    ["put b 2", "put c 2", "put d 2", "hold b", "put b 3", "show", "release", "get e"],
+    ["put e 3", "putif a 1 4", "evict", "putnew a 5", "get c", "get d"],
+]
+# A run that writes one bucket more often than a limbo holds spares: somebody has to reclaim them.
+MANY = [[f"put a {number}" for number in range(300)], [f"put b {number}" for number in range(300)]]
+
+
+def main(program, library):
+    runs = wrong = 0
+    for name, files, starts in (("one file", FILES[:1], 0), ("two files of 300 puts", MANY, 2), ("three files", FILES, 3)):
+        for refused in ["0", *(f"{number}{ends}" for number in range(1, starts + 1) for ends in ("", ".."))]:
+            with tempfile.NamedTemporaryFile("r") as told:
+                environment = {"LD_PRELOAD": library, "REFUSED": refused, "STARTS": told.name}
+                found, why = judge(files, *run(program, SETTINGS, files, environment))
+                asked = told.read().strip()
+            # Whether a start was refused or not, each other one is asked for.
+            if found and asked != str(starts):
+                why = f"{asked} starts, and not {starts}"
+            runs += 1
+            wrong += bool(why)
+            print(f"{name}, refusing {refused}: {why or 'right'}")
+    print(f"{runs} runs, {wrong} wrong")
+    sys.exit(1 if wrong else 0)
+
+
+if __name__ == "__main__":
+    main(*map(os.path.abspath, sys.argv[1:]))
