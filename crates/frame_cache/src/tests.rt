@@ -7,7 +7,9 @@ mod hints;
 mod put_back;
 mod readers;
 mod retired;
+mod script;
 mod shared;
+mod user;
 mod worked;
 
 use crate::{Frames, Missed, Version};
@@ -41,8 +43,9 @@ fn opened(alloc: Global) -> Result<Opened<Text, Text, Unvouched>, Memory> {
 /// Draws a pass, also while other threads draw.
 fn entered<J: Naming>(words: &Words<Text, Text, J>) -> Option<Pass<Text, Text, J>> {
     for _ in 0..TRIES {
-        if let Ok(pass) = words.enter() {
-            return Some(pass);
+        let drawn = words.enter().ok();
+        if drawn.is_some() {
+            return drawn;
         }
     }
     None

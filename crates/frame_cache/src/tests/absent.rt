@@ -1,53 +1,55 @@
 //! Numbers that are not below the count of frames.
-ghost use Rattle.std.specs.Prelude.{◌≡◌, false};
-ghost use Rattle.version_words.specs.Rows.{limits_of};
 
-use super::{Unvouched, entered, misses, object, opened, reclaimed};
+use super::script::{Pair, Said, Step, played};
 use crate::{Frames, NoFrame};
 use far_object::Text;
-use std::alloc::Global;
 use std::marker::Brand;
-use std::process::Abort;
 use std::test::Fail;
-use version_words::{Naming, Opened};
-
-/// How many frames there are.
-const COUNT: u32 = 2;
 
 #[test]
 fn no_frame_lies_past_the_last(rt: HostRuntime) -> Result<(), Fail> {
-    past_the_last::<Brand, _>(&rt, rt.alloc(), opened(rt.alloc())?)
+    let script = [
+        (Step::Count, Said::Count(2)),
+        (Step::Look(2, 1), Said::Nothing),
+        (Step::Seen(2), Said::Nothing),
+        (Step::Look(64, 1), Said::Nothing),
+        (Step::Seen(64), Said::Nothing),
+        (Step::Look(65_535, 1), Said::Nothing),
+        (Step::Seen(65_535), Said::Nothing),
+        (Step::Look(65_536, 1), Said::Nothing),
+        (Step::Seen(65_536), Said::Nothing),
+        (Step::Look(u32::MAX, 1), Said::Nothing),
+        (Step::Seen(u32::MAX), Said::Nothing),
+    ];
+    played(&rt, 2, &script)
 }
 
-fn past_the_last<J: Naming, R: Abort>(
-    rt: &R,
-    alloc: Global,
-    opened: Opened<Text, Text, Unvouched>,
-) -> Result<(), Fail>
-    requires book { opened.book ≡ J.book }
-    requires boards { opened.names ≡ J.names }
-    requires limits { limits_of opened.sizes false ≡ J.limits }
-{
-    let words = opened.named::<J>();
-    let mut pass = entered(&words).ok_or("no pass")?;
-    let frames: Frames<Text, Text, J> = Frames::open(alloc, COUNT)?;
-    assert_eq!(rt; frames.count(), COUNT);
-    for frame in [COUNT, 64, 65_535, 65_536, u32::MAX] {
-        assert!(rt; misses(&frames, frame, 1));
-        assert_eq!(rt; frames.seen(frame), None);
-    }
-    for frame in [COUNT, 64, 65_536, u32::MAX] {
-        frames.touch(frame);
-        assert!(rt; !frames.touched(frame));
-    }
-    let object = object(alloc, b"a", b"1").ok_or("no object")?;
-    let name = words.name(&mut pass, 0, &object)?;
-    assert_eq!(rt; reclaimed(&frames, name.give_up(COUNT)).ok(), Some(false));
-    let name = words.name(&mut pass, 0, &object)?;
-    let last = 16_777_213;
-    assert_eq!(rt; reclaimed(&frames, name.give_up(last)).ok(), Some(false));
-    assert_eq!(rt; frames.free(), COUNT);
-    Ok(())
+#[test]
+fn no_touch_is_noted_past_the_last(rt: HostRuntime) -> Result<(), Fail> {
+    let script = [
+        (Step::Touch(2), Said::Done),
+        (Step::Touched(2), Said::Is(false)),
+        (Step::Touch(64), Said::Done),
+        (Step::Touched(64), Said::Is(false)),
+        (Step::Touch(65_536), Said::Done),
+        (Step::Touched(65_536), Said::Is(false)),
+        (Step::Touch(u32::MAX), Said::Done),
+        (Step::Touched(u32::MAX), Said::Is(false)),
+    ];
+    played(&rt, 2, &script)
+}
+
+#[test]
+fn a_spare_past_the_last_frees_nothing(rt: HostRuntime) -> Result<(), Fail> {
+    let one = Pair(0, b'a', b'1');
+    let script = [
+        (Step::Draw(one, 2), Said::Name(1)),
+        (Step::Reclaim, Said::Is(false)),
+        (Step::Draw(one, 16_777_213), Said::Name(2)),
+        (Step::Reclaim, Said::Is(false)),
+        (Step::Free, Said::Count(2)),
+    ];
+    played(&rt, 2, &script)
 }
 
 #[test]

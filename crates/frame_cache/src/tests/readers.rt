@@ -2,7 +2,8 @@
 ghost use Rattle.std.specs.Prelude.{◌≡◌, false};
 ghost use Rattle.version_words.specs.Rows.{limits_of};
 
-use super::{Filled, Unvouched, entered, fill, misses, object, one_pair, opened, reclaimed};
+use super::user::{Shown, look};
+use super::{Filled, Unvouched, entered, fill, misses, object, opened, reclaimed};
 use crate::Frames;
 use far_object::Text;
 use std::alloc::Global;
@@ -10,7 +11,7 @@ use std::marker::Brand;
 use std::process::Abort;
 use std::test::Fail;
 use std::thread::{Threads, join};
-use version_words::{Naming, Opened, Spare};
+use version_words::{Naming, Opened, Pass, Spare, Words};
 
 /// How many versions come into the frame, one after another.
 const VERSIONS: u32 = 200;
@@ -21,17 +22,21 @@ const LOOKS: u32 = 2_000;
 /// How often the reclaimer tries at most. It is through once the readers have ended.
 const RECLAIMS: u32 = 1_000_000_000;
 
+// Whether another version was shown than this one.
+fn is_other(shown: Option<Shown>, wanted: Shown) -> bool {
+    match shown {
+        Some(found) => found != wanted,
+        None => false,
+    }
+}
+
 // How often the frame showed another version than the one that was asked for.
 fn wrong_looks<J: Naming>(frames: &Frames<Text, Text, J>, name: u64, value: u8) -> u32 {
+    let wanted = Shown::of(name, value);
     let mut wrong = 0u32;
     for _ in 0..LOOKS {
-        if let Ok(scope) = frames.enter(0, name) {
-            let same = scope.object().as_bytes() == one_pair(value).as_slice();
-            let named = (scope.name(), scope.bucket()) == (name, 0);
-            scope.close();
-            if !same || !named {
-                wrong = wrong.wrapping_add(1);
-            }
+        if is_other(look(frames, 0, name), wanted) {
+            wrong = wrong.wrapping_add(1);
         }
     }
     wrong
@@ -67,6 +72,24 @@ fn one_version<J: Naming + Send + Sync, R: Threads + Sync>(
     (one.0.wrapping_add(one.1).wrapping_add(two), done)
 }
 
+// The same of a version that is put into the frame, and whether its name is missed there later.
+fn one_round<J: Naming + Send + Sync, R: Threads + Sync>(
+    rt: &R,
+    alloc: Global,
+    words: &Words<Text, Text, J>,
+    pass: &mut Pass<Text, Text, J>,
+    frames: &Frames<Text, Text, J>,
+    value: u8,
+) -> Option<(u32, bool, bool)>
+    requires { J.limits.honest ≡ false }
+{
+    let object = object(alloc, b"a", &[value])?;
+    let filled = fill(words, pass, frames, 0, object)?;
+    let name = filled.name.number();
+    let (wrong, done) = one_version(rt, frames, filled, value);
+    Some((wrong, done, misses(frames, 0, name)))
+}
+
 #[test]
 fn readers_and_a_reclaimer(rt: HostRuntime) -> Result<(), Fail> {
     one_by_one::<Brand, _>(&rt, rt.alloc(), opened(rt.alloc())?)
@@ -86,11 +109,8 @@ fn one_by_one<J: Naming + Send + Sync, R: Threads + Abort + Sync>(
     let frames: Frames<Text, Text, J> = Frames::open(alloc, 1)?;
     for round in 0..VERSIONS {
         let value = (round % 256) as u8;
-        let object = object(alloc, b"a", &[value]).ok_or("no object")?;
-        let filled = fill(&words, &mut pass, &frames, 0, object).ok_or("no version")?;
-        let name = filled.name.number();
-        assert_eq!(rt; one_version(rt, &frames, filled, value), (0, true));
-        assert!(rt; misses(&frames, 0, name));
+        let found = one_round(rt, alloc, &words, &mut pass, &frames, value);
+        assert_eq!(rt; found, Some((0, true, true)));
     }
     assert_eq!(rt; frames.free(), 1);
     Ok(())

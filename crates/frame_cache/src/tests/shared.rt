@@ -2,7 +2,8 @@
 ghost use Rattle.std.specs.Prelude.{◌≡◌, false};
 ghost use Rattle.version_words.specs.Rows.{limits_of};
 
-use super::{Unvouched, entered, fill, object, one_pair, opened, reclaimed};
+use super::user::{Shown, look};
+use super::{Unvouched, entered, fill, object, opened, reclaimed};
 use crate::Frames;
 use far_object::{Memory, Text};
 use std::alloc::Global;
@@ -64,20 +65,14 @@ fn one_round<J: Naming>(
 ) -> Option<bool> {
     let object = object(alloc, b"a", &[value])?;
     let filled = fill(&shared.words, pass, &shared.frames, bucket, object)?;
-    let number = filled.name.number();
-    let found = match shared.frames.enter(filled.frame, number) {
-        Ok(scope) => {
-            let same = scope.object().as_bytes() == one_pair(value).as_slice();
-            let named = (scope.name(), scope.bucket()) == (number, bucket);
-            scope.close();
-            same && named
-        }
-        Err(_) => false,
+    let wanted = Shown {
+        bucket,
+        name: filled.name.number(),
+        value: Some(value),
     };
-    match reclaimed(&shared.frames, filled.spare()) {
-        Ok(done) => Some(found && done),
-        Err(_) => Some(false),
-    }
+    let found = look(&shared.frames, filled.frame, wanted.name) == Some(wanted);
+    let done = reclaimed(&shared.frames, filled.spare()).ok() == Some(true);
+    Some(found && done)
 }
 
 fn rounds<J: Naming>(alloc: Global, shared: &Shared<J>, bucket: u32) -> Totals {
@@ -125,61 +120,47 @@ fn by_four<J: Naming + Send + Sync, R: Threads + Sync>(
     one.with(two)
 }
 
-// Every frame is free again, and each version was found until it was reclaimed.
-fn assert_totals<J: Naming, R: Abort>(
-    rt: &R,
-    frames: &Frames<Text, Text, J>,
-    totals: Totals,
-    threads: u32,
-) {
-    assert_eq!(rt; totals.wrong, 0);
-    assert_eq!(rt;
-        totals.done.wrapping_add(totals.frameless),
-        threads.wrapping_mul(ROUNDS)
-    );
-    assert!(rt; totals.frameless < ROUNDS);
-    assert_eq!(rt; frames.free(), COUNT);
+// How many frames show a version.
+fn in_use<J: Naming>(frames: &Frames<Text, Text, J>) -> u32 {
+    let mut count = 0u32;
     for frame in 0..COUNT {
-        assert_eq!(rt; frames.seen(frame), None);
+        if frames.seen(frame).is_some() {
+            count = count.wrapping_add(1);
+        }
     }
+    count
 }
 
 #[test]
 fn two_threads(rt: HostRuntime) -> Result<(), Fail> {
-    two_share::<Brand, _>(&rt, rt.alloc(), opened(rt.alloc())?)
-}
-
-fn two_share<J: Naming + Send + Sync, R: Threads + Abort + Sync>(
-    rt: &R,
-    alloc: Global,
-    opened: Opened<Text, Text, Unvouched>,
-) -> Result<(), Fail>
-    requires book { opened.book ≡ J.book }
-    requires boards { opened.names ≡ J.names }
-    requires limits { limits_of opened.sizes false ≡ J.limits }
-{
-    let shared = Shared::new(alloc, opened.named::<J>())?;
-    let totals = by_two(rt, alloc, &shared, (0, 1));
-    assert_totals(rt, &shared.frames, totals, 2);
-    Ok(())
+    share::<Brand, _>(&rt, rt.alloc(), opened(rt.alloc())?, 2)
 }
 
 #[test]
 fn four_threads(rt: HostRuntime) -> Result<(), Fail> {
-    four_share::<Brand, _>(&rt, rt.alloc(), opened(rt.alloc())?)
+    share::<Brand, _>(&rt, rt.alloc(), opened(rt.alloc())?, 4)
 }
 
-fn four_share<J: Naming + Send + Sync, R: Threads + Abort + Sync>(
+// Each version is found until it is reclaimed, and every frame is free again.
+fn share<J: Naming + Send + Sync, R: Threads + Abort + Sync>(
     rt: &R,
     alloc: Global,
     opened: Opened<Text, Text, Unvouched>,
+    threads: u32,
 ) -> Result<(), Fail>
     requires book { opened.book ≡ J.book }
     requires boards { opened.names ≡ J.names }
     requires limits { limits_of opened.sizes false ≡ J.limits }
 {
     let shared = Shared::new(alloc, opened.named::<J>())?;
-    let totals = by_four(rt, alloc, &shared);
-    assert_totals(rt, &shared.frames, totals, 4);
+    let totals = if threads == 2 {
+        by_two(rt, alloc, &shared, (0, 1))
+    } else {
+        by_four(rt, alloc, &shared)
+    };
+    let rounds = totals.done.wrapping_add(totals.frameless);
+    assert_eq!(rt; (totals.wrong, rounds), (0, threads.wrapping_mul(ROUNDS)));
+    assert!(rt; totals.frameless < ROUNDS);
+    assert_eq!(rt; (shared.frames.free(), in_use(&shared.frames)), (COUNT, 0));
     Ok(())
 }

@@ -1,0 +1,198 @@
+//! What one caller of a row and of frames does, step after step, and what each step is to answer.
+ghost use Rattle.std.specs.Prelude.{◌≡◌, ◌≤◌, false};
+ghost use Rattle.version_words.specs.Rows.{limits_of};
+
+use super::user::{Shown, User};
+use super::{Unvouched, opened};
+use far_object::Text;
+use std::alloc::Global;
+use std::marker::Brand;
+use std::process::Abort;
+use std::test::Fail;
+use version_words::{Naming, Opened};
+
+/// The bucket, the key and the value of an object of one pair.
+#[derive(Clone, Copy)]
+pub struct Pair(pub u32, pub u8, pub u8);
+
+/// A step.
+#[derive(Clone, Copy)]
+pub enum Step {
+    Count,
+    Free,
+    Seen(u32),
+    Touch(u32),
+    Touched(u32),
+    /// Reserves a frame, and cancels it.
+    Reserve,
+    /// Reserves a frame beside another, and cancels both.
+    ReserveBeside,
+    /// Puts a version under the bucket's next name into the first free frame, and holds the spare of that frame.
+    Fill(Pair),
+    /// Draws the bucket's next name, gives it up at this place, and holds the spare.
+    Draw(Pair, u32),
+    /// Enters the frame with the name, and closes the scope.
+    Look(u32, u64),
+    /// The same, and reclaims the last spare's version meanwhile.
+    ReclaimUnderLook(u32, u64),
+    /// Reclaims the last spare's version. The spare is held again where it comes back.
+    Reclaim,
+    /// Takes out of the frame what lies there under the name, and ends it for the last spare.
+    Empty(u32, u64),
+    /// Puts a version under the bucket's next name back into the frame.
+    PutBack(Pair, u32),
+    /// Ends a version under the bucket's next name for the spare of that name and this place.
+    Retire(Pair, u32),
+    /// Tries to end a version under the bucket's next name for each of the two spares. It goes into a frame where it comes
+    /// back from both.
+    RetireForOthers(Pair),
+}
+
+/// What a step answers.
+#[derive(Clone, Copy, Debug, PartialEq)]
+pub enum Said {
+    Nothing,
+    Done,
+    Is(bool),
+    Count(u32),
+    /// The spare came back.
+    Back,
+    /// A frame's bucket and name.
+    Naming(u32, u64),
+    /// The frame that was reserved, and how many were free meanwhile.
+    Reserved(u32, u32),
+    /// The frame that was reserved first, and of the second what is said of one.
+    Both(u32, Option<(u32, u32)>),
+    /// A frame, and the name of the version that was put into it.
+    Filled(u32, u64),
+    Name(u64),
+    Shown(Shown),
+    /// What was shown before and after a spare came back.
+    BackUnder(Shown, Shown),
+}
+
+impl Said {
+    fn when(answer: Option<bool>) -> Said {
+        match answer {
+            Some(is) => Said::Is(is),
+            None => Said::Nothing,
+        }
+    }
+
+    fn reclaimed(answer: Option<Option<bool>>) -> Said {
+        match answer {
+            Some(Some(is)) => Said::Is(is),
+            Some(None) => Said::Back,
+            None => Said::Nothing,
+        }
+    }
+
+    fn naming(answer: Option<(u32, u64)>) -> Said {
+        match answer {
+            Some((bucket, name)) => Said::Naming(bucket, name),
+            None => Said::Nothing,
+        }
+    }
+
+    fn reserved(answer: Option<(u32, u32)>) -> Said {
+        match answer {
+            Some((frame, free)) => Said::Reserved(frame, free),
+            None => Said::Nothing,
+        }
+    }
+
+    fn both(answer: Option<(u32, Option<(u32, u32)>)>) -> Said {
+        match answer {
+            Some((one, two)) => Said::Both(one, two),
+            None => Said::Nothing,
+        }
+    }
+
+    fn filled(answer: Option<(u32, u64)>) -> Said {
+        match answer {
+            Some((frame, name)) => Said::Filled(frame, name),
+            None => Said::Nothing,
+        }
+    }
+
+    fn name(answer: Option<u64>) -> Said {
+        match answer {
+            Some(name) => Said::Name(name),
+            None => Said::Nothing,
+        }
+    }
+
+    fn shown(answer: Option<Shown>) -> Said {
+        match answer {
+            Some(shown) => Said::Shown(shown),
+            None => Said::Nothing,
+        }
+    }
+
+    fn back_under(answer: Option<(Shown, Option<Option<bool>>, Shown)>) -> Said {
+        match answer {
+            Some((before, Some(None), after)) => Said::BackUnder(before, after),
+            Some((_, answer, _)) => Said::reclaimed(answer),
+            None => Said::Nothing,
+        }
+    }
+}
+
+impl Step {
+    fn play<J: Naming>(self, user: &mut User<J>) -> Said {
+        match self {
+            Step::Count => Said::Count(user.frames.count()),
+            Step::Free => Said::Count(user.frames.free()),
+            Step::Seen(frame) => Said::naming(user.frames.seen(frame)),
+            Step::Touch(frame) => {
+                user.frames.touch(frame);
+                Said::Done
+            }
+            Step::Touched(frame) => Said::Is(user.frames.touched(frame)),
+            Step::Reserve => Said::reserved(user.reserve()),
+            Step::ReserveBeside => Said::both(user.reserve_beside()),
+            Step::Fill(pair) => Said::filled(user.fill(pair)),
+            Step::Draw(pair, place) => Said::name(user.draw(pair, place)),
+            Step::Look(frame, name) => Said::shown(user.look(frame, name)),
+            Step::ReclaimUnderLook(frame, name) => {
+                Said::back_under(user.reclaim_under_look(frame, name))
+            }
+            Step::Reclaim => Said::reclaimed(user.reclaim()),
+            Step::Empty(frame, name) => Said::when(user.empty(frame, name)),
+            Step::PutBack(pair, frame) => Said::name(user.put_back(pair, frame)),
+            Step::Retire(pair, place) => Said::when(user.retire(pair, place)),
+            Step::RetireForOthers(pair) => Said::when(user.retire_for_others(pair)),
+        }
+    }
+}
+
+fn play<J: Naming, R: Abort>(
+    rt: &R,
+    alloc: Global,
+    opened: Opened<Text, Text, Unvouched>,
+    frames: u32,
+    script: &[(Step, Said)],
+) -> Result<(), Fail>
+    requires book { opened.book ≡ J.book }
+    requires boards { opened.names ≡ J.names }
+    requires limits { limits_of opened.sizes false ≡ J.limits }
+    requires few { frames ≤ 65536 }
+{
+    let words = opened.named::<J>();
+    let mut user = User::new(alloc, words, frames)?;
+    for (at, (step, wanted)) in script.iter().enumerate() {
+        assert_eq!(rt; step.play(&mut user), *wanted, "at {at}");
+    }
+    Ok(())
+}
+
+/// Plays the steps on a new row of four buckets and so many frames, by the first pass.
+pub fn played<R: Alloc<A = Global> + Abort>(
+    rt: &R,
+    frames: u32,
+    script: &[(Step, Said)],
+) -> Result<(), Fail>
+    requires few { frames ≤ 65536 }
+{
+    play::<Brand, R>(rt, rt.alloc(), opened(rt.alloc())?, frames, script)
+}
