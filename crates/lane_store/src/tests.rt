@@ -8,7 +8,9 @@ mod failing;
 mod formats;
 mod opening;
 mod reading;
+mod script;
 mod shared;
+mod user;
 mod waiting;
 mod worked;
 
@@ -16,11 +18,9 @@ use crate::{LaneFault, LaneStore, Receipt};
 use far_device::Device;
 use far_object::{Format, Memory, Object, Text};
 use std::alloc::Global;
-use std::process::Abort;
 use std::sync::Wait;
-use std::test::Fail;
 use table_core::word::{FAR_PLACE, place_of};
-use version_words::{EnterFault, Honesty, Name, Naming, Opened, Pass, Sizes, Spare, Words};
+use version_words::{Honesty, Name, Naming, Opened, Pass, Sizes, Spare, Words};
 
 /// How often a draw is tried while other threads draw.
 const TRIES: u32 = 1_000_000;
@@ -47,10 +47,9 @@ fn opened(alloc: Global) -> Result<Opened<Text, Text, Unvouched>, Memory> {
 /// Draws a pass, also while other threads draw.
 fn entered<J: Naming>(words: &Words<Text, Text, J>) -> Option<Pass<Text, Text, J>> {
     for _ in 0..TRIES {
-        match words.enter() {
-            Ok(pass) => return Some(pass),
-            Err(EnterFault::PassesSpent(_)) => return None,
-            Err(EnterFault::Moved(_)) => {}
+        let drawn = words.enter().ok();
+        if drawn.is_some() {
+            return drawn;
         }
     }
     None
@@ -130,28 +129,14 @@ fn removed<J: Naming, D: Device, R: Wait>(
     }
 }
 
-/// What a read answered: the number and the bucket of the receipt.
-fn told<J: Naming>(
-    read: Result<Option<Receipt<Text, Text, J>>, LaneFault>,
-) -> Result<Option<(u64, u32)>, LaneFault> {
-    match read? {
-        Some(receipt) => Ok(Some((receipt.number(), receipt.bucket()))),
-        None => Ok(None),
-    }
+/// What a read answers: the number and the bucket of the receipt.
+type Told = Result<Option<(u64, u32)>, LaneFault>;
+
+fn told<J: Naming>(read: Result<Option<Receipt<Text, Text, J>>, LaneFault>) -> Told {
+    Ok(naming(read?))
 }
 
-/// Reads into a vector that holds 9 already, and compares the answer and the vector.
-fn expect_read<J: Naming, D: Device, R: Wait + Abort>(
-    rt: &R,
-    alloc: Global,
-    lanes: &LaneStore<Text, Text, J, D>,
-    name: u64,
-    answer: Result<Option<(u64, u32)>, LaneFault>,
-    want: &[u8],
-) -> Result<(), Fail> {
-    let mut out = Vec::from_slice(alloc, &[9])?;
-    assert_eq!(rt; told(lanes.read(rt, name, &mut out)), answer);
-    assert_eq!(rt; out[0], 9);
-    assert_eq!(rt; &out[1..], want);
-    Ok(())
+fn naming<J: Naming>(receipt: Option<Receipt<Text, Text, J>>) -> Option<(u64, u32)> {
+    let receipt = receipt?;
+    Some((receipt.number(), receipt.bucket()))
 }

@@ -2,7 +2,8 @@
 ghost use Rattle.std.specs.Prelude.{◌≡◌, false};
 ghost use Rattle.version_words.specs.Rows.{limits_of};
 
-use super::{Drawn, Unvouched, draw, entered, expect_read, one_pair, opened, removed};
+use super::user::{User, stands_behind_nine};
+use super::{Unvouched, one_pair, opened};
 use crate::{LaneFault, LaneStore};
 use far_device::{FakeDevice, FaultyDevice, WatchedDevice};
 use far_object::{Format, Text};
@@ -19,7 +20,7 @@ use version_words::{Naming, Opened};
 /// read once more in between.
 const CALLS: u64 = 7;
 
-type Lanes<J> = LaneStore<Text, Text, J, WatchedDevice<FaultyDevice<FakeDevice>>>;
+type Watched = WatchedDevice<FaultyDevice<FakeDevice>>;
 
 #[test]
 fn each_call_of_a_device_fails_in_turn(rt: HostRuntime) -> Result<(), Fail> {
@@ -40,108 +41,136 @@ fn failures_of_a_run<R: Wait + Abort>(rt: &R, alloc: Global, k: u64) -> Result<u
     Ok(failures.load(SeqCst))
 }
 
+/// A call of the run.
+#[derive(Clone, Copy)]
+enum Call {
+    /// Draws the name for an object of this value.
+    Draw(u64, u8),
+    Write(u64),
+    /// Reads the name, whose object has this value.
+    Read(u64, u8),
+    Remove(u64),
+}
+
+impl Call {
+    // Whether all is as it should be after the call.
+    fn goes<J: Naming, R: Wait>(
+        self,
+        rt: &R,
+        user: &mut User<J, Watched>,
+        failures: &AtomicU64,
+    ) -> bool {
+        match self {
+            Call::Draw(name, value) => user.draw(0, value) == Some(name),
+            Call::Write(name) => write(rt, user, failures, name),
+            Call::Read(name, value) => read(rt, user, failures, name, value),
+            Call::Remove(name) => remove(rt, user, failures, name),
+        }
+    }
+}
+
 fn run<J: Naming, R: Wait + Abort>(
     rt: &R,
     alloc: Global,
     opened: Opened<Text, Text, Unvouched>,
-    device: WatchedDevice<FaultyDevice<FakeDevice>>,
+    device: Watched,
     failures: &AtomicU64,
 ) -> Result<(), Fail>
     requires book { opened.book ≡ J.book }
     requires boards { opened.names ≡ J.names }
     requires limits { limits_of opened.sizes false ≡ J.limits }
 {
+    let calls = [
+        Call::Draw(1, b'1'),
+        Call::Draw(2, b'2'),
+        Call::Write(1),
+        Call::Write(2),
+        Call::Read(1, b'1'),
+        Call::Read(2, b'2'),
+        Call::Remove(1),
+        Call::Read(2, b'2'),
+        Call::Remove(2),
+    ];
     let words = opened.named::<J>();
-    let mut pass = entered(&words).ok_or("no pass")?;
-    let devices = Vec::from_array(alloc, [device])?;
-    let lanes: Lanes<J> = LaneStore::open(alloc, devices)?;
-    let first = draw(alloc, &words, &mut pass, 0, b'1').ok_or("no name")?;
-    let second = draw(alloc, &words, &mut pass, 0, b'2').ok_or("no name")?;
-    write(rt, alloc, &lanes, failures, &first)?;
-    write(rt, alloc, &lanes, failures, &second)?;
-    read(rt, alloc, &lanes, failures, 1, &one_pair(b'1'))?;
-    read(rt, alloc, &lanes, failures, 2, &one_pair(b'2'))?;
-    remove(rt, alloc, &lanes, failures, first)?;
-    read(rt, alloc, &lanes, failures, 2, &one_pair(b'2'))?;
-    remove(rt, alloc, &lanes, failures, second)
+    let lanes = LaneStore::open(alloc, Vec::from_array(alloc, [device])?)?;
+    let mut user = User::new(alloc, words, lanes)?;
+    for (at, call) in calls.iter().enumerate() {
+        assert!(rt; call.goes(rt, &mut user, failures), "at {at}");
+    }
+    Ok(())
 }
 
-// Whether the call failed: it did just where the device counted a failure.
-fn has_failed<T, R: Abort>(
-    rt: &R,
-    failures: &AtomicU64,
-    before: u64,
-    answer: &Result<T, LaneFault>,
-) -> bool {
-    let rose = failures.load(SeqCst).wrapping_sub(before);
-    match answer {
-        Ok(_) => {
-            assert_eq!(rt; rose, 0);
-            false
-        }
-        Err(fault) => {
-            assert_eq!(rt; *fault, LaneFault::Device);
-            assert_eq!(rt; rose, 1);
-            true
-        }
+// Whether a call failed, where the device counted so many failures meanwhile: a call fails just where it counted one.
+fn failed<T: Copy>(answer: Option<Result<T, LaneFault>>, counted: u64) -> Option<bool> {
+    match (answer, counted) {
+        (Some(Ok(_)), 0) => Some(false),
+        (Some(Err(LaneFault::Device)), 1) => Some(true),
+        _ => None,
     }
+}
+
+// Whether no receipt stands for the name.
+fn is_absent<J: Naming, R: Wait>(rt: &R, user: &User<J, Watched>, name: u64) -> bool {
+    let (out, told) = user.read(rt, name);
+    told == Ok(None) && stands_behind_nine(&out, &[])
+}
+
+// Whether the name's object is read, which has this value.
+fn is_read<J: Naming, R: Wait>(rt: &R, user: &User<J, Watched>, name: u64, value: u8) -> bool {
+    let (out, told) = user.read(rt, name);
+    told == Ok(Some((name, 0))) && stands_behind_nine(&out, &one_pair(value))
 }
 
 // After a failed write no receipt stands for the name.
-fn write<J: Naming, R: Wait + Abort>(
+fn write<J: Naming, R: Wait>(
     rt: &R,
-    alloc: Global,
-    lanes: &Lanes<J>,
+    user: &User<J, Watched>,
     failures: &AtomicU64,
-    drawn: &Drawn<J>,
-) -> Result<(), Fail> {
+    name: u64,
+) -> bool {
     let before = failures.load(SeqCst);
-    let written = drawn.write(rt, lanes, Format::One);
-    if has_failed(rt, failures, before, &written) {
-        expect_read(rt, alloc, lanes, drawn.name.number(), Ok(None), &[])?;
-        drawn.write(rt, lanes, Format::One)?;
+    let answer = user.write(rt, name, Format::One);
+    match failed(answer, failures.load(SeqCst).wrapping_sub(before)) {
+        Some(false) => true,
+        Some(true) => {
+            is_absent(rt, user, name) && user.write(rt, name, Format::One) == Some(Ok(()))
+        }
+        None => false,
     }
-    Ok(())
 }
 
 // After a failed read the vector is as before, and the receipt still stands.
-fn read<J: Naming, R: Wait + Abort>(
+fn read<J: Naming, R: Wait>(
     rt: &R,
-    alloc: Global,
-    lanes: &Lanes<J>,
+    user: &User<J, Watched>,
     failures: &AtomicU64,
     name: u64,
-    want: &[u8],
-) -> Result<(), Fail> {
+    value: u8,
+) -> bool {
     let before = failures.load(SeqCst);
-    let mut out = Vec::from_slice(alloc, &[9])?;
-    let read = lanes.read(rt, name, &mut out);
-    if has_failed(rt, failures, before, &read) {
-        assert_eq!(rt; out.as_slice(), [9].as_slice());
-        return expect_read(rt, alloc, lanes, name, Ok(Some((name, 0))), want);
+    let (out, told) = user.read(rt, name);
+    match failed(Some(told), failures.load(SeqCst).wrapping_sub(before)) {
+        Some(false) => { told == Ok(Some((name, 0))) && stands_behind_nine(&out, &one_pair(value)) }
+        Some(true) => stands_behind_nine(&out, &[]) && is_read(rt, user, name, value),
+        None => false,
     }
-    assert_eq!(rt; out.get(1..), Some(want));
-    Ok(())
 }
 
 // After a failed removal no receipt stands for the name, and the device still has the object.
-fn remove<J: Naming, R: Wait + Abort>(
+fn remove<J: Naming, R: Wait>(
     rt: &R,
-    alloc: Global,
-    lanes: &Lanes<J>,
+    user: &mut User<J, Watched>,
     failures: &AtomicU64,
-    drawn: Drawn<J>,
-) -> Result<(), Fail> {
-    let name = drawn.name.number();
-    let spare = drawn.spare();
+    name: u64,
+) -> bool {
+    let held = user.give_up(name);
     let before = failures.load(SeqCst);
-    let answer = removed(rt, lanes, &spare);
-    let failed = has_failed(rt, failures, before, &answer);
-    expect_read(rt, alloc, lanes, name, Ok(None), &[])?;
-    if failed {
-        assert_eq!(rt; removed(rt, lanes, &spare), Ok(true));
-    } else {
-        assert_eq!(rt; answer, Ok(true));
+    let answer = user.remove(rt);
+    let counted = failures.load(SeqCst).wrapping_sub(before);
+    let gone = is_absent(rt, user, name);
+    match failed(answer, counted) {
+        Some(false) => held && gone && answer == Some(Ok(true)),
+        Some(true) => held && gone && user.remove(rt) == Some(Ok(true)),
+        None => false,
     }
-    Ok(())
 }

@@ -3,7 +3,8 @@ ghost use Rattle.std.specs.Prelude.{◌≡◌, false, IsTrue, IsOkAnd, IfSome};
 ghost use Rattle.table_core.specs.Logs.{contents};
 ghost use Rattle.version_words.specs.Rows.{limits_of};
 
-use super::{Unvouched, draw, entered, one_pair, opened};
+use super::user::User;
+use super::{Unvouched, entered, one_pair, opened};
 use crate::LaneStore;
 use far_device::{Device, FakeDevice};
 use far_object::{FarObject, Format, Object, ObjectFault, Text};
@@ -37,6 +38,22 @@ fn read_through<K: FarObject, V: FarObject, J: Naming, D: Device, R: Wait>(
     Some(Object::read_at(bytes, receipt.bucket(), receipt.number()))
 }
 
+// Whether the object of the name is read, which has this value.
+fn is_read<J: Naming, R: Wait>(
+    rt: &R,
+    alloc: Global,
+    words: &Words<Text, Text, J>,
+    pass: &mut Pass<Text, Text, J>,
+    lanes: &LaneStore<Text, Text, J, FakeDevice>,
+    name: u64,
+    value: u8,
+) -> bool {
+    match read_through(rt, alloc, words, pass, lanes, name) {
+        Some(Ok(object)) => object.as_bytes() == one_pair(value).as_slice(),
+        _ => false,
+    }
+}
+
 #[test]
 fn what_is_read_through_is_the_contents(rt: HostRuntime) -> Result<(), Fail> {
     read_by_another::<Brand, _>(&rt, rt.alloc(), opened(rt.alloc())?)
@@ -53,16 +70,23 @@ fn read_by_another<J: Naming, R: Wait + Abort>(
     requires limits { limits_of opened.sizes false ≡ J.limits }
 {
     let words = opened.named::<J>();
-    let mut reader = entered(&words).ok_or("no pass")?;
-    let mut writer = entered(&words).ok_or("no pass")?;
     let devices = Vec::from_array(alloc, [FakeDevice::new(alloc), FakeDevice::new(alloc)])?;
-    let lanes: LaneStore<Text, Text, J, FakeDevice> = LaneStore::open(alloc, devices)?;
-    let first = draw(alloc, &words, &mut writer, 0, b'1').ok_or("no name")?;
-    first.write(rt, &lanes, Format::Two)?;
-    let Some(Ok(object)) = read_through(rt, alloc, &words, &mut reader, &lanes, 1) else {
-        return Err(Fail::from("not read"));
-    };
-    assert_eq!(rt; object.as_bytes(), one_pair(b'1').as_slice());
-    assert!(rt; read_through(rt, alloc, &words, &mut reader, &lanes, 2).is_none());
+    let mut writer = User::new(alloc, words, LaneStore::open(alloc, devices)?)?;
+    assert_eq!(rt; kept_and_read(rt, alloc, &mut writer), Some((true, true)));
     Ok(())
+}
+
+// Whether the reader reads the object that is kept under the name 1, and none under the name 2.
+fn kept_and_read<J: Naming, R: Wait>(
+    rt: &R,
+    alloc: Global,
+    writer: &mut User<J, FakeDevice>,
+) -> Option<(bool, bool)> {
+    let mut reader = entered(&writer.words)?;
+    writer.draw(0, b'1')?;
+    writer.write(rt, 1, Format::Two)?.ok()?;
+    let (words, lanes) = (&writer.words, &writer.lanes);
+    let found = is_read(rt, alloc, words, &mut reader, lanes, 1, b'1');
+    let absent = read_through(rt, alloc, words, &mut reader, lanes, 2).is_none();
+    Some((found, absent))
 }

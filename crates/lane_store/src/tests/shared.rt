@@ -35,6 +35,14 @@ impl<J: Naming> Shared<J> {
     }
 }
 
+// Whether these bytes are the object of one pair of this value, where they lie under the name and the bucket.
+fn is_object(bytes: Vec<u8>, bucket: u32, name: u64, value: u8) -> bool {
+    match Object::<Text, Text>::read_at(bytes, bucket, name) {
+        Ok(object) => object.as_bytes() == one_pair(value).as_slice(),
+        Err(_) => false,
+    }
+}
+
 // Whether an object of this value, once kept, is read by its name and then removed. The names of a thread fall into
 // either lane.
 fn one_round<J: Naming, R: Wait>(
@@ -55,10 +63,7 @@ fn one_round<J: Naming, R: Wait>(
     drawn.write(rt, &shared.lanes, format).ok()?;
     let mut bytes = Vec::new(alloc);
     let read = told(shared.lanes.read(rt, number, &mut bytes));
-    let same = match Object::<Text, Text>::read_at(bytes, bucket, number) {
-        Ok(object) => object.as_bytes() == one_pair(value).as_slice(),
-        Err(_) => false,
-    };
+    let same = is_object(bytes, bucket, number, value);
     let gone = removed(rt, &shared.lanes, &drawn.spare());
     let mut none = Vec::new(alloc);
     let later = told(shared.lanes.read(rt, number, &mut none));

@@ -2,8 +2,9 @@
 ghost use Rattle.std.specs.Prelude.{◌≡◌, false};
 ghost use Rattle.version_words.specs.Rows.{limits_of};
 
-use super::{Drawn, Unvouched, draw, entered, opened, told};
-use crate::{LaneFault, LaneStore};
+use super::user::User;
+use super::{Unvouched, opened};
+use crate::LaneStore;
 use far_device::{Device, DeviceFault, FakeDevice};
 use far_object::{Format, Text};
 use std::alloc::Global;
@@ -93,7 +94,7 @@ impl<D: Device> Device for GatedDevice<D> {
     }
 }
 
-type Lanes<J> = LaneStore<Text, Text, J, GatedDevice<FakeDevice>>;
+type Gated<J> = User<J, GatedDevice<FakeDevice>>;
 
 #[test]
 fn a_lane_that_is_held_holds_no_other(rt: HostRuntime) -> Result<(), Fail> {
@@ -109,8 +110,6 @@ fn held<J: Naming + Send + Sync, R: Threads + Wait + Abort + Sync>(
     requires boards { opened.names ≡ J.names }
     requires limits { limits_of opened.sizes false ≡ J.limits }
 {
-    let words = opened.named::<J>();
-    let mut pass = entered(&words).ok_or("no pass")?;
     let shared = Arc::new(alloc, Gate::shut())?;
     let even = GatedDevice {
         inner: FakeDevice::new(alloc),
@@ -120,48 +119,53 @@ fn held<J: Naming + Send + Sync, R: Threads + Wait + Abort + Sync>(
         inner: FakeDevice::new(alloc),
         gate: Some(shared.clone()?),
     };
-    let all: Lanes<J> = LaneStore::open(alloc, Vec::from_array(alloc, [even, odd])?)?;
-    let one = draw(alloc, &words, &mut pass, 0, b'1').ok_or("no name")?;
-    let two = draw(alloc, &words, &mut pass, 0, b'2').ok_or("no name")?;
-    let (lanes, gate): (&Lanes<J>, &Gate) = (&all, &shared);
-    let (written, (beside, after)) = join(
-        rt,
-        || one.write(rt, lanes, Format::One),
-        || {
-            join(
-                rt,
-                || is_free_beside(rt, lanes, gate, &two),
-                || is_read_after(rt, alloc, lanes, gate),
-            )
-        },
-    );
-    assert_eq!(rt; written, Ok(()));
-    assert_eq!(rt; beside, Ok(true));
-    assert!(rt; after);
+    let words = opened.named::<J>();
+    let lanes = LaneStore::open(alloc, Vec::from_array(alloc, [even, odd])?)?;
+    let mut user: Gated<J> = User::new(alloc, words, lanes)?;
+    let names = (user.draw(0, b'1'), user.draw(0, b'2'));
+    let found = by_three(rt, &user, &shared);
+    assert_eq!(rt; (names, found), ((Some(1), Some(2)), (true, (true, true))));
     Ok(())
 }
 
-// Whether a write to the other lane comes back while the first device still holds its own. Then the gate is opened.
-fn is_free_beside<J: Naming, R: Wait>(
+// A thread writes to the first lane, whose device stays until the gate is open, while one writes to the other and one reads
+// of the first. Whether the first write came back, and what is said of the other two.
+fn by_three<J: Naming + Send + Sync, R: Threads + Wait + Sync>(
     rt: &R,
-    lanes: &Lanes<J>,
+    user: &Gated<J>,
     gate: &Gate,
-    drawn: &Drawn<J>,
-) -> Result<bool, LaneFault> {
+) -> (bool, (bool, bool)) {
+    join(
+        rt,
+        || is_written(rt, user, 1),
+        || {
+            join(
+                rt,
+                || is_free_beside(rt, user, gate),
+                || is_read_after(rt, user, gate),
+            )
+        },
+    )
+}
+
+fn is_written<J: Naming, R: Wait>(rt: &R, user: &Gated<J>, name: u64) -> bool {
+    user.write(rt, name, Format::One) == Some(Ok(()))
+}
+
+// Whether a write to the other lane comes back while the first device still holds its own. Then the gate is opened.
+fn is_free_beside<J: Naming, R: Wait>(rt: &R, user: &Gated<J>, gate: &Gate) -> bool {
     let inside = comes(&gate.inside);
-    let written = drawn.write(rt, lanes, Format::One);
+    let written = is_written(rt, user, 2);
     let asking = comes(&gate.asking);
     gate.open.store(1, SeqCst);
-    written?;
-    Ok(inside && asking)
+    inside && written && asking
 }
 
 // Whether a read of the first lane, asked for while its device holds it, comes back with what was written then, and only
 // after the gate was opened.
-fn is_read_after<J: Naming, R: Wait>(rt: &R, alloc: Global, lanes: &Lanes<J>, gate: &Gate) -> bool {
+fn is_read_after<J: Naming, R: Wait>(rt: &R, user: &Gated<J>, gate: &Gate) -> bool {
     let inside = comes(&gate.inside);
     gate.asking.store(1, SeqCst);
-    let mut out = Vec::new(alloc);
-    let read = told(lanes.read(rt, 1, &mut out));
-    inside && read == Ok(Some((1, 0))) && gate.open.load(SeqCst) == 1
+    let (_, told) = user.read(rt, 1);
+    inside && told == Ok(Some((1, 0))) && gate.open.load(SeqCst) == 1
 }
