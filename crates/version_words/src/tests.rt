@@ -4,13 +4,14 @@ ghost use Rattle.std.specs.Prelude.{◌≡◌, ◌<◌, false};
 ghost use Rattle.far_object.specs.Encodings.{enc_text};
 ghost use Rattle.far_object.specs.Buckets.{bucket as bucket_at};
 
+mod case;
 mod gathered;
 mod passes;
 mod shared;
 mod vouched;
 mod worked;
 
-use crate::{EnterFault, Honesty, Naming, Pass, Words};
+use crate::{Honesty, Naming, Pass, Words};
 use far_object::{Object, Text, bucket_of};
 use std::alloc::Global;
 use std::marker::PhantomData;
@@ -67,11 +68,33 @@ impl<J: Naming> Sample<J> {
 /// Draws a pass, also while other threads draw.
 fn entered<J: Naming>(words: &Words<Text, Text, J>) -> Option<Pass<Text, Text, J>> {
     for _ in 0..TRIES {
-        match words.enter() {
-            Ok(pass) => return Some(pass),
-            Err(EnterFault::PassesSpent(_)) => return None,
-            Err(EnterFault::Moved(_)) => {}
+        let drawn = words.enter().ok();
+        if drawn.is_some() {
+            return drawn;
         }
     }
     None
+}
+
+/// A row with its first pass and a sample.
+#[derive(Drop)]
+struct Fixture<J: Naming> {
+    words: Words<Text, Text, J>,
+    pass: Pass<Text, Text, J>,
+    sample: Sample<J>,
+}
+
+impl<J: Naming> Fixture<J> {
+    /// The sample has this key and the value 1.
+    fn new(alloc: Global, words: Words<Text, Text, J>, key: &[u8]) -> Result<Fixture<J>, Fail>
+        requires { J.limits.honest ≡ false }
+    {
+        let sample = Sample::new(alloc, &words, key, b"1")?;
+        let pass = entered(&words).ok_or("no pass")?;
+        Ok(Fixture {
+            words,
+            pass,
+            sample,
+        })
+    }
 }

@@ -48,6 +48,15 @@ fn opened(alloc: Global) -> Result<Opened<Text, Text, Unvouched>, Memory> {
     Opened::open(alloc, sizes)
 }
 
+// Whether a pass is missing among those of the holders.
+fn misses<J: Naming, H: PassHolder<Text, Text, J>>(
+    alloc: Global,
+    words: &Words<Text, Text, J>,
+    holders: &mut [H],
+) -> bool {
+    matches!(words.gather(alloc, holders), Err(GatherFault::Missing(_)))
+}
+
 #[test]
 fn passes_come_in_any_order(rt: HostRuntime) -> Result<(), Fail> {
     in_any_order::<Brand, _>(&rt, rt.alloc(), opened(rt.alloc())?)
@@ -71,10 +80,14 @@ fn in_any_order<J: Naming, R: Abort>(
     one.mark().compare(&two.mark());
     let mut passes = [two, one];
     same_history::<Text, Text>();
-    assert!(rt; words.gather(alloc, &mut passes).is_ok());
-    assert!(rt; words.gather(alloc, &mut passes).is_ok());
-    assert_eq!(rt; (passes[0].number(), passes[1].number()), (2, 1));
-    assert_eq!(rt; entered(&words).map(|pass| pass.number()), Some(3));
+    let once = words.gather(alloc, &mut passes).is_ok();
+    let again = words.gather(alloc, &mut passes).is_ok();
+    let numbers = (passes[0].number(), passes[1].number());
+    let next = entered(&words).map(|pass| pass.number());
+    assert_eq!(rt;
+        ((once, again), numbers, next),
+        ((true, true), (2, 1), Some(3))
+    );
     Ok(())
 }
 
@@ -98,16 +111,13 @@ fn one_missing<J: Naming, R: Abort>(
     };
     let mut callers = [Caller { pass: one, own: 7 }, Caller { pass: two, own: 8 }];
     let all = &mut callers[..];
-    let missing = matches!(
-        words.gather(alloc, &mut all[1..]),
-        Err(GatherFault::Missing(_))
-    );
-    assert!(rt; missing);
-    assert!(rt; words.gather(alloc, all).is_ok());
-    assert_eq!(rt; (callers[0].own, callers[1].own), (7, 8));
+    let missing = misses(alloc, &words, &mut all[1..]);
+    let found = words.gather(alloc, all).is_ok();
+    let own = (callers[0].own, callers[1].own);
+    let numbers = (callers[0].pass.number(), callers[1].pass.number());
     assert_eq!(rt;
-        (callers[0].pass.number(), callers[1].pass.number()),
-        (1, 2)
+        ((missing, found), own, numbers),
+        ((true, true), (7, 8), (1, 2))
     );
     Ok(())
 }
@@ -128,11 +138,9 @@ fn none_drawn<J: Naming, R: Abort>(
 {
     let words = opened.named::<J>();
     let mut none: Vec<Pass<Text, Text, J>> = Vec::new(alloc);
-    assert!(rt; words.gather(alloc, &mut none).is_ok());
-    let Some(_one) = entered(&words) else {
-        return Err(Fail::from("no pass"));
-    };
-    let missing = matches!(words.gather(alloc, &mut none), Err(GatherFault::Missing(_)));
-    assert!(rt; missing);
+    let found = words.gather(alloc, &mut none).is_ok();
+    let drawn = entered(&words).is_some();
+    let missing = misses(alloc, &words, &mut none);
+    assert_eq!(rt; (found, drawn, missing), (true, true, true));
     Ok(())
 }

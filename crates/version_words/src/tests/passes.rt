@@ -1,13 +1,10 @@
 //! Words that are replaced, moved, told to another pass and set where an expected value stands.
-ghost use Rattle.std.specs.Prelude.{◌≡◌, false};
-ghost use Rattle.version_words.specs.Rows.{limits_of};
 
+use super::case::{Case, Said, played};
 use super::{Sample, Unvouched};
-use crate::{Change, Naming, Opened, Probe, Sizes};
+use crate::{Change, Installed, Naming, Opened, Pass, Probe, Sizes, Words};
 use far_object::{Memory, Object, Text};
 use std::alloc::Global;
-use std::marker::Brand;
-use std::process::Abort;
 use std::test::Fail;
 use table_core::word::{EMPTY_PLACE, FAR_PLACE};
 
@@ -20,170 +17,144 @@ fn opened(alloc: Global) -> Result<Opened<Text, Text, Unvouched>, Memory> {
     Opened::open(alloc, sizes)
 }
 
-#[test]
-fn a_replaced_word_is_a_spare(rt: HostRuntime) -> Result<(), Fail> {
-    replaced::<Brand, _>(&rt, rt.alloc(), opened(rt.alloc())?)
+/// The word and the bucket of the spare that an install left.
+pub fn spare_of<J: Naming>(installed: &Installed<Text, Text, J>) -> Option<(u64, u32)> {
+    let spare = installed.spare.as_ref()?;
+    Some((spare.word(), spare.bucket()))
 }
 
-fn replaced<J: Naming, R: Abort>(
-    rt: &R,
-    alloc: Global,
-    opened: Opened<Text, Text, Unvouched>,
-) -> Result<(), Fail>
-    requires book { opened.book ≡ J.book }
-    requires boards { opened.names ≡ J.names }
-    requires limits { limits_of opened.sizes false ≡ J.limits }
-{
-    let words = opened.named::<J>();
-    let b = Sample::new(alloc, &words, b"b", b"1")?;
-    assert_eq!(rt; b.bucket, 1);
-    let Ok(mut pass) = words.enter() else {
-        return Err(Fail::from("no pass"));
+#[test]
+fn a_replaced_word_is_a_spare(rt: HostRuntime) -> Result<(), Fail> {
+    let found = played(rt.alloc(), opened(rt.alloc())?, b"b", Case::Replace)?;
+    let wanted = Said::Replaced {
+        bucket: 1,
+        second: (50_331_646, Some((16_777_216, 1))),
+        third: (50_331_648, None),
     };
-    let old = words.look(&mut pass, b.bucket);
-    let one = words.name(&mut pass, b.bucket, &b.object)?;
+    assert_eq!(rt; found, wanted);
+    Ok(())
+}
+
+pub fn replace<J: Naming>(
+    alloc: Global,
+    words: &Words<Text, Text, J>,
+    pass: &mut Pass<Text, Text, J>,
+    b: &Sample<J>,
+) -> Result<Said, Fail> {
+    let old = words.look(pass, b.bucket);
+    let one = words.name(pass, b.bucket, &b.object)?;
     let put = Change::Put(&b.key, &b.value);
-    let Ok(first) = words.install(&mut pass, b.bucket, old, one, 0, &put) else {
+    let Ok(first) = words.install(pass, b.bucket, old, one, 0, &put) else {
         return Err(Fail::from("no first word"));
     };
     let empty = Object::empty(alloc)?;
-    let two = words.name(&mut pass, b.bucket, &empty)?;
+    let two = words.name(pass, b.bucket, &empty)?;
     let remove = Change::Remove(&b.key);
-    let Ok(second) = words.install(&mut pass, b.bucket, first.word, two, EMPTY_PLACE, &remove)
-    else {
+    let Ok(second) = words.install(pass, b.bucket, first.word, two, EMPTY_PLACE, &remove) else {
         return Err(Fail::from("no second word"));
     };
-    assert_eq!(rt; second.word, 50_331_646);
-    match &second.spare {
-        Some(spare) => assert_eq!(rt; (spare.word(), spare.bucket()), (16_777_216, 1)),
-        None => assert!(rt; false),
-    }
-    let three = words.name(&mut pass, b.bucket, &b.object)?;
-    let Ok(third) = words.install(&mut pass, b.bucket, second.word, three, 0, &put) else {
+    let three = words.name(pass, b.bucket, &b.object)?;
+    let Ok(third) = words.install(pass, b.bucket, second.word, three, 0, &put) else {
         return Err(Fail::from("no third word"));
     };
-    assert_eq!(rt; third.word, 50_331_648);
-    assert!(rt; third.spare.is_none());
-    Ok(())
+    Ok(Said::Replaced {
+        bucket: b.bucket,
+        second: (second.word, spare_of(&second)),
+        third: (third.word, spare_of(&third)),
+    })
 }
 
 #[test]
 fn a_word_moves_to_the_device(rt: HostRuntime) -> Result<(), Fail> {
-    moved::<Brand, _>(&rt, rt.alloc(), opened(rt.alloc())?)
+    let found = played(rt.alloc(), opened(rt.alloc())?, b"a", Case::MoveOut)?;
+    assert_eq!(rt; found, Said::MovedOut((50_331_647, Some((16_777_216, 0)))));
+    Ok(())
 }
 
-fn moved<J: Naming, R: Abort>(
-    rt: &R,
-    alloc: Global,
-    opened: Opened<Text, Text, Unvouched>,
-) -> Result<(), Fail>
-    requires book { opened.book ≡ J.book }
-    requires boards { opened.names ≡ J.names }
-    requires limits { limits_of opened.sizes false ≡ J.limits }
-{
-    let words = opened.named::<J>();
-    let a = Sample::new(alloc, &words, b"a", b"1")?;
-    let Ok(mut pass) = words.enter() else {
-        return Err(Fail::from("no pass"));
-    };
-    let old = words.look(&mut pass, a.bucket);
-    let one = words.name(&mut pass, a.bucket, &a.object)?;
+pub fn move_out<J: Naming>(
+    words: &Words<Text, Text, J>,
+    pass: &mut Pass<Text, Text, J>,
+    a: &Sample<J>,
+) -> Result<Said, Fail> {
+    let old = words.look(pass, a.bucket);
+    let one = words.name(pass, a.bucket, &a.object)?;
     let put = Change::Put(&a.key, &a.value);
-    let Ok(near) = words.install(&mut pass, a.bucket, old, one, 0, &put) else {
+    let Ok(near) = words.install(pass, a.bucket, old, one, 0, &put) else {
         return Err(Fail::from("no near word"));
     };
-    let two = words.name(&mut pass, a.bucket, &a.object)?;
-    let Ok(far) = words.install(
-        &mut pass,
-        a.bucket,
-        near.word,
-        two,
-        FAR_PLACE,
-        &Change::Move,
-    ) else {
+    let two = words.name(pass, a.bucket, &a.object)?;
+    let change = Change::Move;
+    let Ok(far) = words.install(pass, a.bucket, near.word, two, FAR_PLACE, &change) else {
         return Err(Fail::from("no far word"));
     };
-    assert_eq!(rt; far.word, 50_331_647);
-    match &far.spare {
-        Some(spare) => assert_eq!(rt; spare.word(), 16_777_216),
-        None => assert!(rt; false),
-    }
-    Ok(())
+    Ok(Said::MovedOut((far.word, spare_of(&far))))
 }
 
 #[test]
 fn a_pass_learns_of_a_word(rt: HostRuntime) -> Result<(), Fail> {
-    told::<Brand, _>(&rt, rt.alloc(), opened(rt.alloc())?)
+    let found = played(rt.alloc(), opened(rt.alloc())?, b"a", Case::Tell)?;
+    let wanted = Said::Told {
+        passes: (1, 2),
+        checked: Ok(()),
+        standing: 16_777_216,
+    };
+    assert_eq!(rt; found, wanted);
+    Ok(())
 }
 
-// The second pass checks a word that it never looked at: a mark of the first one told it.
-fn told<J: Naming, R: Abort>(
-    rt: &R,
-    alloc: Global,
-    opened: Opened<Text, Text, Unvouched>,
-) -> Result<(), Fail>
-    requires book { opened.book ≡ J.book }
-    requires boards { opened.names ≡ J.names }
-    requires limits { limits_of opened.sizes false ≡ J.limits }
-{
-    let words = opened.named::<J>();
-    let a = Sample::new(alloc, &words, b"a", b"1")?;
-    let Ok(mut one) = words.enter() else {
-        return Err(Fail::from("no first pass"));
-    };
+pub fn tell<J: Naming>(
+    words: &Words<Text, Text, J>,
+    one: &mut Pass<Text, Text, J>,
+    a: &Sample<J>,
+) -> Result<Said, Fail> {
     let Ok(mut two) = words.enter() else {
         return Err(Fail::from("no second pass"));
     };
-    assert_eq!(rt; (one.number(), two.number()), (1, 2));
     let before = one.mark();
-    let old = words.look(&mut one, a.bucket);
-    let name = words.name(&mut one, a.bucket, &a.object)?;
+    let old = words.look(one, a.bucket);
+    let name = words.name(one, a.bucket, &a.object)?;
     let put = Change::Put(&a.key, &a.value);
-    let Ok(installed) = words.install(&mut one, a.bucket, old, name, 0, &put) else {
+    let Ok(installed) = words.install(one, a.bucket, old, name, 0, &put) else {
         return Err(Fail::from("no word"));
     };
     let mark = one.mark();
     words.learn(&mut two, &mark);
     let get = Probe::Get(&a.key);
-    assert_eq!(rt;
-        words.check(&mut two, a.bucket, installed.word, &get),
-        Ok(())
-    );
+    let checked = words.check(&mut two, a.bucket, installed.word, &get);
     words.learn(&mut two, &before);
-    assert_eq!(rt; words.look(&mut two, a.bucket), 16_777_216);
-    Ok(())
+    Ok(Said::Told {
+        passes: (one.number(), two.number()),
+        checked,
+        standing: words.look(&mut two, a.bucket),
+    })
 }
 
 #[test]
 fn a_value_is_set_where_another_is_expected(rt: HostRuntime) -> Result<(), Fail> {
-    expected::<Brand, _>(&rt, rt.alloc(), opened(rt.alloc())?)
+    let found = played(rt.alloc(), opened(rt.alloc())?, b"a", Case::Expect)?;
+    let wanted = Said::Expected {
+        word: 16_777_216,
+        checked: Ok(()),
+    };
+    assert_eq!(rt; found, wanted);
+    Ok(())
 }
 
-fn expected<J: Naming, R: Abort>(
-    rt: &R,
-    alloc: Global,
-    opened: Opened<Text, Text, Unvouched>,
-) -> Result<(), Fail>
-    requires book { opened.book ≡ J.book }
-    requires boards { opened.names ≡ J.names }
-    requires limits { limits_of opened.sizes false ≡ J.limits }
-{
-    let words = opened.named::<J>();
-    let a = Sample::new(alloc, &words, b"a", b"1")?;
-    let Ok(mut pass) = words.enter() else {
-        return Err(Fail::from("no pass"));
-    };
-    let old = words.look(&mut pass, a.bucket);
-    let name = words.name(&mut pass, a.bucket, &a.object)?;
+pub fn expect<J: Naming>(
+    words: &Words<Text, Text, J>,
+    pass: &mut Pass<Text, Text, J>,
+    a: &Sample<J>,
+) -> Result<Said, Fail> {
+    let old = words.look(pass, a.bucket);
+    let name = words.name(pass, a.bucket, &a.object)?;
     let met = Change::PutIf(&a.key, None, &a.value);
-    let Ok(installed) = words.install(&mut pass, a.bucket, old, name, 0, &met) else {
+    let Ok(installed) = words.install(pass, a.bucket, old, name, 0, &met) else {
         return Err(Fail::from("no word"));
     };
-    assert_eq!(rt; installed.word, 16_777_216);
     let unmet = Probe::PutIf(&a.key, None, &a.value);
-    assert_eq!(rt;
-        words.check(&mut pass, a.bucket, installed.word, &unmet),
-        Ok(())
-    );
-    Ok(())
+    let checked = words.check(pass, a.bucket, installed.word, &unmet);
+    Ok(Said::Expected {
+        word: installed.word,
+        checked,
+    })
 }

@@ -44,8 +44,7 @@ fn sent<J: Naming + Send + Sync, R: Threads + Abort + Sync>(
         return Err(Fail::from("no spare"));
     };
     let (found, drawn) = join(rt, || never_found(&words, pass, spare), || entered(&words));
-    assert_eq!(rt; found, Some((16_777_219, 0)));
-    assert!(rt; drawn.is_some());
+    assert_eq!(rt; (found, drawn.is_some()), (Some((16_777_219, 0)), true));
     Ok(())
 }
 
@@ -210,32 +209,31 @@ fn by_four<J: Naming + Send + Sync, R: Threads + Sync>(
     one.with(two)
 }
 
-// Every name was drawn once, every word that was replaced was handed out once, and in each bucket stands the newest word.
-fn assert_totals<J: Naming, R: Abort>(
-    rt: &R,
+// The sum of the words that stand, and whether in each bucket the newest does.
+fn standing<J: Naming>(
     words: &Words<Text, Text, J>,
+    pass: &mut Pass<Text, Text, J>,
     samples: &[Sample<J>; 3],
     totals: &Totals,
-) {
-    assert!(rt; totals.rising);
-    let Some(mut pass) = entered(words) else {
-        assert!(rt; false);
-        return;
-    };
-    let mut standing = 0u64;
+) -> (u64, bool) {
+    let mut sum = 0u64;
+    let mut newest = true;
     for at in 0..3 {
-        let word = words.look(&mut pass, samples[at].bucket);
-        assert_eq!(rt; word, totals.last[at]);
-        standing = standing.wrapping_add(word);
+        let word = words.look(pass, samples[at].bucket);
+        newest = newest && word == totals.last[at];
+        sum = sum.wrapping_add(word);
     }
-    assert_eq!(rt; totals.balance, standing);
-    match words.name(&mut pass, samples[0].bucket, &samples[0].object) {
-        Ok(name) => {
-            let drawn = totals.installed.wrapping_add(totals.late);
-            assert_eq!(rt; name.number(), drawn.wrapping_add(1));
-        }
-        Err(_) => assert!(rt; false),
-    }
+    (sum, newest)
+}
+
+// How many names were drawn.
+fn drawn<J: Naming>(
+    words: &Words<Text, Text, J>,
+    pass: &mut Pass<Text, Text, J>,
+    sample: &Sample<J>,
+) -> Option<u64> {
+    let name = words.name(pass, sample.bucket, &sample.object).ok()?;
+    Some(name.number().wrapping_sub(1))
 }
 
 fn samples<J: Naming>(alloc: Global, words: &Words<Text, Text, J>) -> Result<[Sample<J>; 3], Fail>
@@ -249,38 +247,20 @@ fn samples<J: Naming>(alloc: Global, words: &Words<Text, Text, J>) -> Result<[Sa
 
 #[test]
 fn two_threads(rt: HostRuntime) -> Result<(), Fail> {
-    two_share::<Brand, _>(&rt, rt.alloc(), opened(rt.alloc())?)
-}
-
-fn two_share<J: Naming + Send + Sync, R: Threads + Abort + Sync>(
-    rt: &R,
-    alloc: Global,
-    opened: Opened<Text, Text, Unvouched>,
-) -> Result<(), Fail>
-    requires book { opened.book ≡ J.book }
-    requires boards { opened.names ≡ J.names }
-    requires limits { limits_of opened.sizes false ≡ J.limits }
-{
-    let words = opened.named::<J>();
-    let samples = samples(alloc, &words)?;
-    let totals = by_two(rt, &words, &samples);
-    assert_eq!(rt;
-        totals.installed.wrapping_add(totals.late),
-        2 * u64::from(ROUNDS)
-    );
-    assert_totals(rt, &words, &samples, &totals);
-    Ok(())
+    share::<Brand, _>(&rt, rt.alloc(), opened(rt.alloc())?, 2)
 }
 
 #[test]
 fn four_threads(rt: HostRuntime) -> Result<(), Fail> {
-    four_share::<Brand, _>(&rt, rt.alloc(), opened(rt.alloc())?)
+    share::<Brand, _>(&rt, rt.alloc(), opened(rt.alloc())?, 4)
 }
 
-fn four_share<J: Naming + Send + Sync, R: Threads + Abort + Sync>(
+// Every name was drawn once, every word that was replaced was handed out once, and in each bucket stands the newest word.
+fn share<J: Naming + Send + Sync, R: Threads + Abort + Sync>(
     rt: &R,
     alloc: Global,
     opened: Opened<Text, Text, Unvouched>,
+    threads: u64,
 ) -> Result<(), Fail>
     requires book { opened.book ≡ J.book }
     requires boards { opened.names ≡ J.names }
@@ -288,11 +268,17 @@ fn four_share<J: Naming + Send + Sync, R: Threads + Abort + Sync>(
 {
     let words = opened.named::<J>();
     let samples = samples(alloc, &words)?;
-    let totals = by_four(rt, &words, &samples);
-    assert_eq!(rt;
-        totals.installed.wrapping_add(totals.late),
-        4 * u64::from(ROUNDS)
-    );
-    assert_totals(rt, &words, &samples, &totals);
+    let totals = if threads == 2 {
+        by_two(rt, &words, &samples)
+    } else {
+        by_four(rt, &words, &samples)
+    };
+    let mut pass = entered(&words).ok_or("no pass")?;
+    let (sum, newest) = standing(&words, &mut pass, &samples, &totals);
+    let names = drawn(&words, &mut pass, &samples[0]);
+    let tries = totals.installed.wrapping_add(totals.late);
+    assert_eq!(rt; tries, threads.wrapping_mul(u64::from(ROUNDS)));
+    assert_eq!(rt; (totals.balance, names), (sum, Some(tries)));
+    assert_eq!(rt; (totals.rising, newest), (true, true));
     Ok(())
 }

@@ -2,7 +2,10 @@
 ghost use Rattle.std.specs.Prelude.{◌≡◌, true};
 ghost use Rattle.version_words.specs.Rows.{limits_of};
 
-use crate::{Change, Honesty, Naming, Opened, Probe, Sizes, contents_stay, empty_holds};
+use super::entered;
+use crate::{
+    Change, Honesty, Moved, Naming, Opened, Pass, Probe, Sizes, Words, contents_stay, empty_holds,
+};
 use far_object::{Object, Text, bucket_of};
 use std::alloc::Global;
 use std::marker::Brand;
@@ -39,28 +42,33 @@ fn met<J: Naming, R: Abort>(
     requires limits { limits_of opened.sizes true ≡ J.limits }
 {
     let words = opened.named::<J>();
+    let mut pass = entered(&words).ok_or("no pass")?;
+    let found = set_twice(alloc, &words, &mut pass)?;
+    assert_eq!(rt; found, (16_777_216, Ok(())));
+    Ok(())
+}
+
+// A put_if that is met, and one that is not: the word of the first, and what the check of the second answers.
+fn set_twice<J: Naming>(
+    alloc: Global,
+    words: &Words<Text, Text, J>,
+    pass: &mut Pass<Text, Text, J>,
+) -> Result<(u64, Result<(), Moved>), Fail> {
     let pair = (Text::new(alloc, b"a")?, Text::new(alloc, b"1")?);
     let object = Object::empty(alloc)?.with(alloc, &pair.0, &pair.1)?;
     let bucket = bucket_of(&pair.0, words.buckets());
-    let Ok(mut pass) = words.enter() else {
-        return Err(Fail::from("no pass"));
-    };
-    let old = words.look(&mut pass, bucket);
+    let old = words.look(pass, bucket);
     if old != 0 {
         return Err(Fail::from("a word"));
     }
-    let name = words.name(&mut pass, bucket, &object)?;
+    let name = words.name(pass, bucket, &object)?;
     empty_holds::<Text, Text>();
     let set = Change::PutIf(&pair.0, None, &pair.1);
-    let Ok(installed) = words.install(&mut pass, bucket, old, name, 0, &set) else {
+    let Ok(installed) = words.install(pass, bucket, old, name, 0, &set) else {
         return Err(Fail::from("no word"));
     };
-    assert_eq!(rt; installed.word, 16_777_216);
     contents_stay::<Text, Text>();
     let unmet = Probe::PutIf(&pair.0, None, &pair.1);
-    assert_eq!(rt;
-        words.check(&mut pass, bucket, installed.word, &unmet),
-        Ok(())
-    );
-    Ok(())
+    let checked = words.check(pass, bucket, installed.word, &unmet);
+    Ok((installed.word, checked))
 }

@@ -3,5 +3,5 @@ use Rattle.version_words.specs.Rows.{limits_of}
 use Rattle.version_words.proofs.tests.shared.two_threads.Given as goal
 
 -- the row that was just opened
-abbrev pub ghosts-two_share : goal.ghosts-two_share
-ghosts-two_share g a = record { book = a.opened.book; names = a.opened.names; limits = limits_of a.opened.sizes false }
+abbrev pub ghosts-share : goal.ghosts-share
+ghosts-share g a = record { book = a.opened.book; names = a.opened.names; limits = limits_of a.opened.sizes false }
