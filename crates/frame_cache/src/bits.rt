@@ -36,6 +36,15 @@ impl Bits {
         }
     }
 
+    /// How many bits are set.
+    pub fn count_set(&self) -> u32 {
+        let mut count = 0u32;
+        for word in &self.words {
+            count = count.wrapping_add(word.load(SeqCst).count_ones());
+        }
+        count
+    }
+
     /// Sets the bit.
     pub fn set(&self, number: u32) {
         if let Some(word) = self.words.get((number / WORD) as usize) {
@@ -67,8 +76,7 @@ impl Bits {
 }
 
 /// A bit for each frame that is free, with one bit for each 64 of them above, so that the first is found by few loads at
-/// any number of frames. It may be wrong for a moment: a frame that it names may be gone, and one that was freed just now
-/// may not be named yet.
+/// any number of frames. It may be wrong for a moment: a frame that it names may be gone, or not yet free.
 #[derive(Drop)]
 pub struct Vacant {
     frames: Bits,
@@ -95,8 +103,11 @@ impl Vacant {
         self.words.ensure(frame / WORD);
     }
 
-    /// The frame is taken.
+    /// The frame is taken. Where it wasn't named, this costs one load, and others keep their copy of the word.
     pub fn clear(&self, frame: u32) {
+        if self.frames((frame / WORD) as usize) & bit_of(frame) == 0 {
+            return;
+        }
         let left = self.frames.clear(frame) & !bit_of(frame);
         if left == 0 {
             self.words.clear(frame / WORD);
@@ -105,6 +116,11 @@ impl Vacant {
                 self.words.set(frame / WORD);
             }
         }
+    }
+
+    /// How many frames are named.
+    pub fn count(&self) -> u32 {
+        self.frames.count_set()
     }
 
     /// Which of the 64 words from `64 * at` name free frames.

@@ -15,8 +15,14 @@
 //!
 //! # Hints
 //!
-//! Which frames are free is found by two layers of bits. Nothing is claimed of them: a call that finds no bit looks at
-//! each frame before it answers `NoFrame`.
+//! Which frames are free is found by two layers of bits. Nothing is claimed of them. A frame is named before it becomes
+//! free, and whoever takes it clears its bit afterwards, so that the lower layer names each free frame, but for those that
+//! were kept, and at rest no other. A bit of the upper layer may be missing for a moment. So a call that finds no frame by
+//! both looks through the lower layer before it answers `NoFrame`; and at each frame, once one was kept.
+//!
+//! Each free frame is named to all threads, and each that takes or frees one writes the same few words. A caller who fills
+//! the frames that it emptied itself need not: `reclaim_kept` empties a frame without naming it, and `reserve_kept` takes
+//! that frame.
 ghost use Rattle.std.specs.Prelude.{◌≡◌, ◌<◌, ◌≤◌, IfOk, IfErr, IfSome, IsTrue};
 ghost use Rattle.table_core.specs.BucketWords.{place_of, empty_place};
 ghost use Rattle.frame_cache.specs.Slots.{IsOfVersion};
@@ -34,7 +40,7 @@ use far_object::{FarObject, Memory};
 use std::alloc::Global;
 use std::marker::Model;
 use std::mem::forget;
-use std::sync::atomic::AtomicU32;
+use std::sync::atomic::AtomicBool;
 use std::sync::atomic::Ordering::SeqCst;
 use table_core::word::{name_of, place_of};
 use version_words::{Naming, Spare};
@@ -42,6 +48,9 @@ use version_words::{Naming, Spare};
 /// How many words of the upper layer of bits there may be: each names 64 words of 64 frames, and one more is there for the
 /// remainder.
 const UPPER_WORDS: u32 = 17;
+
+/// How many words of the lower layer there may be: each names 64 frames, and one more is there for the remainder.
+const MOST_WORDS: u32 = 1_025;
 
 // The bucket and the name of the version that the claim shows.
 fn told<K: FarObject, V: FarObject, J: Naming>(claim: &SlotClaim<'_, K, V, J>) -> Option<(u32, u64)>
@@ -63,7 +72,8 @@ fn told<K: FarObject, V: FarObject, J: Naming>(claim: &SlotClaim<'_, K, V, J>) -
 pub struct Frames<K: FarObject, V: FarObject, J: Naming> {
     slots: Vec<CachePadded<Slot<K, V, J>>>,
     vacant: Vacant,
-    free: CachePadded<AtomicU32>,
+    // Whether a frame was ever kept.
+    keeps: AtomicBool,
     touched: Bits,
 }
 
@@ -91,7 +101,7 @@ impl<K: FarObject, V: FarObject, J: Naming> Frames<K, V, J> {
         Ok(Frames {
             slots,
             vacant: Vacant::all(alloc, count)?,
-            free: CachePadded::new(AtomicU32::new(count)),
+            keeps: AtomicBool::new(false),
             touched: Bits::new(alloc, count)?,
         })
     }
@@ -112,9 +122,10 @@ impl<K: FarObject, V: FarObject, J: Naming> Frames<K, V, J> {
         Some(padded)
     }
 
-    // The frame where it is free.
-    fn try_reserve(&self, frame: u32) -> Option<Reserved<'_, K, V, J>>
-        ensures { IfSome result (λ reserved. reserved < self.now) }
+    /// This frame where it is free: for a frame that the caller emptied by `reclaim_kept`. No clause says when none comes.
+    pub fn reserve_kept(&self, frame: u32) -> Option<Reserved<'_, K, V, J>>
+        ensures here { IfSome result (λ reserved. reserved < self.now) }
+        ensures number { IfSome result (λ reserved. reserved ≡ frame) }
     {
         let slot = self.slot(frame)?;
         if slot.load() != FREE {
@@ -122,7 +133,6 @@ impl<K: FarObject, V: FarObject, J: Naming> Frames<K, V, J> {
         }
         let claim = take(slot, FREE).ok()?;
         self.vacant.clear(frame);
-        self.free.fetch_sub(1, SeqCst);
         Some(Reserved {
             frames: self,
             claim,
@@ -141,7 +151,7 @@ impl<K: FarObject, V: FarObject, J: Naming> Frames<K, V, J> {
                 return None;
             }
             let frame = at * WORD + bits.trailing_zeros();
-            if let Some(reserved) = self.try_reserve(frame) {
+            if let Some(reserved) = self.reserve_kept(frame) {
                 return Some(reserved);
             }
             bits &= bits - 1;
@@ -168,9 +178,9 @@ impl<K: FarObject, V: FarObject, J: Naming> Frames<K, V, J> {
     }
 
     /// A free frame for this call alone: the first that the hints name and that is free, which is the first free one at
-    /// rest. `NoFrame` comes after a look at each frame in turn, where each was taken at that look, or was taken by another
-    /// call before this one could. A frame that the hints name is looked at twice then. No clause says which frame comes,
-    /// nor when `NoFrame` does.
+    /// rest. `NoFrame` comes after a second look at all hints, and, once a frame was kept, one at each frame in turn, where
+    /// each was taken at that look, or was taken by another call before this one could. No clause says which frame comes, nor
+    /// when `NoFrame` does.
     pub fn reserve(&self) -> Result<Reserved<'_, K, V, J>, NoFrame>
         ensures here { IfOk result (λ reserved. reserved < self.now) }
     {
@@ -179,17 +189,30 @@ impl<K: FarObject, V: FarObject, J: Naming> Frames<K, V, J> {
                 return Ok(reserved);
             }
         }
-        for frame in 0..self.slots.len() {
-            if let Some(reserved) = self.try_reserve(frame as u32) {
+        for at in 0..(self.count() / WORD + 1).min(MOST_WORDS) {
+            if let Some(reserved) = self.reserve_in(at) {
                 return Ok(reserved);
+            }
+        }
+        if self.keeps.load(SeqCst) {
+            for frame in 0..self.slots.len() {
+                if let Some(reserved) = self.reserve_kept(frame as u32) {
+                    return Ok(reserved);
+                }
             }
         }
         Err(NoFrame)
     }
 
-    // Says that the frame is free.
-    pub(crate) fn vacate(&self, frame: u32) {
-        self.free.fetch_add(1, SeqCst);
+    // Frames are looked for one by one from now on, before none is said to be free.
+    pub(crate) fn note_kept(&self) {
+        if !self.keeps.load(SeqCst) {
+            self.keeps.store(true, SeqCst);
+        }
+    }
+
+    // Names the frame as free, which it is to become right after this.
+    pub(crate) fn announce(&self, frame: u32) {
         self.vacant.set(frame);
     }
 
@@ -226,6 +249,25 @@ impl<K: FarObject, V: FarObject, J: Naming> Frames<K, V, J> {
         ensures back { IfErr result (λ s. s ≡ spare) }
         ensures here { IfOk result (λ emptied. IsTrue emptied → place_of spare.word < self.now) }
     {
+        self.reclaim_as(spare, false)
+    }
+
+    /// As `reclaim`, and an emptied frame is not named as free: `free` does not count it, and `reserve` finds it only where
+    /// no free frame is named. `reserve_kept` takes it; where it is cancelled then, it is named.
+    pub fn reclaim_kept(&self, spare: Spare<K, V, J>) -> Result<bool, Spare<K, V, J>>
+        requires frame { place_of spare.word < empty_place }
+        ensures back { IfErr result (λ s. s ≡ spare) }
+        ensures here { IfOk result (λ emptied. IsTrue emptied → place_of spare.word < self.now) }
+    {
+        self.reclaim_as(spare, true)
+    }
+
+    // The frame is kept, or else named as free.
+    fn reclaim_as(&self, spare: Spare<K, V, J>, kept: bool) -> Result<bool, Spare<K, V, J>>
+        requires frame { place_of spare.word < empty_place }
+        ensures back { IfErr result (λ s. s ≡ spare) }
+        ensures here { IfOk result (λ emptied. IsTrue emptied → place_of spare.word < self.now) }
+    {
         let frame = place_of(spare.word());
         let name = name_of(spare.word());
         let word = word_of(name);
@@ -241,6 +283,10 @@ impl<K: FarObject, V: FarObject, J: Naming> Frames<K, V, J> {
         };
         scope.close();
         match take(slot, word) {
+            Ok(claim) if kept => {
+                self.note_kept();
+                Ok(self.take_out(claim, spare, frame))
+            }
             Ok(claim) => Ok(self.empty(claim, spare, frame)),
             Err(found) => {
                 if unread(found) == word {
@@ -251,7 +297,7 @@ impl<K: FarObject, V: FarObject, J: Naming> Frames<K, V, J> {
         }
     }
 
-    // Takes out what lies there, and ends it where it is the spare's. Else it is put back.
+    // As `take_out`, and the frame is named as free.
     pub(crate) fn empty(
         &self,
         claim: SlotClaim<'_, K, V, J>,
@@ -261,9 +307,16 @@ impl<K: FarObject, V: FarObject, J: Naming> Frames<K, V, J> {
         requires writes { claim.right ≡ 2 }
         requires number { claim.tag ≡ frame }
     {
-        let found = claim.put(None, FREE);
-        self.vacate(frame);
-        let Some(lodged) = found else {
+        self.announce(frame);
+        self.take_out(claim, spare, frame)
+    }
+
+    // Takes out what lies there, and ends it where it is the spare's. Else it is put back.
+    fn take_out(&self, claim: SlotClaim<'_, K, V, J>, spare: Spare<K, V, J>, frame: u32) -> bool
+        requires writes { claim.right ≡ 2 }
+        requires number { claim.tag ≡ frame }
+    {
+        let Some(lodged) = claim.put(None, FREE) else {
             return false;
         };
         match retire(lodged.into_version(), &spare) {
@@ -278,7 +331,7 @@ impl<K: FarObject, V: FarObject, J: Naming> Frames<K, V, J> {
     // Puts the version where it lay. Where another call has the frame by now the version stays in memory for good: it is
     // never dropped, since its bucket may still name it.
     pub(crate) fn put_back(&self, version: Version<K, V, J>, frame: u32) {
-        match self.try_reserve(frame) {
+        match self.reserve_kept(frame) {
             Some(reserved) => {
                 reserved.fill(version);
             }
@@ -286,9 +339,10 @@ impl<K: FarObject, V: FarObject, J: Naming> Frames<K, V, J> {
         }
     }
 
-    /// How many frames are free: a hint, of which no clause says anything. At rest the tests find it exact.
+    /// How many frames are free, but for those that were kept: a hint, of which no clause says anything. At rest the tests
+    /// find it exact. It looks at a word for each 64 frames.
     pub fn free(&self) -> u32 {
-        self.free.load(SeqCst)
+        self.vacant.count()
     }
 
     /// Says that the frame was read. Nothing is claimed of it.

@@ -60,7 +60,21 @@ impl<'a, K: FarObject, V: FarObject, J: Naming> Reserved<'a, K, V, J> {
             claim,
             frame,
         } = self;
+        frames.announce(frame);
         forget(claim.put(None, FREE));
-        frames.vacate(frame);
+    }
+
+    /// Leaves the frame free without naming it, as `Frames::reclaim_kept` does, and answers its number.
+    pub fn keep(self) -> u32
+        ensures { result ≡ self.entry }
+    {
+        let Self {
+            frames,
+            claim,
+            frame,
+        } = self;
+        frames.note_kept();
+        forget(claim.put(None, FREE));
+        frame
     }
 }

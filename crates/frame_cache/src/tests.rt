@@ -4,6 +4,7 @@ ghost use Rattle.std.specs.Prelude.{◌≡◌, ◌<◌, false};
 
 mod absent;
 mod hints;
+mod kept;
 mod put_back;
 mod readers;
 mod retired;

@@ -17,6 +17,7 @@ mod limbo;
 mod moving;
 mod opening;
 mod reading;
+mod recycling;
 mod refusal;
 mod round;
 mod scope;

@@ -180,7 +180,7 @@ impl<K: FarObject, V: FarObject, J: Naming, D: Device> FarTable<K, V, J, D> {
                 Err(LaneFault::Memory) => Err((spare, ReclaimFault::Memory)),
                 Err(LaneFault::Device) => Err((spare, ReclaimFault::Device)),
             },
-            _ => match self.frames.reclaim(spare) {
+            _ => match self.reclaim_frame(&mut caller.limbo, spare) {
                 Ok(there) => Ok(there),
                 Err(back) => Err((back, ReclaimFault::Held)),
             },

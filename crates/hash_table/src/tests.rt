@@ -14,6 +14,7 @@ mod limits;
 mod marks;
 mod one_caller;
 mod opening;
+mod recycling;
 mod script;
 mod shared;
 

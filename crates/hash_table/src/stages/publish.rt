@@ -71,14 +71,14 @@ impl<K: FarObject, V: FarObject, J: Naming, D: Device> FarTable<K, V, J, D> {
         ensures goes { IfErr result (λ _. Goes pass.old pass.new) }
         ensures why { IfErr result (λ e. IsUnpublished K.enc J.limits b old pass.old pass.new e) }
     {
-        let Ok(reserved) = self.frames.reserve() else {
+        let Ok(reserved) = self.reserve(limbo) else {
             let _front = pass.mark();
             return Err(Refusal::NoFrame);
         };
         let name = match self.draw(pass, b, old, &object, change) {
             Ok(name) => name,
             Err(refusal) => {
-                reserved.cancel();
+                self.cancel(limbo, reserved);
                 return Err(refusal);
             }
         };

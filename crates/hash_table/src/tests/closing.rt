@@ -6,8 +6,8 @@ ghost use Rattle.hash_table.specs.Configs.{sizes_of};
 use super::damaged::canned;
 use super::failing::failing;
 use super::{User, number_of, opened, settings};
-use crate::{CloseFault, FarTable, Opening, Refusal};
-use far_device::{Device, FakeDevice};
+use crate::{CloseFault, Config, FarTable, Opening, Refusal};
+use far_device::{CannedDevice, Device, FakeDevice, FaultyDevice};
 use far_object::Text;
 use std::alloc::Global;
 use std::marker::Brand;
@@ -214,46 +214,79 @@ fn put_far_and_near<J: Naming, R: Wait>(
 #[test]
 fn a_failed_read_leaves_the_table_open(rt: HostRuntime) -> Result<(), Fail> {
     // The device is written to, and then read at the end.
-    meets(&rt, failing(rt.alloc(), 2)?, Refusal::Device)
+    meets(&rt, failing(rt.alloc(), 2)?, b"a", Refusal::Device)
 }
 
 #[test]
 fn other_bytes_leave_the_table_open(rt: HostRuntime) -> Result<(), Fail> {
-    meets(&rt, canned(rt.alloc(), &[5, 6, 7])?, Refusal::Damaged)
+    meets(&rt, canned(rt.alloc(), &[5, 6, 7])?, b"a", Refusal::Damaged)
+}
+
+/// A table over two lanes, whose devices give other bytes, and of which one fails at its first read after a write.
+fn failing_at(
+    alloc: Global,
+    failing: usize,
+) -> Result<Opening<Text, Text, FaultyDevice<CannedDevice<FakeDevice>>>, Fail> {
+    let mut devices = Vec::new(alloc);
+    for lane in 0..2 {
+        let bytes = Vec::from_slice(alloc, &[5, 6, 7])?;
+        let device = CannedDevice::new(FakeDevice::new(alloc), bytes);
+        let k = if lane == failing { 2 } else { u64::MAX };
+        devices.push(FaultyDevice::new(device, k))?;
+    }
+    let config = Config {
+        lanes: 2,
+        ..settings()
+    };
+    Ok(Opening::open(alloc, config, devices)?)
+}
+
+// The key a is of the bucket 0, and swapped out under the name 3, to lane 1. The key b, of the bucket 1, goes to lane 0.
+#[test]
+fn the_first_bad_bucket_is_told(rt: HostRuntime) -> Result<(), Fail> {
+    meets(&rt, failing_at(rt.alloc(), 1)?, b"ab", Refusal::Device)?;
+    meets(&rt, failing_at(rt.alloc(), 0)?, b"ab", Refusal::Damaged)
 }
 
 fn meets<D: Device, R: Alloc<A = Global> + Wait + Abort>(
     rt: &R,
     opening: Opening<Text, Text, D>,
+    keys: &[u8],
     wanted: Refusal,
 ) -> Result<(), Fail> {
-    fault_of_close::<Brand, D, R>(rt, rt.alloc(), opening, wanted)
+    fault_of_close::<Brand, D, R>(rt, rt.alloc(), opening, keys, wanted)
 }
 
 fn fault_of_close<J: Naming, D: Device, R: Wait + Abort>(
     rt: &R,
     alloc: Global,
     opening: Opening<Text, Text, D>,
+    keys: &[u8],
     wanted: Refusal,
 ) -> Result<(), Fail>
     requires book { opening.row.book ≡ J.book }
     requires boards { opening.row.names ≡ J.names }
     requires limits { limits_of (sizes_of opening.config) D.HONEST ≡ J.limits }
 {
-    let met = met_at_the_end(rt, alloc, opening.named::<J>(alloc)?);
+    let met = met_at_the_end(rt, alloc, opening.named::<J>(alloc)?, keys);
     assert_eq!(rt; met, Some(wanted));
     Ok(())
 }
 
-// A table whose one pair lies on the device is not closed.
+// A table whose pairs, with keys of one letter, lie on devices is not closed.
 fn met_at_the_end<J: Naming, D: Device, R: Wait>(
     rt: &R,
     alloc: Global,
     table: FarTable<Text, Text, J, D>,
+    keys: &[u8],
 ) -> Option<Refusal> {
     let mut user = User::enter(alloc, &table)?;
-    user.put(rt, b"a", 1).ok()?;
-    user.swap_out(rt, 0).ok()?;
+    for key in keys {
+        user.put(rt, &[*key], 1).ok()?;
+    }
+    for frame in 0..keys.len() {
+        user.swap_out(rt, u32::try_from(frame).ok()?).ok()?;
+    }
     let callers = Vec::from_array(alloc, [user.into_caller()]).ok()?;
     match table.close(rt, alloc, callers) {
         Err((CloseFault::Device, _, _)) => Some(Refusal::Device),

@@ -4,6 +4,7 @@ ghost use Rattle.version_words.specs.Rows.{limits_of};
 ghost use Rattle.hash_table.specs.Configs.{sizes_of};
 
 use super::held::put_under_reader;
+use super::recycling::{put_and_reclaim, put_by_another};
 use super::{Answer, User};
 use crate::{BucketState, Opening, ReclaimFault, Refusal};
 use far_device::Device;
@@ -35,6 +36,12 @@ pub enum Step {
     SwapOut(u32),
     /// Puts over a value that is read meanwhile.
     PutUnderReader,
+    /// Another caller, who enters for this, puts a value.
+    PutByAnother(u8, u32),
+    /// Puts 1, 2 and so on up to this value, and reclaims each spare.
+    PutsAndReclaims(u8, u32),
+    Recycle,
+    StopRecycling,
     /// Reclaims the oldest spare, which is the oldest again where that is refused.
     Reclaim,
     /// Takes the oldest spare out, and holds it.
@@ -162,6 +169,21 @@ impl Step {
             Step::Fetch(key) => Said::done(user.fetch(rt, &[key])),
             Step::SwapOut(frame) => Said::done(user.swap_out(rt, frame)),
             Step::PutUnderReader => Said::done(put_under_reader(rt, user)),
+            Step::PutByAnother(key, value) => Said::value(put_by_another(user, &[key], value)),
+            Step::PutsAndReclaims(key, most) => Said::Count(put_and_reclaim(
+                rt,
+                user,
+                &[key],
+                most,
+            )),
+            Step::Recycle => {
+                user.caller.recycle();
+                Said::Nothing
+            }
+            Step::StopRecycling => {
+                user.table.stop_recycling(&mut user.caller);
+                Said::Nothing
+            }
             Step::Reclaim => Said::reclaimed(user.reclaim(rt)),
             Step::Take => Said::Is(user.take()),
             Step::PutBack => Said::Is(user.put_back()),

@@ -7,5 +7,5 @@ returns-in-16777214-clause-reclaimed g c = reclaimed c.args.spare
 pub returns-in-Ok-clause-reclaimed : goal.returns-in-Ok-clause-reclaimed
 returns-in-Ok-clause-reclaimed g c = reclaimed c.args.spare
 
-pub returns-in-Ok-reclaim-clause-reclaimed : goal.returns-in-Ok-reclaim-clause-reclaimed
-returns-in-Ok-reclaim-clause-reclaimed g c = reclaimed c.args.spare
+pub returns-in-Ok-reclaim_frame-clause-reclaimed : goal.returns-in-Ok-reclaim_frame-clause-reclaimed
+returns-in-Ok-reclaim_frame-clause-reclaimed g c = reclaimed c.args.spare

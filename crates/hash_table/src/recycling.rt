@@ -1,0 +1,116 @@
+//! A frame that a caller emptied itself, and keeps for its next object.
+//!
+//! A caller who reclaims its own spares empties a frame for each that it fills. Where each is named to all threads as free,
+//! and the next one is looked for among those, all callers write the same few words at every change, and wait for one
+//! another. A caller who recycles fills the frame that it emptied, and writes none of these words.
+//!
+//! A kept frame is free, and reserved for nobody: where no other frame is named as free, a look at each finds it. Its
+//! caller finds it gone then, and looks for another one.
+ghost use Rattle.std.specs.Prelude.{◌≡◌, ◌<◌, IfOk, IfErr};
+ghost use Rattle.table_core.specs.BucketWords.{place_of, empty_place};
+
+use crate::caller::Caller;
+use crate::limbo::Limbo;
+use crate::table::FarTable;
+use far_device::Device;
+use far_object::FarObject;
+use frame_cache::{NoFrame, Reserved};
+use table_core::word::place_of;
+use version_words::{Naming, Spare};
+
+/// Whether a caller keeps a frame, and which one it has.
+#[derive(Clone, Copy, Debug, PartialEq, Eq)]
+pub enum Recycling {
+    /// It keeps none.
+    Off,
+    /// It has none, and keeps the next one that it empties.
+    Wanting,
+    /// It has the frame of this number.
+    Kept(u32),
+}
+
+impl<K: FarObject, V: FarObject, J: Naming> Caller<K, V, J> {
+    /// From now on the caller keeps one of the frames that it empties by `FarTable::reclaim`, and fills it by the next of
+    /// its calls that needs a frame. For a caller that reclaims its own spares: several such callers don't contend for the
+    /// same free frames. No contract speaks of it, since none says which frame is filled.
+    ///
+    /// While it is kept, `FarTable::free` does not count the frame, and others find it by a look at each frame alone, where
+    /// no other one is free. So it stays also where the caller is dropped; `FarTable::stop_recycling` gives it back. A table
+    /// that is closed has no use of it.
+    pub fn recycle(&mut self)
+        ensures pass { self.new.pass ≡ self.old.pass }
+        ensures limbo { self.new.limbo ≡ self.old.limbo }
+    {
+        if self.limbo.recycling() == Recycling::Off {
+            self.limbo.set_recycling(Recycling::Wanting);
+        }
+    }
+}
+
+impl<K: FarObject, V: FarObject, J: Naming, D: Device> FarTable<K, V, J, D> {
+    /// From now on the caller keeps no frame that it empties. The one that it has is free for all.
+    pub fn stop_recycling(&self, caller: &mut Caller<K, V, J>)
+        ensures pass { caller.new.pass ≡ caller.old.pass }
+        ensures limbo { caller.new.limbo ≡ caller.old.limbo }
+    {
+        if let Recycling::Kept(frame) = caller.limbo.recycling() {
+            if let Some(reserved) = self.frames.reserve_kept(frame) {
+                reserved.cancel();
+            }
+        }
+        caller.limbo.set_recycling(Recycling::Off);
+    }
+
+    /// A free frame: the one that the caller has, where it still is free, or else any.
+    pub(crate) fn reserve(
+        &self,
+        limbo: &mut Limbo<K, V, J>,
+    ) -> Result<Reserved<'_, K, V, J>, NoFrame>
+        ensures here { IfOk result (λ reserved. reserved < self.now.frames) }
+        ensures limbo { limbo.new ≡ limbo.old }
+    {
+        if let Recycling::Kept(frame) = limbo.recycling() {
+            limbo.set_recycling(Recycling::Wanting);
+            if let Some(reserved) = self.frames.reserve_kept(frame) {
+                return Ok(reserved);
+            }
+        }
+        self.frames.reserve()
+    }
+
+    /// Leaves the frame free: for the caller where it keeps the next one, and else for all.
+    pub(crate) fn cancel(&self, limbo: &mut Limbo<K, V, J>, reserved: Reserved<'_, K, V, J>)
+        ensures limbo { limbo.new ≡ limbo.old }
+    {
+        if limbo.recycling() == Recycling::Wanting {
+            limbo.set_recycling(Recycling::Kept(reserved.keep()));
+        } else {
+            reserved.cancel();
+        }
+    }
+
+    /// Empties the frame of the spare's word. The caller has it afterwards where it keeps the next one.
+    pub(crate) fn reclaim_frame(
+        &self,
+        limbo: &mut Limbo<K, V, J>,
+        spare: Spare<K, V, J>,
+    ) -> Result<bool, Spare<K, V, J>>
+        requires frame { place_of spare.word < empty_place }
+        ensures back { IfErr result (λ s. s ≡ spare) }
+        ensures limbo { limbo.new ≡ limbo.old }
+    {
+        if limbo.recycling() != Recycling::Wanting {
+            return self.frames.reclaim(spare);
+        }
+        let frame = place_of(spare.word());
+        match self.frames.reclaim_kept(spare) {
+            Ok(emptied) => {
+                if emptied {
+                    limbo.set_recycling(Recycling::Kept(frame));
+                }
+                Ok(emptied)
+            }
+            Err(spare) => Err(spare),
+        }
+    }
+}
