@@ -5,6 +5,7 @@ mod bare;
 mod evicting;
 mod frames;
 mod lanes;
+mod mixed;
 mod plain;
 mod replay;
 mod setting;
@@ -17,11 +18,11 @@ mod words;
 use anyhow::{Result, bail};
 use std::alloc::Global;
 use std::env;
-use std::rt::{Clock, Env};
+use std::rt::{Clock, Env, Files};
 use std::sync::Wait;
 use std::thread::Threads;
 
-fn run<R: Alloc<A = Global> + Clock + Env + Input + Print + Threads + Wait + Sync>(
+fn run<R: Alloc<A = Global> + Clock + Env + Files + Input + Print + Threads + Wait + Sync>(
     rt: &R,
 ) -> Result<()> {
     let mut words = env::args(rt)?.skip(1);
@@ -34,6 +35,7 @@ fn run<R: Alloc<A = Global> + Clock + Env + Input + Print + Threads + Wait + Syn
         println!(rt; "       farbench far BUCKETS")?;
         println!(rt; "       farbench swapper ROUNDS")?;
         println!(rt; "       farbench plain BUCKETS <FILE")?;
+        println!(rt; "       farbench mixed VALUE FRAMES")?;
         return Ok(());
     };
     let count = count.as_str().parse::<u32>()?;
@@ -46,6 +48,7 @@ fn run<R: Alloc<A = Global> + Clock + Env + Input + Print + Threads + Wait + Syn
         ("table", Some(rounds)) => table::measure(rt, count, rounds.as_str().parse::<u32>()?),
         ("swapper", None) => evicting::measure(rt, count),
         ("plain", None) => plain::run(rt, count),
+        ("mixed", Some(frames)) => mixed::measure(rt, count, frames.as_str().parse::<u32>()?),
         _ => bail!("no such benchmark: without arguments their usage is printed"),
     }
 }

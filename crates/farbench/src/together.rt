@@ -89,6 +89,86 @@ fn timed<R: Clock + Wait, S, T: Runner<S> + Drop>(
     Some(Took { nanoseconds, lost })
 }
 
+/// When calls began and ended, in nanoseconds of one clock, and how many were not done.
+#[derive(Clone, Copy)]
+pub struct Span {
+    began: u64,
+    ended: u64,
+    pub lost: u64,
+}
+
+impl Span {
+    const NOTHING: Span = Span {
+        began: u64::MAX,
+        ended: 0,
+        lost: 0,
+    };
+
+    // From the earlier beginning to the later end.
+    fn and(self, other: Span) -> Span {
+        Span {
+            began: self.began.min(other.began),
+            ended: self.ended.max(other.ended),
+            lost: self.lost.wrapping_add(other.lost),
+        }
+    }
+
+    pub fn nanoseconds(self) -> u64 {
+        self.ended.saturating_sub(self.began)
+    }
+}
+
+fn nanoseconds_now<R: Clock>(rt: &R) -> Option<u64> {
+    u64::try_from(rt.monotonic().ok()?.as_nanos()).ok()
+}
+
+/// The rounds of one thread, with when they began and ended.
+fn spanned<R: Clock + Wait, S, T: Runner<S> + Drop>(
+    rt: &R,
+    gate: &Gate,
+    shared: &S,
+    mut runner: T,
+    rounds: u32,
+) -> Option<Span> {
+    gate.pass();
+    let began = nanoseconds_now(rt)?;
+    let lost = runner.run(rt, shared, rounds);
+    let ended = nanoseconds_now(rt)?;
+    Some(Span {
+        began,
+        ended,
+        lost: lost.words,
+    })
+}
+
+/// Runs each in a thread of its own, and answers the span from the first beginning to the last end. What threads took each
+/// for itself says little where they wait for one lock: one that has it for long is done before the others begin.
+pub fn race<R: Clock + Threads + Wait + Sync, S: Sync, T: Runner<S> + Send + Drop>(
+    rt: &R,
+    shared: &S,
+    runners: Vec<T>,
+    rounds: u32,
+) -> Result<Span> {
+    let gate = Gate {
+        threads: runners.len() as u64,
+        arrived: AtomicU64::new(0),
+    };
+    let gate = &gate;
+    let each = map_vec(
+        rt,
+        runners,
+        &|runner| spanned(rt, gate, shared, runner, rounds),
+    )?;
+    let mut all = Span::NOTHING;
+    for span in &each {
+        let Some(span) = span else {
+            bail!("the clock can't be read");
+        };
+        all = all.and(*span);
+    }
+    Ok(all)
+}
+
 /// Runs each in a thread of its own.
 pub fn together<R: Clock + Threads + Wait + Sync, S: Sync, T: Runner<S> + Send + Drop>(
     rt: &R,

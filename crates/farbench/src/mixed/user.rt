@@ -1,0 +1,118 @@
+//! One thread's calls.
+
+use super::shared::Shared;
+use crate::together::{Lost, Runner};
+use far_object::Text;
+use hash_table::{Caller, Refusal};
+use std::alloc::Global;
+use std::sync::Wait;
+use swapper::QueueNaming;
+use version_words::Naming;
+
+/// How often a put is tried before it is given up.
+const MOST_TRIES: u32 = 1_000_000;
+
+/// The most spares that wait in a caller.
+const MOST_SPARES: u32 = 64;
+
+/// A caller, the keys in the order of its calls, so that each is in the cache when it is called, and whether each call is a
+/// get.
+#[derive(Drop)]
+pub struct User<J: Naming> {
+    pub alloc: Global,
+    pub caller: Caller<Text, Text, J>,
+    pub keys: Vec<Text>,
+    pub gets: Vec<bool>,
+    pub value: Text,
+}
+
+/// Reclaims what waits in the caller, up to a spare that comes back.
+fn reclaim<R: Wait, J: Naming, B: QueueNaming>(
+    rt: &R,
+    shared: &Shared<J, B>,
+    caller: &mut Caller<Text, Text, J>,
+) {
+    for _ in 0..MOST_SPARES {
+        let Some(spare) = caller.take_spare() else {
+            return;
+        };
+        if let Err((spare, _)) = shared.table.reclaim(rt, caller, spare) {
+            let _ = caller.return_spare(spare);
+            return;
+        }
+    }
+}
+
+/// Gives the key the value. Where no frame is free it makes room and tries again.
+pub fn put<R: Wait, J: Naming, B: QueueNaming>(
+    rt: &R,
+    alloc: Global,
+    shared: &Shared<J, B>,
+    caller: &mut Caller<Text, Text, J>,
+    key: &Text,
+    value: &Text,
+) -> bool {
+    for _ in 0..MOST_TRIES {
+        let done = shared.table.put(rt, alloc, caller, key, value);
+        reclaim(rt, shared, caller);
+        match done {
+            Ok(_) => return true,
+            Err(Refusal::NoFrame) => shared.make_room(rt),
+            Err(Refusal::LimboFull) => {}
+            Err(_) => return false,
+        }
+    }
+    false
+}
+
+/// Reads the key's value, and says whether there is one.
+fn get<R: Wait, J: Naming, B: QueueNaming>(
+    rt: &R,
+    alloc: Global,
+    shared: &Shared<J, B>,
+    caller: &mut Caller<Text, Text, J>,
+    key: &Text,
+) -> bool {
+    let found = match shared.table.get(rt, alloc, caller, key) {
+        Ok(found) => found.is_some(),
+        Err(_) => false,
+    };
+    reclaim(rt, shared, caller);
+    found
+}
+
+/// Makes the call of this number.
+fn make<R: Wait, J: Naming, B: QueueNaming>(
+    rt: &R,
+    shared: &Shared<J, B>,
+    user: &mut User<J>,
+    at: usize,
+) -> bool {
+    let (Some(key), Some(is_get)) = (user.keys.get(at), user.gets.get(at)) else {
+        return false;
+    };
+    if *is_get {
+        get(rt, user.alloc, shared, &mut user.caller, key)
+    } else {
+        put(rt, user.alloc, shared, &mut user.caller, key, &user.value)
+    }
+}
+
+impl<J: Naming, B: QueueNaming> Runner<Shared<J, B>> for User<J> {
+    fn run<R: Wait>(&mut self, rt: &R, shared: &Shared<J, B>, rounds: u32) -> Lost {
+        let mut lost = Lost::NONE;
+        for at in 0..rounds {
+            if !make(rt, shared, self, at as usize) {
+                lost.words = lost.words.wrapping_add(1);
+            }
+        }
+        // A reader may still be in the frame of a spare: what is dropped with the caller stays taken.
+        for _ in 0..MOST_TRIES {
+            if self.caller.limbo_len() == 0 {
+                break;
+            }
+            reclaim(rt, shared, &mut self.caller);
+        }
+        lost
+    }
+}
