@@ -42,6 +42,17 @@ struct Sample<J: Naming> {
     ghost unvouched: { J.limits.honest ≡ false },
 }
 
+/// A key, a value and the object of this pair alone.
+fn parts(
+    alloc: Global,
+    key: &[u8],
+    value: &[u8],
+) -> Result<(Text, Text, Object<Text, Text>), Fail> {
+    let (key, value) = (Text::new(alloc, key)?, Text::new(alloc, value)?);
+    let object = Object::empty(alloc)?.with(alloc, &key, &value)?;
+    Ok((key, value, object))
+}
+
 impl<J: Naming> Sample<J> {
     fn new(
         alloc: Global,
@@ -51,9 +62,7 @@ impl<J: Naming> Sample<J> {
     ) -> Result<Sample<J>, Fail>
         requires { J.limits.honest ≡ false }
     {
-        let key = Text::new(alloc, key)?;
-        let value = Text::new(alloc, value)?;
-        let object = Object::empty(alloc)?.with(alloc, &key, &value)?;
+        let (key, value, object) = parts(alloc, key, value)?;
         let bucket = bucket_of(&key, words.buckets());
         Ok(Sample {
             key,
