@@ -101,6 +101,10 @@ fn make<R: Wait, J: Naming, B: QueueNaming>(
 impl<J: Naming, B: QueueNaming> Runner<Shared<J, B>> for User<J> {
     fn run<R: Wait>(&mut self, rt: &R, shared: &Shared<J, B>, rounds: u32) -> Lost {
         let mut lost = Lost::NONE;
+        // A user who reclaims its own spares fills the frame that it emptied. Where frames are few all look for that one.
+        if shared.reserve == 0 {
+            self.caller.recycle();
+        }
         for at in 0..rounds {
             if !make(rt, shared, self, at as usize) {
                 lost.words = lost.words.wrapping_add(1);
