@@ -35,21 +35,6 @@ fn since<R: Clock>(rt: &R, start: Instant) -> Result<u64> {
     Ok(u64::try_from(start.elapsed(rt)?.as_nanos())?)
 }
 
-// Pushes the spare and pops it: `Bench::through` on the kit's queue.
-fn through_plain<R: Wait, J: Naming>(
-    rt: &R,
-    queue: &ArrayQueue<Queued<J>>,
-    spare: Queued<J>,
-) -> Result<Queued<J>> {
-    let Ok(()) = queue.push(rt, spare) else {
-        bail!("the queue is full");
-    };
-    match queue.pop(rt) {
-        Some(taken) => Ok(taken),
-        None => bail!("the queue is empty"),
-    }
-}
-
 impl<J: Naming, B: QueueNaming> Bench<J, B> {
     pub fn new(
         alloc: Global,
@@ -172,7 +157,13 @@ impl<J: Naming, B: QueueNaming> Bench<J, B> {
         let queue = ArrayQueue::new(self.alloc, room as usize)?;
         let start = Instant::now(rt)?;
         for _ in 0..rounds {
-            spare = through_plain(rt, &queue, spare)?;
+            let Ok(()) = queue.push(rt, spare) else {
+                bail!("the queue is full");
+            };
+            let Some(taken) = queue.pop(rt) else {
+                bail!("the queue is empty");
+            };
+            spare = taken;
         }
         since(rt, start)
     }
