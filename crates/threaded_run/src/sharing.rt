@@ -1,4 +1,4 @@
-//! One worker per file, each in a thread of its own where one can be started, beside the evictor's.
+//! One worker per file, side by side as far as threads can be started, and beside the evictor's.
 ghost use Rattle.std.specs.Prelude.{◌≡◌, ◌++◌, ◌∷◌, [], map, IfOk};
 ghost use Rattle.std.specs.Thread.{IsSync, IsSend};
 ghost use Rattle.threaded_run.specs.Runs.{EndedIs, WorkedAll};

@@ -102,8 +102,7 @@ where
 /// their limits.
 ///
 /// The first file's worker has this thread. Each other has one of its own, as far as threads can be started, and so has the
-/// evictor where there is more than one file.
-/// Round each command the gate is asked and told, in the worker's thread.
+/// evictor where there is more than one file. Round each command the gate is asked and told, in the worker's thread.
 ///
 /// The faults come in the order of the work: `Device` where a device fails as it is made empty; `Passes` where there are not
 /// as many passes as files and one more; `Gate` where the gate gave up; `Write` where a write or the last flush fails;
