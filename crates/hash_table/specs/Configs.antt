@@ -1,7 +1,8 @@
 -- The limits of the settings.
-use Rattle.std.specs.Prelude.{ℕ, true, false, Some, None, min, ◌==◌, ◌+◌, ◌-◌, ◌^◌, ◌&&◌, Bool, not, nat_le, List, [], ◌∷◌, Option, option_map, position}
+use Rattle.std.specs.Prelude.{ℕ, true, false, Some, None, min, ◌==◌, ◌+◌, ◌&&◌, Bool, not, nat_le, List, [], ◌∷◌, Option, option_map, position}
 use Rattle.hash_table.specs.declared.config.Config.{Config}
 use Rattle.hash_table.specs.declared.config.Field.{Field}
+use Rattle.table_core.specs.Limits.{most_buckets, last_name, last_pass}
 use Rattle.version_words.specs.declared.sizes.Sizes.{Sizes}
 
 abbrev pub bounded : ℕ → ℕ → ℕ → Field
@@ -10,11 +11,11 @@ bounded least greatest value = record { least = least; greatest = greatest; valu
 -- the fields, in the order of their numbers
 abbrev pub fields : Config → List Field
 fields c =
-    bounded 1 65536 c.buckets
+    bounded 1 most_buckets c.buckets
     ∷ bounded 1 65536 c.frames
     ∷ bounded 4 1048576 c.limit
-    ∷ bounded 1 (2 ^ 40 - 1) c.names
-    ∷ bounded 1 65535 c.passes
+    ∷ bounded 1 last_name c.names
+    ∷ bounded 1 last_pass c.passes
     ∷ bounded 1 64 c.lanes
     ∷ bounded 1 4096 c.spares
     ∷ bounded 1 2 c.format

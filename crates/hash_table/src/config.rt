@@ -2,6 +2,8 @@
 ghost use Rattle.std.specs.Prelude.{◌≡◌, position};
 ghost use Rattle.hash_table.specs.Configs.{is_outside};
 
+use table_core::{LAST_NAME, LAST_PASS, MOST_BUCKETS};
+
 /// The number of the field `lanes`.
 const LANES: u32 = 6;
 
@@ -69,11 +71,11 @@ impl Config {
         ensures { result ≡ fields self.now }
     {
         [
-            bounded(1, 65_536, u64::from(self.buckets)),
+            bounded(1, u64::from(MOST_BUCKETS), u64::from(self.buckets)),
             bounded(1, 65_536, u64::from(self.frames)),
             bounded(4, 1_048_576, u64::from(self.limit)),
-            bounded(1, (1 << 40) - 1, self.names),
-            bounded(1, 65_535, u64::from(self.passes)),
+            bounded(1, LAST_NAME, self.names),
+            bounded(1, u64::from(LAST_PASS), u64::from(self.passes)),
             bounded(1, 64, u64::from(self.lanes)),
             bounded(1, 4_096, u64::from(self.spares)),
             bounded(1, 2, u64::from(self.format)),

@@ -25,7 +25,7 @@ use std::alloc::Global;
 use std::sync::Wait;
 use std::test::Fail;
 use table_core::word::name_of;
-use version_words::{EnterFault, Naming, Spare};
+use version_words::{Naming, Spare};
 
 /// How often a pass is drawn while other threads draw.
 const TRIES: u32 = 1_000_000;
@@ -88,6 +88,19 @@ fn answer(found: Result<Option<Text>, Refusal>) -> Answer {
     }
 }
 
+/// A caller that enters also while others do.
+fn entered<J: Naming, D: Device>(
+    table: &FarTable<Text, Text, J, D>,
+) -> Option<Caller<Text, Text, J>> {
+    for _ in 0..TRIES {
+        let caller = table.enter().ok();
+        if caller.is_some() {
+            return caller;
+        }
+    }
+    None
+}
+
 /// A caller of a table whose values are numbers.
 #[derive(Drop)]
 struct User<'t, J: Naming, D: Device> {
@@ -101,16 +114,7 @@ struct User<'t, J: Naming, D: Device> {
 impl<'t, J: Naming, D: Device> User<'t, J, D> {
     /// Enters, also while other threads enter. None where no pass is left.
     fn enter(alloc: Global, table: &'t FarTable<Text, Text, J, D>) -> Option<Self> {
-        for _ in 0..TRIES {
-            match table.enter() {
-                Ok(caller) => {
-                    return Some(User::again(alloc, table, caller));
-                }
-                Err(EnterFault::PassesSpent(_)) => return None,
-                Err(EnterFault::Moved(_)) => {}
-            }
-        }
-        None
+        Some(User::again(alloc, table, entered(table)?))
     }
 
     /// A caller who came back.

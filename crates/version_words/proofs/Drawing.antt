@@ -1,5 +1,5 @@
 -- What a draw of a pass or of a name tells.
-use Rattle.std.proofs.Common.{◌≡◌, ◌≢◌, ℕ, ◌+◌, ◌-◌, ◌<◌, ◌≤◌, ◌==◌, ◌^◌, true, List, [], ◌∷◌, ◌++◌, Option, Some, None, ap, sym, ◌∙◌, arith}
+use Rattle.std.proofs.Common.{◌≡◌, ◌≢◌, ℕ, ◌+◌, ◌-◌, ◌<◌, ◌≤◌, ◌==◌, true, List, [], ◌∷◌, ◌++◌, Option, Some, None, ap, sym, ◌∙◌, arith}
 use Rattle.std.proofs.lemmas.Bool.Decides.{nat_tests}
 use Rattle.std.specs.Option.{option_map}
 use mathlib.Core.List.{IsPrefix}
@@ -7,6 +7,7 @@ use Rattle.table_core.specs.declared.event.Event.{Event}
 use Rattle.table_core.specs.declared.event.Event.TheVariants.{Named}
 use Rattle.table_core.specs.declared.limits.Limits.{Limits}
 use Rattle.table_core.specs.BucketWords.{name_of}
+use Rattle.table_core.specs.Limits.{last_name}
 use Rattle.table_core.specs.Logs.{passes_of, names_of, naming, contents, pairs_of, word}
 use Rattle.table_core.specs.Lawful.{IsLawful}
 use Rattle.table_core.proofs.Logs.{names-append, naming-append, word-more, words_below, within}
@@ -47,7 +48,7 @@ module _ {K V : Type 0} (ek : K → List ℕ) (ev : V → List ℕ) (l : Limits)
       naming-append log (Named n b es ∷ []) n ∙ rw (none, same)
 
   -- a name that was just drawn
-  pub new_name : (seen log : List (Event K V)) (drawn b : ℕ) (es : List (K × V)) → b < l.buckets → l.names < 2 ^ 40 → IsLawful ek ev l log → IsAdded ek ev l seen l.buckets drawn (Named (drawn + 1) b es) log
+  pub new_name : (seen log : List (Event K V)) (drawn b : ℕ) (es : List (K × V)) → b < l.buckets → l.names ≤ last_name → IsLawful ek ev l log → IsAdded ek ev l seen l.buckets drawn (Named (drawn + 1) b es) log
       → IsName ek ev l (name_of_parts (drawn + 1) b log) × (contents log (drawn + 1) ≡ es)
   new_name seen log drawn b es here small lawful a =
       let was : names_of a.0 ≡ drawn = sym (value_names ek ev l a.0) ∙ a.3 in

@@ -1,9 +1,10 @@
 -- The rule of a row of words, and what its steps tell.
-use Rattle.std.specs.Prelude.{◌≡◌, ℕ, ◌+◌, ◌<◌, ◌≤◌, ◌^◌, ◌==◌, ltb, Bool, true, false, if◌then◌else◌, List, [], ◌∷◌, ◌++◌, length, map, MatchBool, Some, slice_index_or}
+use Rattle.std.specs.Prelude.{◌≡◌, ℕ, ◌+◌, ◌<◌, ◌≤◌, ◌==◌, ltb, Bool, true, false, if◌then◌else◌, List, [], ◌∷◌, ◌++◌, length, map, MatchBool, Some, slice_index_or}
 use mathlib.Core.List.{IsPrefix}
 use Rattle.logbook.specs.Pages.{Cell, cell, Step, View, Book, Named as Word}
 use Rattle.table_core.specs.declared.event.Event.{Event}
 use Rattle.table_core.specs.declared.limits.Limits.{Limits}
+use Rattle.table_core.specs.Limits.{most_buckets, last_name, last_pass}
 use Rattle.table_core.specs.Logs.{names_of, passes_of, word}
 use Rattle.table_core.specs.Lawful.{MayFollow, IsLawful}
 use Rattle.version_words.specs.declared.entry.Entry.{Entry}
@@ -29,7 +30,7 @@ AreSizes l s = (s.buckets ≡ l.buckets) × (s.names ≡ l.names) × (s.passes �
 
 -- how large a row may be
 abbrev pub AreWithin : Limits → Type 0
-AreWithin l = (0 < l.buckets) × (l.buckets ≤ 65536) × (l.names < 2 ^ 40) × (l.passes < 2 ^ 16)
+AreWithin l = (0 < l.buckets) × (l.buckets ≤ most_buckets) × (l.names ≤ last_name) × (l.passes ≤ last_pass)
 
 module _ {K V : Type 0} where
   -- the log of a row to which nothing has happened

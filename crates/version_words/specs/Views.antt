@@ -1,5 +1,5 @@
 -- What contracts see of passes, names and spares, and what calls tell of the logs that they have seen.
-use Rattle.std.specs.Prelude.{◌≡◌, ◌≢◌, ℕ, ◌+◌, ◌<◌, ◌≤◌, ◌^◌, ◌==◌, Bool, true, false, if◌then◌else◌, List, [], ◌∷◌, ◌++◌, length, Option, Some, None, ⊤, ◌⊎◌, map}
+use Rattle.std.specs.Prelude.{◌≡◌, ◌≢◌, ℕ, ◌+◌, ◌<◌, ◌≤◌, ◌==◌, Bool, true, false, if◌then◌else◌, List, [], ◌∷◌, ◌++◌, length, Option, Some, None, ⊤, ◌⊎◌, map}
 use Rattle.std.specs.List.{filter, All, AllByRecursion}
 use Rattle.std.specs.Map.{keys_of}
 use mathlib.Core.List.{IsPrefix}
@@ -11,6 +11,7 @@ use Rattle.table_core.specs.declared.operation.Operation.TheVariants as op
 use Rattle.table_core.specs.declared.limits.Limits.{Limits}
 use Rattle.table_core.specs.BucketWords.{name_of, place_of, empty_place, far_place}
 use Rattle.table_core.specs.Maps.{value_at, is_met, after, map_of, reply}
+use Rattle.table_core.specs.Limits.{last_name}
 use Rattle.table_core.specs.Logs.{history, passes_of, word}
 use Rattle.table_core.specs.Lawful.{IsDrawn, IsLawful}
 use Rattle.table_core.specs.Lent.{lent_value}
@@ -184,7 +185,7 @@ module _ {K V : Type 0} (ek : K → List ℕ) (ev : V → List ℕ) (l : Limits)
   pub record IsName (name : NameView K V) : Type 0 where
     pub drawn : IsDrawn name.front name.number name.bucket
     pub newer : name_of (word ek l.buckets name.front name.bucket) < name.number
-    pub small : name.number < 2 ^ 40
+    pub small : name.number ≤ last_name
     pub here : name.bucket < l.buckets
     pub lawful : IsLawful ek ev l name.front
 

@@ -5,7 +5,7 @@ ghost use Rattle.hash_table.specs.Configs.{sizes_of};
 
 use super::damaged::canned;
 use super::failing::failing;
-use super::{User, number_of, opened, settings};
+use super::{User, entered, number_of, opened, settings};
 use crate::{CloseFault, Config, FarTable, Opening, Refusal};
 use far_device::{CannedDevice, Device, FakeDevice, FaultyDevice};
 use far_object::Text;
@@ -125,17 +125,11 @@ fn all_after_the_idle_one<J: Naming, R: Wait>(
     table: Table<J>,
 ) -> Result<Vec<(u8, u32)>, Fail> {
     let first = put_by(rt, alloc, &table, b"a", 1).ok_or("no put")?;
-    let idle = entered(alloc, &table).ok_or("no caller")?;
+    let idle = entered(&table).ok_or("no caller")?;
     let (table, callers) = refused(rt, alloc, table, Vec::from_array(alloc, [first])?)?;
     let mut callers = callers_after_a_get(rt, alloc, &table, callers)?;
     callers.push(idle)?;
     closed(rt, alloc, table, callers)
-}
-
-/// A caller who has done nothing.
-fn entered<J: Naming>(alloc: Global, table: &Table<J>) -> Option<Caller<J>> {
-    let user: Fake<'_, J> = User::enter(alloc, table)?;
-    Some(user.into_caller())
 }
 
 // The table that came back is used by the caller who came back with it.
