@@ -2,6 +2,7 @@ pub mod Lines
 pub mod Spelling
 pub mod Verbs
 pub mod Parsing
+pub mod Printing
 pub mod Looks
 pub mod Progress
 pub mod Unique

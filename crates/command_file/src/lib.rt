@@ -7,6 +7,7 @@ mod file;
 mod laws;
 mod line;
 mod parse;
+mod search;
 mod verb;
 mod words;
 

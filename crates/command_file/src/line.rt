@@ -5,6 +5,7 @@ ghost use Rattle.command_file.specs.Reading.{IsOfReading, HasNoFeed, ReadsLine, 
 
 use crate::fault::FileFault;
 use crate::parse::LONGEST_LINE;
+use crate::search::first_place;
 use std::io::{BufRead, ErrorKind};
 
 /// What a reader had.
@@ -69,7 +70,7 @@ fn line_part(bytes: &[u8], room: usize) -> (usize, bool)
     ensures none { result.1 ≡ false → result.0 ≡ min (length bytes.now) room }
 {
     let near = &bytes[..bytes.len().min(room)];
-    match near.iter().position(|byte| *byte == b'\n') {
+    match first_place(b'\n', near) {
         Some(at) => (at, true),
         None => (near.len(), false),
     }

@@ -1,7 +1,9 @@
 //! The words of a line, with exactly one space between.
-ghost use Rattle.std.specs.Prelude.{◌≡◌, ℕ, ◌+◌, ◌↔◌, [], ◌∷◌, IsTrue, MatchOption};
-ghost use Rattle.command_file.specs.Grammar.{IsWord};
+ghost use Rattle.std.specs.Prelude.{◌≡◌, ℕ, ◌+◌, ◌↔◌, [], ◌∷◌, All, IsTrue, MatchOption};
+ghost use Rattle.command_file.specs.Grammar.{IsWord, IsWordByte};
 ghost use Rattle.command_file.specs.Words.{words_in, AreWords};
+
+use crate::search::first_place;
 
 /// The most bytes of a word.
 const LONGEST_WORD: usize = 255;
@@ -10,16 +12,25 @@ const LONGEST_WORD: usize = 255;
 pub(crate) fn split_once(bytes: &[u8]) -> Option<(&[u8], &[u8])>
     ensures { MatchOption result (words_in bytes.now ≡ bytes.now ∷ []) (λ parts. words_in bytes.now ≡ parts.0.now ∷ words_in parts.1.now) }
 {
-    let at = bytes.iter().position(|byte| *byte == b' ')?;
+    let at = first_place(b' ', bytes)?;
     Some((&bytes[..at], &bytes[at + 1..]))
+}
+
+// Each byte is looked at, also behind one that fails, so that the processor may look at many in one step.
+fn are_graphic(bytes: &[u8]) -> bool
+    ensures { IsTrue result ↔ All IsWordByte bytes.now }
+{
+    let mut all = true;
+    for byte in bytes {
+        all &= byte.is_ascii_graphic();
+    }
+    all
 }
 
 fn is_word(bytes: &[u8]) -> bool
     ensures { IsTrue result ↔ IsWord bytes.now }
 {
-    !bytes.is_empty()
-        && bytes.len() <= LONGEST_WORD
-        && bytes.iter().all(|byte| byte.is_ascii_graphic())
+    !bytes.is_empty() && bytes.len() <= LONGEST_WORD && are_graphic(bytes)
 }
 
 /// The first word of two or more, and what stands behind its space.
