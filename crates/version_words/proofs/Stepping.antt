@@ -1,6 +1,7 @@
 -- The load, and the exchange that adds an event, keep the rule.
 use Rattle.std.proofs.Common.{◌≡◌, ◌≢◌, ℕ, ◌+◌, ◌<◌, ◌==◌, Bool, true, false, if◌then◌else◌, List, [], ◌∷◌, ◌++◌, length, refl, ap, sym, ◌∙◌, subst, arith, inr, MatchBool, None, Some, Option, slice_set}
 use Rattle.std.proofs.lemmas.List.{append-nil, get_or-set_other, get_or-set_same, length-set}
+use Rattle.std.proofs.lemmas.Bool.{eqb-true}
 use Rattle.std.proofs.lemmas.Bool.Decides.{nat_tests}
 use mathlib.Core.List.{IsPrefix}
 use prog.Atomic.{either}
@@ -79,11 +80,11 @@ module _ {K V : Type 0} (ek : K → List ℕ) (ev : V → List ℕ) (l : Limits)
       → IsKept ek ev (slice_set cs k (value_of ek ev l (events log) k, true)) (log ++ [])
   kept_same cs log k seen row here = subst (λ (w : List (Entry K V)). IsKept ek ev (slice_set cs k (value_of ek ev l (events log) k, true)) w) (sym (append-nil log)) (record { limits = l; log_is = seen; row = row_same ek ev l cs (events log) k row here })
 
-  -- a load sees what the word holds
-  pub looks_moves : (v : List (Entry K V)) (k : ℕ) (ask : Entry K V) → IsLog ek ev l v → k < l.buckets + 2
-      → Moves (λ cells log. IsKept ek ev cells log) shown (λ xs ys r. Answered ask xs ys r) k (v, (no_nib, None)) (λ n. n) (λ found w. Looks ek ev (step k 0 0 ask) (v, (no_nib, None)) found w)
-  looks_moves v k ask seen here =
-      moves_from ek ev k v ask (λ n. n) (λ found w. Looks ek ev (step k 0 0 ask) (v, (no_nib, None)) found w) l seen here (λ cs log seen' row pre.
+  -- a step that leaves the word as it is sees what it holds
+  sees_moves : (f : ℕ → ℕ) → ((n : ℕ) → f n ≡ n) → (v : List (Entry K V)) (k : ℕ) (ask : Entry K V) → IsLog ek ev l v → k < l.buckets + 2
+      → Moves (λ cells log. IsKept ek ev cells log) shown (λ xs ys r. Answered ask xs ys r) k (v, (no_nib, None)) f (λ found w. Looks ek ev (step k 0 0 ask) (v, (no_nib, None)) found w)
+  sees_moves f stays v k ask seen here =
+      moves_from ek ev k v ask f (λ found w. Looks ek ev (step k 0 0 ask) (v, (no_nib, None)) found w) l seen here (λ cs log seen' row pre.
       let all : log ++ [] ≡ log = append-nil log in let r : Answer (Entry K V) = answer_of false (log ++ []) in
       let P : Limits → Type 0 = λ m. IsLog ek ev m (log ++ []) × (value_of ek ev l (events log) k ≡ value_of ek ev m (events (log ++ [])) k) in (
         refl,
@@ -92,7 +93,7 @@ module _ {K V : Type 0} (ek : K → List ℕ) (ev : V → List ℕ) (l : Limits)
           [],
           Some r,
           tt,
-          kept_same cs log k seen' row here,
+          subst (λ (n : ℕ). IsKept ek ev (slice_set cs k (n, true)) (log ++ [])) (sym (stays (value_of ek ev l (events log) k))) (kept_same cs log k seen' row here),
           inr (r, refl, refl, (refl, all)),
           record {
             answer = r;
@@ -103,6 +104,20 @@ module _ {K V : Type 0} (ek : K → List ℕ) (ev : V → List ℕ) (l : Limits)
           },
         ),
       ))
+
+  -- a load sees what the word holds
+  pub looks_moves : (v : List (Entry K V)) (k : ℕ) (ask : Entry K V) → IsLog ek ev l v → k < l.buckets + 2
+      → Moves (λ cells log. IsKept ek ev cells log) shown (λ xs ys r. Answered ask xs ys r) k (v, (no_nib, None)) (λ n. n) (λ found w. Looks ek ev (step k 0 0 ask) (v, (no_nib, None)) found w)
+  looks_moves = sees_moves (λ n. n) (λ n. refl)
+
+  zero_or : (n : ℕ) (is : Bool) → (n == 0) ≡ is → either is 0 n ≡ n
+  zero_or n true is = sym (eqb-true n 0 is)
+  zero_or n false is = refl
+
+  -- and so does an exchange of zero for zero
+  pub exchange_looks_moves : (v : List (Entry K V)) (k : ℕ) (ask : Entry K V) → IsLog ek ev l v → k < l.buckets + 2
+      → Moves (λ cells log. IsKept ek ev cells log) shown (λ xs ys r. Answered ask xs ys r) k (v, (no_nib, None)) (λ n. either (n == 0) 0 n) (λ found w. Looks ek ev (step k 0 0 ask) (v, (no_nib, None)) found w)
+  exchange_looks_moves = sees_moves (λ n. either (n == 0) 0 n) (λ n. zero_or n (n == 0) refl)
 
   -- an exchange adds the event, or sees that the word holds something else
   pub adds_moves : (v : List (Entry K V)) (k old new : ℕ) (e : Event K V) → IsLog ek ev l v → CanAdd ek ev l (events v) k old new e

@@ -1,9 +1,10 @@
 //! The row of words that all threads share: a word for each bucket, the counter of names and the counter of passes.
 //!
-//! # Two functions touch it
+//! # Three functions touch it
 //!
-//! `look_at` loads a word, and `step` exchanges one if it is still what it was. A step that succeeds is one event of the
-//! row's log; nothing else changes a word. Every public call stands over these two, and none tries a step again.
+//! `look_at` loads a word, `look_to_write` does so by an exchange that changes nothing, and `step` exchanges one if it is
+//! still what it was. A step that succeeds is one event of the row's log; nothing else changes a word. Every public call
+//! stands over these three, and none tries a step again.
 //!
 //! # The log
 //!
@@ -86,6 +87,38 @@ impl<K: FarObject, V: FarObject, J: Naming> Words<K, V, J> {
         let word = self.word(k);
         let mut offer = offer::<K, V, u32, asking::Entering>(&mark.seen, pass, name, &0);
         let found = word.load::<Look<K, V>, Traded<K, V>>(&mut mark.seen, &mut offer);
+        take_back(offer.into_gain(), pass, name);
+        found
+    }
+
+    // The same by an exchange of zero for zero, which changes nothing either: the processor then holds the word's cache line
+    // to write it, so that a step which follows is seldom too late.
+    fn look_to_write(
+        &self,
+        k: usize,
+        mark: &mut Mark<K, V, J>,
+        pass: &mut Tally,
+        name: &mut Tally,
+    ) -> u64
+        requires there { k < J.limits.buckets + 2 }
+        requires tallies { LiesAt (board_at J.names 0) pass.old.board pass.old.slot × LiesAt (board_at J.names 1) name.old.board name.old.slot }
+        ensures grows { IsPrefix mark.old mark.new }
+        ensures lawful { IsLawful K.enc V.enc J.limits mark.new }
+        ensures value { result ≡ value_of K.enc V.enc J.limits mark.new k }
+        ensures boards { (pass.new.board ≡ board_at J.names 0) × (name.new.board ≡ board_at J.names 1) }
+        ensures slots { (pass.new.slot ≡ pass.old.slot) × (name.new.slot ≡ name.old.slot) }
+        ensures counts { Counts mark.new pass.new.slot name.new.slot }
+    {
+        let word = self.word(k);
+        let mut offer = offer::<K, V, u32, asking::Entering>(&mark.seen, pass, name, &0);
+        let mut pen = mark.seen.no_pen();
+        let found = word.compare_exchange::<Look<K, V>, Traded<K, V>>(
+            0,
+            0,
+            &mut mark.seen,
+            &mut offer,
+            &mut pen,
+        );
         take_back(offer.into_gain(), pass, name);
         found
     }

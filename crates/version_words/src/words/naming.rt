@@ -44,7 +44,7 @@ impl<K: FarObject, V: FarObject, J: Naming> Words<K, V, J> {
         let _ = object.as_bytes();
         let at = self.sizes.buckets as usize;
         let mut right = Tally::none();
-        let drawn = self.look_at(at, &mut pass.mark, &mut pass.tally, &mut right);
+        let drawn = self.look_to_write(at, &mut pass.mark, &mut pass.tally, &mut right);
         if drawn >= self.sizes.names {
             return Err(NameFault::NamesSpent);
         }
