@@ -3,5 +3,4 @@ pub mod Stepping
 pub mod Working
 pub mod Ending
 pub mod Adding
-pub mod Jobs
 pub mod Settings

@@ -12,7 +12,7 @@ use Rattle.hash_table.specs.declared.refusal.Refusal.TheVariants as table
 use Rattle.hash_table.specs.Calls.{SeenInCall, IsUnchanged, IsFinished}
 use Rattle.hash_table.specs.Scopes.{ScopeView, shown}
 use Rattle.hash_table.specs.Calls.{IsRefused as IsRefusedCall}
-use Rattle.hash_table.specs.Refusals.{OfGet, OfFetch}
+use Rattle.hash_table.specs.Refusals.{OfGet}
 use Rattle.hash_table.proofs.Fronts.{goes_self, goes_trans, finished_from}
 use Rattle.command_file.specs.declared.command.MapCommand.{MapCommand}
 use Rattle.command_file.specs.declared.command.MapCommand.TheVariants.{Hold}
@@ -22,9 +22,6 @@ use Rattle.run_lines.specs.Calls.{Asked, operation_of}
 use Rattle.threaded_run.specs.Replies.{View, Log, MayRefuse, said, IsOfTurn, IsRefused, AnswersWith, Tries}
 
 module _ (l : Limits) (limit : ℕ) where
-  anywhere : (old new : View) → Goes old new → SeenInCall old new (λ log. Unit {0})
-  anywhere old new goes = (old.front, prefix_self old.front, goes.grows, tt)
-
   -- a refusal of which nothing else is said
   free : (old new : View) (c : MapCommand) (why : Refusal) → ((log : Log) → MayRefuse l.buckets limit (history log) c why) → Goes old new → IsRefused l limit old new c why
   free old new c why may goes = record { goes = goes; seen = λ _. (old.front, prefix_self old.front, goes.grows, may old.front) }
@@ -60,9 +57,6 @@ module _ (l : Limits) (limit : ℕ) where
 
   pub get_refused : (b : ℕ) (old new : View) (c : MapCommand) (e : TableRefusal) → Goes old new → IsRefusedCall enc_text enc_text l b old new e → OfGet e → IsRefused l limit old new c (said e)
   get_refused b old new c e goes h of = refused OfGet (λ x. x) b old new c e goes h of
-
-  pub fetch_refused : (b : ℕ) (old new : View) (c : MapCommand) (e : TableRefusal) → Goes old new → IsRefusedCall enc_text enc_text l b old new e → OfFetch e → IsRefused l limit old new c (said e)
-  fetch_refused b old new c e goes h of = refused OfFetch (λ x. x) b old new c e goes h of
 
   -- ---- tries that were refused before
 

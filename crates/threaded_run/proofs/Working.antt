@@ -1,5 +1,5 @@
 -- A worker, one command after another, and workers that have ended.
-use Rattle.std.proofs.Common.{◌≡◌, ℕ, ◌+◌, ◌<◌, ◌≤◌, Result, Ok, Err, IfOk, List, [], ◌∷◌, ◌++◌, length, take, get_or, map, refl, ap, sym, ◌∙◌, subst, arith, add-one, length-append, Vec, Global}
+use Rattle.std.proofs.Common.{◌≡◌, ℕ, ◌+◌, ◌<◌, ◌≤◌, Result, Ok, Err, IfOk, List, [], ◌∷◌, ◌++◌, length, take, get_or, map, refl, ap, sym, ◌∙◌, subst, arith, add-one, length-append}
 use Rattle.std.proofs.lemmas.List.{take_all, map-append}
 use Rattle.std.proofs.Math.Seq.{take-suc}
 use Rattle.std.specs.List.{AllByRecursion}
@@ -10,26 +10,12 @@ use Rattle.command_file.specs.declared.command.Command.{Command}
 use Rattle.run_lines.specs.Output.{written}
 use Rattle.run_lines.proofs.Replying.{replied_more}
 use Rattle.run_lines.proofs.Written.{written-more}
-use Rattle.hash_table.specs.declared.caller.Caller.{Caller}
 use Rattle.threaded_run.specs.Replies.{View, MayRefuse, RunsTo}
 use Rattle.threaded_run.specs.Runs.{JobView, EndedView, Served, IsServed, EndedIs, WorkedAll}
 use Rattle.threaded_run.proofs.Stepping.{history_grows, stays, step}
 
 taken : {A : Type 0} (xs : List A) (i : ℕ) (x : A) → i < length xs → x ≡ get_or xs i x → take (i + 1) xs ≡ take i xs ++ x ∷ []
 taken xs i x lt at = rw add-one (take-suc xs i x lt) ∙ ap (λ y. take i xs ++ y ∷ []) (sym at)
-
--- one more text, and one more caller
-pub text_more : (old new : List (Vec ℕ Global)) (x : Vec ℕ Global) (text : List ℕ) → new ≡ old ++ x ∷ [] → x.items ≡ text
-    → map (λ (t : Vec ℕ Global). t.items) new ≡ map (λ (t : Vec ℕ Global). t.items) old ++ text ∷ []
-text_more old new x text is same =
-    ap (λ (ts : List (Vec ℕ Global)). map (λ (t : Vec ℕ Global). t.items) ts) is
-    ∙ (map-append (λ (t : Vec ℕ Global). t.items) old (x ∷ []) ∙ ap (λ (y : List ℕ). map (λ (t : Vec ℕ Global). t.items) old ++ y ∷ []) same)
-
-pub pass_more : {J : Type 0} (old new : List (Caller (List ℕ) (List ℕ) J)) (x : Caller (List ℕ) (List ℕ) J) (pass : View) → new ≡ old ++ x ∷ [] → x.pass ≡ pass
-    → map (λ (c : Caller (List ℕ) (List ℕ) J). c.pass) new ≡ map (λ (c : Caller (List ℕ) (List ℕ) J). c.pass) old ++ pass ∷ []
-pass_more {J} old new x pass is same =
-    ap (λ (cs : List (Caller (List ℕ) (List ℕ) J)). map (λ (c : Caller (List ℕ) (List ℕ) J). c.pass) cs) is
-    ∙ (map-append (λ (c : Caller (List ℕ) (List ℕ) J). c.pass) old (x ∷ []) ∙ ap (λ (p : View). map (λ (c : Caller (List ℕ) (List ℕ) J). c.pass) old ++ p ∷ []) same)
 
 pub all-push : {A : Type 0} (P : A → Type 0) (xs : List A) (x : A) → AllByRecursion P xs → P x → AllByRecursion P (xs ++ x ∷ [])
 all-push P [] x all p = (p, tt)
