@@ -12,11 +12,9 @@ mod status;
 
 pub use arguments::read_words;
 pub use fault::RunFault;
+pub use lanes::open_lanes;
 pub use program::run_program;
 pub use reading::read_files;
 pub use run::run_files;
 pub use run_lines::Refusal;
 pub use status::ProgramFault;
-
-#[cfg(test)]
-mod tests;

@@ -4,7 +4,7 @@ ghost use Rattle.far_driver.specs.Arguments.{are_arguments};
 ghost use Rattle.far_driver.specs.Runs.{RanWords};
 
 use crate::arguments::read_arguments;
-use crate::lanes::lanes;
+use crate::lanes::open_lanes;
 use crate::run::run_files;
 use crate::sources::open_sources;
 use crate::status::ProgramFault;
@@ -26,7 +26,7 @@ where
         return Err(ProgramFault::Usage);
     };
     let sources = open_sources(rt, arguments.files)?;
-    let devices = lanes(rt.alloc(), arguments.config.lanes)?;
+    let devices = open_lanes(rt.alloc(), arguments.config.lanes)?;
     run_files(rt, arguments.config, devices, sources, &OpenGate, out)?;
     Ok(())
 }

@@ -88,7 +88,7 @@ fn over_queue<R: Clock + Wait, J: Naming, B: QueueNaming>(
     let Ok((queue, taker, seats)) = queue.named::<B>(alloc, 1) else {
         bail!("there is no memory for seats");
     };
-    let bench = Bench::new(alloc, table, queue, taker, seats)?;
+    let mut bench = Bench::new(alloc, table, queue, taker, seats)?;
     match work {
         Work::Turns => bench.turns(rt, frames, TURNS),
         Work::Handing(rounds) => bench.handing(rt, rounds),

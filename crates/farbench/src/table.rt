@@ -47,10 +47,11 @@ const NAMES: u64 = (1 << 40) - 1;
 const PASSES: u32 = 65_535;
 
 /// Nanoseconds of a get, the sum of its own steps, and the first in percent of the second; of a get by a scope; of a put with
-/// the removal of the version before, its steps, and the percentage; and of gets and puts of one map of std's behind
-/// one lock, and of 64 maps.
+/// the removal of the version before, its steps, and the percentage, and how many of the puts were refused; of a put by a
+/// caller who recycles, and how many of those were refused; and of gets and puts of one map of std's behind one lock, and
+/// of 64 maps.
 const HEAD: &str =
-    "buckets threads         get       steps       part%       scope         put       steps       part%      lost%      1-get       1-put      64-get      64-put";
+    "buckets threads         get       steps       part%       scope         put       steps       part%       lost%    recycled       lost%       1-get       1-put      64-get      64-put";
 
 /// How many buckets there are, and how many threads, each of so many rounds.
 #[derive(Clone, Copy)]
@@ -214,6 +215,7 @@ fn row_of_table<
     let copied = on_layers(rt, alloc, layers, keys, load, Step::Value)?;
     let scoped = on_table(rt, alloc, table, keys, load, Call::Scope)?;
     let put = on_table(rt, alloc, table, keys, load, Call::Put)?;
+    let recycled = on_table(rt, alloc, table, keys, load, Call::Recycle)?;
     let published = on_layers(rt, alloc, layers, keys, load, Step::Publish)?;
     let get_steps = seen.and(entered).and(copied);
     let put_steps = published.and(entered);
@@ -225,6 +227,8 @@ fn row_of_table<
     let publish = load.each(&put_steps);
     let put_part = Tenths::percentage(put.nanoseconds, put_steps.nanoseconds);
     let lost = Tenths::percentage(put.lost.words, load.count());
+    let recycle = load.each(&recycled);
+    let recycled_lost = Tenths::percentage(recycled.lost.words, load.count());
     let one_get = on_maps(rt, alloc, 1, keys, load, false)?;
     let one_put = on_maps(rt, alloc, 1, keys, load, true)?;
     let get_in_64 = on_maps(rt, alloc, 64, keys, load, false)?;
@@ -235,7 +239,7 @@ fn row_of_table<
         rounds: _,
     } = load;
     println!(rt;
-        "{buckets:>7} {threads:>7}{get}{steps}{part}{scope}{puts}{publish}{put_part}{lost}{one_get}{one_put}{get_in_64}{put_in_64}"
+        "{buckets:>7} {threads:>7}{get}{steps}{part}{scope}{puts}{publish}{put_part}{lost}{recycle}{recycled_lost}{one_get}{one_put}{get_in_64}{put_in_64}"
     )?;
     Ok(())
 }

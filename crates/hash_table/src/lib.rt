@@ -33,6 +33,3 @@ pub use refusal::{OpenFault, ReclaimFault, Refusal};
 pub use scope::TableScope;
 pub use table::FarTable;
 pub use telling::BucketState;
-
-#[cfg(test)]
-mod tests;

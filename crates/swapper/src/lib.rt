@@ -25,6 +25,3 @@ pub use evictor::{Collected, Evictor, Turn};
 pub use naming::QueueNaming;
 pub use opening::QueueOpening;
 pub use queue::{QueueSeat, SpareQueue};
-
-#[cfg(test)]
-mod tests;

@@ -28,6 +28,3 @@ mod worker;
 pub use fault::ThreadedFault;
 pub use gate::{Gate, OpenGate};
 pub use top::run_files;
-
-#[cfg(test)]
-mod tests;

@@ -35,6 +35,21 @@ fn since<R: Clock>(rt: &R, start: Instant) -> Result<u64> {
     Ok(u64::try_from(start.elapsed(rt)?.as_nanos())?)
 }
 
+// Pushes the spare and pops it: `Bench::through` on the kit's queue.
+fn through_plain<R: Wait, J: Naming>(
+    rt: &R,
+    queue: &ArrayQueue<Queued<J>>,
+    spare: Queued<J>,
+) -> Result<Queued<J>> {
+    let Ok(()) = queue.push(rt, spare) else {
+        bail!("the queue is full");
+    };
+    match queue.pop(rt) {
+        Some(taken) => Ok(taken),
+        None => bail!("the queue is empty"),
+    }
+}
+
 impl<J: Naming, B: QueueNaming> Bench<J, B> {
     pub fn new(
         alloc: Global,
@@ -114,32 +129,28 @@ impl<J: Naming, B: QueueNaming> Bench<J, B> {
     pub fn turns<R: Clock + Wait>(mut self, rt: &R, frames: u32, turns: u32) -> Result<u64> {
         self.fill(frames)?;
         let mut bench = self.evicting(frames)?;
-        let start = Instant::now(rt)?;
-        for _ in 0..turns {
-            bench.turn(rt)?;
-        }
-        since(rt, start)
+        bench.turns(rt, turns)
     }
 
-    /// The nanoseconds of a collecting of so many spares.
-    pub fn collecting<R: Clock + Wait>(mut self, rt: &R, frames: u32, spares: u32) -> Result<u64> {
+    // Leaves so many spares in the queue.
+    fn leave<R: Wait>(&mut self, rt: &R, spares: u32) -> Result<()> {
         self.put(0)?;
         for _ in 0..spares {
             self.put(0)?;
             self.settle(rt);
         }
+        Ok(())
+    }
+
+    /// The nanoseconds of a collecting of so many spares.
+    pub fn collecting<R: Clock + Wait>(mut self, rt: &R, frames: u32, spares: u32) -> Result<u64> {
+        self.leave(rt, spares)?;
         let mut bench = self.evicting(frames)?;
-        let start = Instant::now(rt)?;
-        let told = bench.evictor.collect(rt, &bench.table, &bench.queue);
-        let took = since(rt, start)?;
-        if told.reclaimed != u64::from(spares) {
-            bail!("not all spares were reclaimed");
-        }
-        Ok(took)
+        bench.collecting(rt, spares)
     }
 
     /// The nanoseconds of so many hand-overs, each with a take.
-    pub fn handing<R: Clock + Wait>(mut self, rt: &R, rounds: u32) -> Result<u64> {
+    pub fn handing<R: Clock + Wait>(&mut self, rt: &R, rounds: u32) -> Result<u64> {
         let mut spare = self.spare()?;
         let start = Instant::now(rt)?;
         for _ in 0..rounds {
@@ -149,7 +160,7 @@ impl<J: Naming, B: QueueNaming> Bench<J, B> {
     }
 
     /// The same on the kit's plain queue.
-    pub fn plain<R: Clock + Wait>(mut self, rt: &R, room: u32, rounds: u32) -> Result<u64> {
+    pub fn plain<R: Clock + Wait>(&mut self, rt: &R, room: u32, rounds: u32) -> Result<u64> {
         let mut spare = self.spare()?;
         if room == 0 {
             bail!("the queue has no room");
@@ -157,13 +168,7 @@ impl<J: Naming, B: QueueNaming> Bench<J, B> {
         let queue = ArrayQueue::new(self.alloc, room as usize)?;
         let start = Instant::now(rt)?;
         for _ in 0..rounds {
-            let Ok(()) = queue.push(rt, spare) else {
-                bail!("the queue is full");
-            };
-            let Some(taken) = queue.pop(rt) else {
-                bail!("the queue is empty");
-            };
-            spare = taken;
+            spare = through_plain(rt, &queue, spare)?;
         }
         since(rt, start)
     }
@@ -213,5 +218,25 @@ impl<J: Naming, B: QueueNaming> Evicting<J, B> {
             }
             Err(refusal) => bail!("a turn was refused: {refusal}"),
         }
+    }
+
+    // The nanoseconds of so many turns.
+    fn turns<R: Clock + Wait>(&mut self, rt: &R, turns: u32) -> Result<u64> {
+        let start = Instant::now(rt)?;
+        for _ in 0..turns {
+            self.turn(rt)?;
+        }
+        since(rt, start)
+    }
+
+    // The nanoseconds of a collecting of so many spares.
+    fn collecting<R: Clock + Wait>(&mut self, rt: &R, spares: u32) -> Result<u64> {
+        let start = Instant::now(rt)?;
+        let told = self.evictor.collect(rt, &self.table, &self.queue);
+        let took = since(rt, start)?;
+        if told.reclaimed != u64::from(spares) {
+            bail!("not all spares were reclaimed");
+        }
+        Ok(took)
     }
 }

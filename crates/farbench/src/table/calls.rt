@@ -17,6 +17,8 @@ pub enum Call {
     Scope,
     /// A put, and the removal of the version that it ends.
     Put,
+    /// The same, and the caller keeps the frame that it empties.
+    Recycle,
     /// The object of the frame of this number goes to the device, and the frame becomes free.
     SwapOut,
     /// A get from the device.
@@ -103,7 +105,7 @@ impl<J: Naming> Own<J> {
             Call::Get => return self.get(table, key),
             Call::Scope => return self.scope(table, key),
             Call::ReadThrough => return self.read_through(rt, table, key),
-            Call::Put => table
+            Call::Put | Call::Recycle => table
                 .try_put(self.alloc, &mut self.caller, &key, &self.value)
                 .is_ok(),
             Call::SwapOut => self.swap_out(rt, table, key),
@@ -123,6 +125,9 @@ impl<J: Naming> Runner<FarTable<u64, Text, J, FakeDevice>> for Own<J> {
     ) -> Lost {
         let mut lost = Lost::NONE;
         let mut at = 0usize;
+        if matches!(&self.call, Call::Recycle) {
+            self.caller.recycle();
+        }
         for _ in 0..rounds {
             let Some(key) = self.keys.get(at).copied() else {
                 return lost;
@@ -132,6 +137,7 @@ impl<J: Naming> Runner<FarTable<u64, Text, J, FakeDevice>> for Own<J> {
             }
             at = if at + 1 < self.keys.len() { at + 1 } else { 0 };
         }
+        table.stop_recycling(&mut self.caller);
         lost
     }
 }

@@ -5,4 +5,4 @@ use Rattle.growths.proofs.evicting.evictor.Given as goal
 
 -- the table that was just opened
 abbrev pub ghosts-on_table : goal.ghosts-on_table
-ghosts-on_table a = record { book = a.opening.row.book; names = a.opening.row.names; limits = limits_of (sizes_of a.opening.config) true }
+ghosts-on_table g a = record { book = a.opening.row.book; names = a.opening.row.names; limits = limits_of (sizes_of a.opening.config) true }

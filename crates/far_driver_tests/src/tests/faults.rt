@@ -1,0 +1,229 @@
+//! Settings and files that are refused, and the texts of the faults.
+use super::inputs::Faltering;
+use super::{assert_fault, run_readers, settings};
+use far_driver::{Refusal, RunFault, open_lanes, run_files};
+use hash_table::Config;
+use std::test::Fail;
+use threaded_run::OpenGate;
+
+#[test]
+fn refused_files(rt: HostRuntime) -> Result<(), Fail> {
+    let rows: [(&'static [u8], RunFault); 3] = [
+        (b"put a", RunFault::BadLine(1, 1)),
+        (b"put a 1\n\nget\n", RunFault::BadLine(1, 3)),
+        (b"put a 1\nput  a 1\n", RunFault::BadLine(1, 2)),
+    ];
+    for (file, wanted) in &rows {
+        assert_fault(&rt, &settings(), &[*file], *wanted)?;
+    }
+    assert_fault(
+        &rt,
+        &settings(),
+        &[b"get a", b"get"],
+        RunFault::BadLine(2, 1),
+    )
+}
+
+#[test]
+fn more_lines_than_may_be(rt: HostRuntime) -> Result<(), Fail> {
+    let mut lines = Vec::new(rt.alloc());
+    lines.resize(65_536, b'\n')?;
+    lines.extend_from_slice(b"put a")?;
+    let files = Vec::from_array(rt.alloc(), [b"get a".as_slice(), lines.as_slice()])?;
+    let (ended, out) = run_readers(&rt, &settings(), files)?;
+    assert_eq!(&rt; ended, Err(RunFault::TooManyLines(2)));
+    assert!(&rt; out.is_empty());
+    Ok(())
+}
+
+/// A read of the second file fails, and nothing has been run.
+#[test]
+fn second_file_is_not_read(rt: HostRuntime) -> Result<(), Fail> {
+    for failing in 0..2 {
+        let mut files = Vec::new(rt.alloc());
+        files.push(Faltering::new(b"put a 1", 255))?;
+        files.push(Faltering::new(b"put b 1", failing))?;
+        let (ended, out) = run_readers(&rt, &settings(), files)?;
+        assert_eq!(&rt; ended, Err(RunFault::Read(2)));
+        assert!(&rt; out.is_empty());
+    }
+    Ok(())
+}
+
+#[test]
+fn little_room(rt: HostRuntime) -> Result<(), Fail> {
+    let mut bytes = [0u8; 8];
+    let mut out = bytes.as_mut_slice();
+    let devices = open_lanes(rt.alloc(), 4)?;
+    let files = Vec::from_array(rt.alloc(), [b"put a 1".as_slice()])?;
+    if files.len() != 1 {
+        return Err("one file".into());
+    }
+    let ended = run_files(&rt, settings(), devices, files, &OpenGate, &mut out);
+    assert_eq!(&rt; ended, Err(RunFault::Write));
+    Ok(())
+}
+
+/// There are not as many devices as lanes: the settings' own faults come by their numbers.
+#[test]
+fn devices_and_lanes(rt: HostRuntime) -> Result<(), Fail> {
+    let rows = [
+        (4, 4, 2, None),
+        (4, 3, 2, Some(6)),
+        (5, 4, 2, Some(6)),
+        (4, 3, 0, Some(2)),
+    ];
+    for (lanes_wanted, devices, frames, field) in rows {
+        let config = Config {
+            lanes: lanes_wanted,
+            frames,
+            ..settings()
+        };
+        let devices = open_lanes(rt.alloc(), devices)?;
+        let files = Vec::from_array(rt.alloc(), [b"".as_slice()])?;
+        if files.len() != 1 {
+            return Err("one file".into());
+        }
+        let mut out = Vec::new(rt.alloc());
+        let ended = run_files(&rt, config, devices, files, &OpenGate, &mut out);
+        let wanted = match field {
+            None => Ok(()),
+            Some(field) => Err(RunFault::BadConfig(field)),
+        };
+        assert_eq!(&rt; ended, wanted);
+    }
+    Ok(())
+}
+
+#[test]
+fn first_four_settings(rt: HostRuntime) -> Result<(), Fail> {
+    let good = settings();
+    let rows = [
+        (Config { buckets: 0, ..good }, 1),
+        (
+            Config {
+                buckets: 65_537,
+                ..good
+            },
+            1,
+        ),
+        (Config { frames: 0, ..good }, 2),
+        (
+            Config {
+                frames: 65_537,
+                ..good
+            },
+            2,
+        ),
+        (Config { limit: 3, ..good }, 3),
+        (
+            Config {
+                limit: 1_048_577,
+                ..good
+            },
+            3,
+        ),
+        (Config { names: 0, ..good }, 4),
+        (
+            Config {
+                names: 1 << 40,
+                ..good
+            },
+            4,
+        ),
+    ];
+    for (config, field) in rows {
+        assert_fault(&rt, &config, &[b"get a"], RunFault::BadConfig(field))?;
+    }
+    Ok(())
+}
+
+#[test]
+fn last_four_settings(rt: HostRuntime) -> Result<(), Fail> {
+    let good = settings();
+    let rows = [
+        (Config { passes: 0, ..good }, 5),
+        (
+            Config {
+                passes: 65_536,
+                ..good
+            },
+            5,
+        ),
+        (Config { lanes: 0, ..good }, 6),
+        (Config { lanes: 65, ..good }, 6),
+        (Config { spares: 0, ..good }, 7),
+        (
+            Config {
+                spares: 4_097,
+                ..good
+            },
+            7,
+        ),
+        (Config { format: 0, ..good }, 8),
+        (Config { format: 3, ..good }, 8),
+    ];
+    for (config, field) in rows {
+        assert_fault(&rt, &config, &[b"get a"], RunFault::BadConfig(field))?;
+    }
+    Ok(())
+}
+
+/// The settings come before the file.
+#[test]
+fn first_fault_of_two(rt: HostRuntime) -> Result<(), Fail> {
+    let good = settings();
+    let rows = [
+        (
+            Config {
+                buckets: 0,
+                spares: 0,
+                ..good
+            },
+            1,
+        ),
+        (
+            Config {
+                buckets: 0,
+                format: 0,
+                ..good
+            },
+            1,
+        ),
+        (
+            Config {
+                limit: 3,
+                format: 3,
+                ..good
+            },
+            3,
+        ),
+    ];
+    for (config, field) in rows {
+        assert_fault(&rt, &config, &[b"put a"], RunFault::BadConfig(field))?;
+    }
+    Ok(())
+}
+
+#[test]
+fn texts(rt: HostRuntime) -> Result<(), Fail> {
+    let rows = [
+        (RunFault::BadConfig(3), "bad config 3"),
+        (RunFault::BadLine(1, 2), "file 1 line 2: bad command"),
+        (RunFault::TooManyLines(1), "file 1: too many lines"),
+        (RunFault::Read(1), "file 1: read failed"),
+        (RunFault::Memory, "memory"),
+        (RunFault::Device, "device"),
+        (RunFault::Passes, "passes spent"),
+        (RunFault::Gate, "gate gave up"),
+        (RunFault::Write, "write failed"),
+        (RunFault::Contents(Refusal::Memory), "contents: memory"),
+        (RunFault::Contents(Refusal::Device), "contents: device"),
+        (RunFault::Contents(Refusal::Damaged), "contents: damaged"),
+    ];
+    for (fault, wanted) in rows {
+        let text = format!(in rt.alloc(); "{fault}")?;
+        assert_eq!(&rt; text.as_str(), wanted);
+    }
+    Ok(())
+}

@@ -1,0 +1,324 @@
+//! The table as callers use it: settings at their edges, each call in turn, devices that fail or give other bytes, and
+//! threads that share a table.
+
+mod calling;
+mod closing;
+mod conditional;
+mod damaged;
+mod evicting;
+mod failing;
+mod far;
+mod held;
+mod limbo;
+mod limits;
+mod marks;
+mod one_caller;
+mod opening;
+mod recycling;
+mod script;
+mod shared;
+
+use far_device::{Device, FakeDevice};
+use far_object::{FarObject, Text};
+use hash_table::{
+    BucketState, Caller, Config, FarTable, OpenFault, Opening, ReclaimFault, Refusal,
+};
+use std::alloc::Global;
+use std::sync::Wait;
+use std::test::Fail;
+use table_core::word::name_of;
+use version_words::{Naming, Spare};
+
+/// How often a pass is drawn while other threads draw.
+const TRIES: u32 = 1_000_000;
+
+/// Four buckets, two frames and one lane, and otherwise more than a test needs.
+fn settings() -> Config {
+    Config {
+        buckets: 4,
+        frames: 2,
+        limit: 4_096,
+        names: (1 << 40) - 1,
+        passes: 65_535,
+        lanes: 1,
+        spares: 256,
+        format: 2,
+    }
+}
+
+/// A table for these settings, without a name, over one device in the process.
+fn opened(alloc: Global, config: Config) -> Result<Opening<Text, Text, FakeDevice>, Fail> {
+    let devices = Vec::from_array(alloc, [FakeDevice::new(alloc)])?;
+    Ok(Opening::open(alloc, config, devices)?)
+}
+
+/// A text of these bytes.
+fn text(alloc: Global, bytes: &[u8]) -> Result<Text, Refusal> {
+    match Text::new(alloc, bytes) {
+        Ok(text) => Ok(text),
+        Err(_) => Err(Refusal::Memory),
+    }
+}
+
+/// A number as a text, in decimal digits.
+fn text_of(alloc: Global, number: u32) -> Result<Text, Refusal> {
+    match format!(in alloc; "{number}") {
+        Ok(digits) => text(alloc, digits.as_bytes()),
+        Err(_) => Err(Refusal::Memory),
+    }
+}
+
+/// The number of such a text.
+fn number_of(text: &Text) -> u32 {
+    let mut number = 0u32;
+    for byte in text.as_bytes() {
+        number = number
+            .wrapping_mul(10)
+            .wrapping_add(u32::from(byte.wrapping_sub(b'0')));
+    }
+    number
+}
+
+/// What a call answered, as numbers.
+type Answer = Result<Option<u32>, Refusal>;
+
+fn answer(found: Result<Option<Text>, Refusal>) -> Answer {
+    match found {
+        Ok(Some(text)) => Ok(Some(number_of(&text))),
+        Ok(None) => Ok(None),
+        Err(refusal) => Err(refusal),
+    }
+}
+
+/// A caller that enters also while others do.
+fn entered<J: Naming, D: Device>(
+    table: &FarTable<Text, Text, J, D>,
+) -> Option<Caller<Text, Text, J>> {
+    for _ in 0..TRIES {
+        let caller = table.enter().ok();
+        if caller.is_some() {
+            return caller;
+        }
+    }
+    None
+}
+
+/// A caller of a table whose values are numbers.
+#[derive(Drop)]
+struct User<'t, J: Naming, D: Device> {
+    alloc: Global,
+    table: &'t FarTable<Text, Text, J, D>,
+    caller: Caller<Text, Text, J>,
+    /// A spare that was taken out.
+    taken: Option<Spare<Text, Text, J>>,
+}
+
+impl<'t, J: Naming, D: Device> User<'t, J, D> {
+    /// Enters, also while other threads enter. None where no pass is left.
+    fn enter(alloc: Global, table: &'t FarTable<Text, Text, J, D>) -> Option<Self> {
+        Some(User::again(alloc, table, entered(table)?))
+    }
+
+    /// A caller who came back.
+    fn again(
+        alloc: Global,
+        table: &'t FarTable<Text, Text, J, D>,
+        caller: Caller<Text, Text, J>,
+    ) -> Self {
+        User {
+            alloc,
+            table,
+            caller,
+            taken: None,
+        }
+    }
+
+    /// The caller alone.
+    fn into_caller(self) -> Caller<Text, Text, J> {
+        let User {
+            alloc: _,
+            table: _,
+            caller,
+            taken: _,
+        } = self;
+        caller
+    }
+
+    fn try_get(&mut self, key: &[u8]) -> Answer {
+        let key = text(self.alloc, key)?;
+        answer(self.table.try_get(self.alloc, &mut self.caller, &key))
+    }
+
+    fn try_put(&mut self, key: &[u8], value: u32) -> Answer {
+        let (key, value) = (text(self.alloc, key)?, text_of(self.alloc, value)?);
+        let found = self
+            .table
+            .try_put(self.alloc, &mut self.caller, &key, &value);
+        answer(found)
+    }
+
+    fn try_remove(&mut self, key: &[u8]) -> Answer {
+        let key = text(self.alloc, key)?;
+        answer(self.table.try_remove(self.alloc, &mut self.caller, &key))
+    }
+
+    fn try_put_if(&mut self, key: &[u8], expected: Option<u32>, value: u32) -> Answer {
+        let alloc = self.alloc;
+        let (key, value) = (text(alloc, key)?, text_of(alloc, value)?);
+        let (table, caller) = (self.table, &mut self.caller);
+        match expected {
+            None => answer(table.try_put_if(alloc, caller, &key, None, &value)),
+            Some(number) => {
+                let expected = text_of(alloc, number)?;
+                answer(table.try_put_if(alloc, caller, &key, Some(&expected), &value))
+            }
+        }
+    }
+
+    fn get<R: Wait>(&mut self, rt: &R, key: &[u8]) -> Answer {
+        let key = text(self.alloc, key)?;
+        answer(self.table.get(rt, self.alloc, &mut self.caller, &key))
+    }
+
+    fn put<R: Wait>(&mut self, rt: &R, key: &[u8], value: u32) -> Answer {
+        let (key, value) = (text(self.alloc, key)?, text_of(self.alloc, value)?);
+        let found = self
+            .table
+            .put(rt, self.alloc, &mut self.caller, &key, &value);
+        answer(found)
+    }
+
+    fn remove<R: Wait>(&mut self, rt: &R, key: &[u8]) -> Answer {
+        let key = text(self.alloc, key)?;
+        answer(self.table.remove(rt, self.alloc, &mut self.caller, &key))
+    }
+
+    fn put_if<R: Wait>(&mut self, rt: &R, key: &[u8], expected: Option<u32>, value: u32) -> Answer {
+        let alloc = self.alloc;
+        let (key, value) = (text(alloc, key)?, text_of(alloc, value)?);
+        let (table, caller) = (self.table, &mut self.caller);
+        match expected {
+            None => answer(table.put_if(rt, alloc, caller, &key, None, &value)),
+            Some(number) => {
+                let expected = text_of(alloc, number)?;
+                answer(table.put_if(rt, alloc, caller, &key, Some(&expected), &value))
+            }
+        }
+    }
+
+    fn read_through<R: Wait>(&mut self, rt: &R, key: &[u8]) -> Answer {
+        let key = text(self.alloc, key)?;
+        answer(
+            self.table
+                .read_through(rt, self.alloc, &mut self.caller, &key),
+        )
+    }
+
+    fn fetch<R: Wait>(&mut self, rt: &R, key: &[u8]) -> Result<bool, Refusal> {
+        let key = text(self.alloc, key)?;
+        self.table.fetch(rt, self.alloc, &mut self.caller, &key)
+    }
+
+    fn swap_out<R: Wait>(&mut self, rt: &R, frame: u32) -> Result<bool, Refusal> {
+        self.table.swap_out(rt, &mut self.caller, frame)
+    }
+
+    /// Where the contents of the key's bucket lie.
+    fn state(&mut self, key: &[u8]) -> Result<BucketState, Refusal> {
+        let key = text(self.alloc, key)?;
+        let bucket = self.table.bucket(&key);
+        Ok(self.table.state_of(&mut self.caller, bucket))
+    }
+
+    /// How many pairs the key's bucket has.
+    fn count_pairs<R: Wait>(&mut self, rt: &R, key: &[u8]) -> Result<u32, Refusal> {
+        let key = text(self.alloc, key)?;
+        let bucket = self.table.bucket(&key);
+        let pairs = self
+            .table
+            .pairs_in(rt, self.alloc, &mut self.caller, bucket)?;
+        Ok(u32::try_from(pairs.len()).unwrap_or(u32::MAX))
+    }
+
+    /// Puts the values from 1 to this one, and counts the puts that answered the value before.
+    fn try_puts(&mut self, key: &[u8], most: u32) -> Result<u32, Refusal> {
+        let mut right = 0u32;
+        let mut before = None;
+        for value in 1..=most {
+            if self.try_put(key, value)? == before {
+                right = right.wrapping_add(1);
+            }
+            before = Some(value);
+        }
+        Ok(right)
+    }
+
+    /// The bytes of the key's value in a scope, the value, and the name of its version. The scope is closed again.
+    fn shown(&mut self, key: &[u8]) -> Result<Option<(Vec<u8>, u32, u64)>, Refusal> {
+        let key = text(self.alloc, key)?;
+        match self.table.open_scope(&mut self.caller, &key) {
+            Ok(Some(scope)) => {
+                let bytes = Vec::from_slice(self.alloc, scope.bytes());
+                let value = scope.value(self.alloc);
+                let name = scope.name();
+                scope.close();
+                match (bytes, value) {
+                    (Ok(bytes), Ok(value)) => Ok(Some((bytes, number_of(&value), name))),
+                    _ => Err(Refusal::Memory),
+                }
+            }
+            Ok(None) => Ok(None),
+            Err(refusal) => Err(refusal),
+        }
+    }
+
+    /// Takes the oldest spare out, and holds it. Whether there was one.
+    fn take(&mut self) -> bool {
+        self.taken = self.caller.take_spare();
+        self.taken.is_some()
+    }
+
+    /// Puts the spare that is held back as the oldest. Where it comes back, it is held again.
+    fn put_back(&mut self) -> bool {
+        let Some(spare) = self.taken.take() else {
+            return false;
+        };
+        match self.caller.return_spare(spare) {
+            Ok(()) => true,
+            Err(spare) => {
+                self.taken = Some(spare);
+                false
+            }
+        }
+    }
+
+    /// The name of the spare that is held.
+    fn held(&self) -> Option<u64> {
+        match &self.taken {
+            Some(spare) => Some(name_of(spare.word())),
+            None => None,
+        }
+    }
+
+    /// The name of the oldest spare, which stays.
+    fn oldest(&mut self) -> Option<u64> {
+        let spare = self.caller.take_spare()?;
+        let name = name_of(spare.word());
+        match self.caller.return_spare(spare) {
+            Ok(()) => Some(name),
+            Err(_) => None,
+        }
+    }
+
+    /// Reclaims the oldest spare. Where that is refused, it is the oldest again. None where no spare waits.
+    fn reclaim<R: Wait>(&mut self, rt: &R) -> Option<Result<bool, ReclaimFault>> {
+        let spare = self.caller.take_spare()?;
+        match self.table.reclaim(rt, &mut self.caller, spare) {
+            Ok(there) => Some(Ok(there)),
+            Err((spare, fault)) => match self.caller.return_spare(spare) {
+                Ok(()) => Some(Err(fault)),
+                Err(_) => None,
+            },
+        }
+    }
+}

@@ -1,0 +1,99 @@
+//! Two threads that put keys of their own, one try after another.
+ghost use Rattle.std.specs.Prelude.{◌≡◌, true};
+ghost use Rattle.version_words.specs.Rows.{limits_of};
+ghost use Rattle.hash_table.specs.Configs.{sizes_of};
+
+use super::{Answer, User, opened, settings};
+use far_device::FakeDevice;
+use far_object::Text;
+use hash_table::{Config, FarTable, Opening, Refusal};
+use std::alloc::Global;
+use std::marker::Brand;
+use std::process::Abort;
+use std::sync::Wait;
+use std::test::Fail;
+use std::thread::{Threads, join};
+use version_words::Naming;
+
+/// How many puts each thread makes.
+const ROUNDS: u32 = 1_000;
+
+/// How often one put is tried while the other thread draws names.
+const MOST_TRIES: u32 = 10_000_000;
+
+type Fake<'t, J> = User<'t, J, FakeDevice>;
+
+// Puts, again while another name was drawn at that moment. This takes no handle to wait.
+fn put_again<J: Naming>(user: &mut Fake<'_, J>, key: &[u8], value: u32) -> Answer {
+    for _ in 0..MOST_TRIES {
+        match user.try_put(key, value) {
+            Ok(answer) => return Ok(answer),
+            Err(Refusal::Moved) => {}
+            Err(refusal) => return Err(refusal),
+        }
+    }
+    Err(Refusal::Moved)
+}
+
+// Whether a put answers the value before and a get then this one, and the old version ends.
+fn one_round<J: Naming, R: Wait>(rt: &R, user: &mut Fake<'_, J>, key: &[u8], value: u32) -> bool {
+    let before = if value == 1 {
+        None
+    } else {
+        Some(value.wrapping_sub(1))
+    };
+    let put = put_again(user, key, value) == Ok(before);
+    let got = user.try_get(key) == Ok(Some(value));
+    put && got && (value == 1 || user.reclaim(rt) == Some(Ok(true)))
+}
+
+// How many rounds went as they should.
+fn rounds<J: Naming, R: Wait>(
+    rt: &R,
+    alloc: Global,
+    table: &FarTable<Text, Text, J, FakeDevice>,
+    key: &[u8],
+) -> u32 {
+    let mut done = 0u32;
+    if let Some(mut user) = User::enter(alloc, table) {
+        for value in 1..=ROUNDS {
+            if one_round(rt, &mut user, key, value) {
+                done = done.wrapping_add(1);
+            }
+        }
+    }
+    done
+}
+
+#[test]
+fn two_threads(rt: HostRuntime) -> Result<(), Fail> {
+    let more = Config {
+        frames: 8,
+        ..settings()
+    };
+    two_share::<Brand, _>(&rt, rt.alloc(), opened(rt.alloc(), more)?)
+}
+
+fn two_share<J: Naming + Send + Sync, R: Threads + Wait + Abort + Sync>(
+    rt: &R,
+    alloc: Global,
+    opening: Opening<Text, Text, FakeDevice>,
+) -> Result<(), Fail>
+    requires book { opening.row.book ≡ J.book }
+    requires boards { opening.row.names ≡ J.names }
+    requires limits { limits_of (sizes_of opening.config) true ≡ J.limits }
+{
+    let all = opening.named::<J>(alloc)?;
+    let table = &all;
+    let (one, two) = join(
+        rt,
+        || rounds(rt, alloc, table, b"a"),
+        || rounds(rt, alloc, table, b"b"),
+    );
+    assert_eq!(rt; (one, two), (ROUNDS, ROUNDS));
+    let mut user = User::enter(alloc, table).ok_or("no caller")?;
+    assert_eq!(rt; user.try_get(b"a"), Ok(Some(ROUNDS)));
+    assert_eq!(rt; user.try_get(b"b"), Ok(Some(ROUNDS)));
+    assert_eq!(rt; table.free(), 6);
+    Ok(())
+}
