@@ -10,7 +10,7 @@ import collections
 import os
 import sys
 
-from refused_growths import run
+from refused_growths import run_refused
 
 # The program makes fewer requests.
 MOST_GROWTHS = 3_000
@@ -29,7 +29,7 @@ TOLD = ("memory, then ok", "not prepared")
 
 def told(ran):
     """Gives what a run printed of each call, or nothing where it did not end well."""
-    status, out, err, requests = ran
+    (status, out, err), requests = ran
     lines = [line.rpartition(": ") for line in out.splitlines()]
     is_well = (status, err) == (0, "") and requests is not None and out.endswith("\n")
     return {call: said for call, _, said in lines} if is_well else {}
@@ -37,13 +37,13 @@ def told(ran):
 
 def sweep(program, library):
     """Refuses each growth in turn, and gives the growths of each call, those of preparations, and the faulty runs."""
-    whole = run(program, library, [], [], "")
-    names, growths = told(whole), whole[3]
+    whole = run_refused(program, library, [], [], "")
+    names, growths = told(whole), whole[1]
     growths_of, preparations, wrong = collections.Counter(), 0, []
     if not names or set(names.values()) != {"ok"} or growths >= MOST_GROWTHS:
         return growths_of, 0, [f"none refused: {whole}"]
     for number in range(1, growths + 1):
-        ran = run(program, library, [], [], str(number))
+        ran = run_refused(program, library, [], [], str(number))
         lines = told(ran)
         others = [(call, said) for call, said in lines.items() if said != "ok"]
         if list(lines) != list(names) or len(others) != 1 or others[0][1] not in TOLD:

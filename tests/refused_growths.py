@@ -49,20 +49,27 @@ def judge(files, status, out, err):
     return "replied memory" if refusals else "unseen", (status, err) == (0, "")
 
 
+def run_refused(program, library, settings, files, refused):
+    """Runs the program with these growths refused, and gives its status, output and error text, and how many it asked for, if
+    it told."""
+    with tempfile.NamedTemporaryFile("r") as told:
+        environment = {"LD_PRELOAD": library, "REFUSED": refused, "GROWTHS": told.name}
+        ended = run(program, settings, files, environment)
+        requests = re.fullmatch(r"(\d+)\n", told.read())
+    return ended, int(requests[1]) if requests else None
+
+
 def sweep(program, library, files, ends):
     """Refuses each growth in turn, and gives how often the runs ended in which way, and how many ended wrongly."""
     ways = collections.Counter()
     wrong = 0
     for number in range(1, MOST_RUNS + 1):
-        with tempfile.NamedTemporaryFile("r") as told:
-            environment = {"LD_PRELOAD": library, "REFUSED": f"{number}{ends}", "GROWTHS": told.name}
-            ended = run(program, SETTINGS, files, environment)
-            requests = re.fullmatch(r"(\d+)\n", told.read())
+        ended, requests = run_refused(program, library, SETTINGS, files, f"{number}{ends}")
         said, passes = judge(files, *ended)
-        if not passes or not requests:
+        if not passes or requests is None:
             wrong += 1
             print(f"{number}{ends}: WRONG: {said}")
-        if requests and int(requests[1]) < number:
+        if requests is not None and requests < number:
             return number - 1, ways, wrong + (said != "unseen")
         ways[said] += 1
     print(f"WRONG: after {MOST_RUNS} runs a growth is still refused, or no run told how many there were")
