@@ -71,7 +71,6 @@ impl<K: FarObject, V: FarObject, J: Naming, B: QueueNaming> SpareQueue<K, V, J, 
     }
 
     /// Hands the spare over as the last one. It comes back only where the queue was full at a moment of the call.
-    #[inline]
     pub fn hand_over<R: Wait>(
         &self,
         rt: &R,
@@ -87,7 +86,6 @@ impl<K: FarObject, V: FarObject, J: Naming, B: QueueNaming> SpareQueue<K, V, J, 
 
     /// The spare at the count of takes, which it raises. None only where every hand-over was taken at a moment of the call.
     /// The seat has to be the one that takes.
-    #[inline]
     pub fn take<R: Wait>(&self, rt: &R, seat: &mut QueueSeat<K, V, J, B>) -> Option<Spare<K, V, J>>
         requires { seat.old.takes ≡ true }
         ensures { MatchOption result ((seat.new ≡ seat.old) × (length seat.old.handed ≤ seat.old.taken) × Held 0 (Stands seat.old))
