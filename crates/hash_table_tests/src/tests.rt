@@ -17,6 +17,7 @@ mod opening;
 mod recycling;
 mod script;
 mod shared;
+mod texts;
 
 use far_device::{Device, FakeDevice};
 use far_object::{FarObject, Text};
