@@ -92,7 +92,7 @@ impl<K: FarObject, V: FarObject, J: Naming> Words<K, V, J> {
     }
 
     // The same by an exchange of zero for zero, which changes nothing either: the processor then holds the word's cache line
-    // to write it, so that a step which follows is seldom too late.
+    // to write it, so that a step which follows is less often too late.
     fn look_to_write(
         &self,
         k: usize,
