@@ -16,6 +16,3 @@ pub use fault::{FileFault, LineFault};
 pub use file::read_file;
 pub use laws::{one_command, one_meaning, one_outcome, written_is_said};
 pub use parse::parse_line;
-
-#[cfg(test)]
-mod tests;

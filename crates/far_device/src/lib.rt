@@ -17,6 +17,3 @@ pub use fault::DeviceFault;
 pub use faulty::FaultyDevice;
 pub use lying::LyingDevice;
 pub use watched::WatchedDevice;
-
-#[cfg(test)]
-mod tests;

@@ -10,6 +10,3 @@ pub use fault::LaneFault;
 pub use lane::Lane;
 pub use receipt::Receipt;
 pub use store::LaneStore;
-
-#[cfg(test)]
-mod tests;

@@ -19,6 +19,3 @@ pub use limits::{LAST_NAME, LAST_PASS, Limits, MOST_BUCKETS};
 pub use machine::Machine;
 pub use operation::Operation;
 pub use pairs::Pairs;
-
-#[cfg(test)]
-mod tests;

@@ -29,6 +29,3 @@ pub use pass::Pass;
 pub use sizes::{Honesty, Sizes};
 pub use spare::Spare;
 pub use words::{Installed, Opened, Words};
-
-#[cfg(test)]
-mod tests;

@@ -1,0 +1,236 @@
+//! Worked files, readers that give few bytes at a time, and readers that fail.
+use command_file::{Command, FileFault, MapCommand, TableCommand, read_file};
+use std::alloc::{AllocError, Global};
+use std::io;
+use std::io::{BufRead, BufReader, ErrorKind, Read};
+use std::process::Abort;
+use std::test::Fail;
+
+/// Gives `size` bytes at a time, and fails at the look with the number `failing`, counted from 0.
+#[derive(Drop)]
+struct Faltering<'a> {
+    rest: &'a [u8],
+    size: usize,
+    looks: u8,
+    failing: u8,
+    kind: ErrorKind,
+}
+
+impl Read for Faltering<'_> {
+    fn read(&mut self, _buf: &mut [u8]) -> io::Result<usize> {
+        Ok(0)
+    }
+}
+
+impl BufRead for Faltering<'_> {
+    fn fill_buf(&mut self) -> io::Result<&[u8]> {
+        let look = self.looks;
+        self.looks = look.saturating_add(1);
+        if look == self.failing {
+            return Err(io::Error::from(self.kind));
+        }
+        Ok(&self.rest[..self.rest.len().min(self.size)])
+    }
+
+    fn consume(&mut self, amount: usize) {
+        self.rest = &self.rest[amount.min(self.rest.len())..];
+    }
+}
+
+fn fault_of(alloc: Global, bytes: &[u8]) -> Option<FileFault> {
+    let mut file = bytes;
+    read_file(alloc, &mut file).err()
+}
+
+/// The letter of a command on the map, and its texts.
+fn shown_map(command: &MapCommand) -> (u8, [&[u8]; 3]) {
+    match command {
+        MapCommand::Put { key, value } => (b'p', [key.as_bytes(), value.as_bytes(), b""]),
+        MapCommand::Get { key } => (b'g', [key.as_bytes(), b"", b""]),
+        MapCommand::Delete { key } => (b'd', [key.as_bytes(), b"", b""]),
+        MapCommand::PutIf {
+            key,
+            expected,
+            value,
+        } => (
+            b'i',
+            [key.as_bytes(), expected.as_bytes(), value.as_bytes()],
+        ),
+        MapCommand::PutNew { key, value } => (b'n', [key.as_bytes(), value.as_bytes(), b""]),
+        MapCommand::Hold { key } => (b'h', [key.as_bytes(), b"", b""]),
+    }
+}
+
+/// The same of a command on the table.
+fn shown_table(command: &TableCommand) -> (u8, [&[u8]; 3]) {
+    match command {
+        TableCommand::Show => (b's', [b"", b"", b""]),
+        TableCommand::Release => (b'r', [b"", b"", b""]),
+        TableCommand::Evict => (b'e', [b"", b"", b""]),
+        TableCommand::Where { key } => (b'w', [key.as_bytes(), b"", b""]),
+    }
+}
+
+/// The commands of a file, a letter for each with its texts behind, each text behind a slash.
+fn shown(alloc: Global, commands: &[Command]) -> Result<Vec<u8>, AllocError> {
+    let mut shown = Vec::new(alloc);
+    for command in commands {
+        let (letter, texts) = match command {
+            Command::Map(command) => shown_map(command),
+            Command::Table(command) => shown_table(command),
+        };
+        shown.push(letter)?;
+        for text in texts {
+            shown.push(b'/')?;
+            shown.extend_from_slice(text)?;
+        }
+    }
+    Ok(shown)
+}
+
+fn assert_shown<R: BufRead>(
+    rt: &impl Abort,
+    alloc: Global,
+    file: &mut R,
+    wanted: &[u8],
+) -> Result<(), Fail> {
+    let commands = read_file(alloc, file)?;
+    let found = shown(alloc, commands.as_slice())?;
+    assert!(rt; found.as_slice() == wanted);
+    Ok(())
+}
+
+#[test]
+fn good_files(rt: HostRuntime) -> Result<(), Fail> {
+    let rows: [(&[u8], &[u8]); 8] = [
+        (b"", b""),
+        (b"\n\n", b""),
+        (b"get a", b"g/a//"),
+        (b"del a\n\nput a 1\n", b"d/a//p/a/1/"),
+        (b"putif a 1 2\nputnew a 5\n", b"i/a/1/2n/a/5/"),
+        (b"get ~!\nget get", b"g/~!//g/get//"),
+        (b"hold a\nshow\nrelease\n", b"h/a//s///r///"),
+        (b"evict\nwhere evict\nget show", b"e///w/evict//g/show//"),
+    ];
+    for (bytes, wanted) in &rows {
+        let mut file = *bytes;
+        assert_shown(&rt, rt.alloc(), &mut file, wanted)?;
+    }
+    Ok(())
+}
+
+#[test]
+fn bad_lines(rt: HostRuntime) {
+    let rows: [&[u8]; 24] = [
+        b"put a",
+        b"put  a 1",
+        b"put a  1",
+        b"put a 1 ",
+        b" put a 1",
+        b"put\ta 1",
+        b"put a 1\r\n",
+        b"put a \x80",
+        b"put a \x7f",
+        b"PUT a 1",
+        b"get",
+        b"get a b",
+        b"putif a 1",
+        b"putif a 1 2 3",
+        b"putnew a",
+        b"hold",
+        b"hold a b",
+        b"show a",
+        b"show ",
+        b" release",
+        b"release\r\n",
+        b"evicts",
+        b"where",
+        b"get a\0",
+    ];
+    for bytes in &rows {
+        assert!(rt; fault_of(rt.alloc(), bytes) == Some(FileFault::BadLine(1)));
+    }
+    assert!(rt; fault_of(rt.alloc(), b"\nput a") == Some(FileFault::BadLine(2)));
+}
+
+#[test]
+fn long_words(rt: HostRuntime) -> Result<(), Fail> {
+    let mut line = Vec::from_slice(rt.alloc(), b"get ")?;
+    line.resize(4 + 255, b'a')?;
+    assert!(rt; fault_of(rt.alloc(), line.as_slice()).is_none());
+    line.push(b'a')?;
+    assert!(rt; fault_of(rt.alloc(), line.as_slice()) == Some(FileFault::BadLine(1)));
+    Ok(())
+}
+
+#[test]
+fn long_lines(rt: HostRuntime) -> Result<(), Fail> {
+    for len in [1024, 1025, 1026, 2_000_000] {
+        let mut line = Vec::from_slice(rt.alloc(), b"get ")?;
+        line.resize(len, b'a')?;
+        assert!(rt; fault_of(rt.alloc(), line.as_slice()) == Some(FileFault::BadLine(1)));
+    }
+    Ok(())
+}
+
+#[test]
+fn many_lines(rt: HostRuntime) -> Result<(), Fail> {
+    let mut file = Vec::new(rt.alloc());
+    file.resize(65_535, b'\n')?;
+    assert!(rt; fault_of(rt.alloc(), file.as_slice()).is_none());
+    file.extend_from_slice(b"get a")?;
+    assert!(rt; fault_of(rt.alloc(), file.as_slice()).is_none());
+    file.truncate(65_535);
+    file.extend_from_slice(b"put a")?;
+    assert!(rt; fault_of(rt.alloc(), file.as_slice()) == Some(FileFault::BadLine(65_536)));
+    Ok(())
+}
+
+#[test]
+fn too_many_lines(rt: HostRuntime) -> Result<(), Fail> {
+    let mut file = Vec::new(rt.alloc());
+    file.resize(65_536, b'\n')?;
+    assert!(rt; fault_of(rt.alloc(), file.as_slice()).is_none());
+    file.extend_from_slice(b"put a")?;
+    assert!(rt; fault_of(rt.alloc(), file.as_slice()) == Some(FileFault::TooManyLines));
+    Ok(())
+}
+
+#[test]
+fn small_buffers(rt: HostRuntime) -> Result<(), Fail> {
+    let bytes: &[u8] = b"put a 1\n\nget b";
+    for size in 1..4 {
+        let mut file = BufReader::with_capacity(rt.alloc(), size, bytes)?;
+        assert_shown(&rt, rt.alloc(), &mut file, b"p/a/1/g/b//")?;
+    }
+    Ok(())
+}
+
+#[test]
+fn failing_reads(rt: HostRuntime) -> Result<(), Fail> {
+    let rest: &[u8] = b"put a 1\nget b\n";
+    let (size, looks) = (5, 0);
+    for failing in 0..5 {
+        let kind = ErrorKind::Interrupted;
+        let mut file = Faltering {
+            rest,
+            size,
+            looks,
+            failing,
+            kind,
+        };
+        assert_shown(&rt, rt.alloc(), &mut file, b"p/a/1/g/b//")?;
+        for kind in [ErrorKind::Other, ErrorKind::OutOfMemory] {
+            let mut file = Faltering {
+                rest,
+                size,
+                looks,
+                failing,
+                kind,
+            };
+            let found = read_file(rt.alloc(), &mut file).err();
+            assert!(rt; found == Some(FileFault::Read));
+        }
+    }
+    Ok(())
+}

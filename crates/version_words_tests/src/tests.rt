@@ -1,0 +1,109 @@
+//! Rows as callers use them: the worked run of one thread, several passes, passes that are handed in together, contents that
+//! are vouched for, and threads that share a row.
+ghost use Rattle.std.specs.Prelude.{◌≡◌, ◌<◌, false};
+ghost use Rattle.far_object.specs.Encodings.{enc_text};
+ghost use Rattle.far_object.specs.Buckets.{bucket as bucket_at};
+
+mod case;
+mod gathered;
+mod passes;
+mod shared;
+mod vouched;
+mod worked;
+
+use far_object::{Object, Text, bucket_of};
+use std::alloc::Global;
+use std::marker::PhantomData;
+use std::test::Fail;
+use version_words::{Honesty, Naming, Pass, Words};
+
+/// How often a draw is tried while other threads draw.
+const TRIES: u32 = 1_000_000;
+
+/// Nobody vouches for the contents of words, so that calls owe nothing of them.
+pub struct Unvouched;
+
+impl Honesty for Unvouched {
+    ghost use Rattle.std.specs.Prelude.{false};
+
+    ghost honest = { false };
+}
+
+/// A pair, the object of this pair alone, and the bucket of its key.
+#[derive(Drop)]
+struct Sample<J: Naming> {
+    key: Text,
+    value: Text,
+    object: Object<Text, Text>,
+    bucket: u32,
+    of: PhantomData<J>,
+    ghost of_key: { bucket_at enc_text J.limits.buckets key ≡ bucket },
+    ghost within: { bucket < J.limits.buckets },
+    ghost unvouched: { J.limits.honest ≡ false },
+}
+
+/// A key, a value and the object of this pair alone.
+fn parts(
+    alloc: Global,
+    key: &[u8],
+    value: &[u8],
+) -> Result<(Text, Text, Object<Text, Text>), Fail> {
+    let (key, value) = (Text::new(alloc, key)?, Text::new(alloc, value)?);
+    let object = Object::empty(alloc)?.with(alloc, &key, &value)?;
+    Ok((key, value, object))
+}
+
+impl<J: Naming> Sample<J> {
+    fn new(
+        alloc: Global,
+        words: &Words<Text, Text, J>,
+        key: &[u8],
+        value: &[u8],
+    ) -> Result<Sample<J>, Fail>
+        requires { J.limits.honest ≡ false }
+    {
+        let (key, value, object) = parts(alloc, key, value)?;
+        let bucket = bucket_of(&key, words.buckets());
+        Ok(Sample {
+            key,
+            value,
+            object,
+            bucket,
+            of: PhantomData,
+        })
+    }
+}
+
+/// Draws a pass, also while other threads draw.
+fn entered<J: Naming>(words: &Words<Text, Text, J>) -> Option<Pass<Text, Text, J>> {
+    for _ in 0..TRIES {
+        let drawn = words.enter().ok();
+        if drawn.is_some() {
+            return drawn;
+        }
+    }
+    None
+}
+
+/// A row with its first pass and a sample.
+#[derive(Drop)]
+struct Fixture<J: Naming> {
+    words: Words<Text, Text, J>,
+    pass: Pass<Text, Text, J>,
+    sample: Sample<J>,
+}
+
+impl<J: Naming> Fixture<J> {
+    /// The sample has this key and the value 1.
+    fn new(alloc: Global, words: Words<Text, Text, J>, key: &[u8]) -> Result<Fixture<J>, Fail>
+        requires { J.limits.honest ≡ false }
+    {
+        let sample = Sample::new(alloc, &words, key, b"1")?;
+        let pass = entered(&words).ok_or("no pass")?;
+        Ok(Fixture {
+            words,
+            pass,
+            sample,
+        })
+    }
+}
