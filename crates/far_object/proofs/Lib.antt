@@ -10,6 +10,7 @@ pub mod Putting
 pub mod Reading
 pub mod Rising
 pub mod Sound
+pub mod Spelled
 pub mod Spots
 pub mod Values
 pub mod Walks

@@ -42,6 +42,14 @@ module _ {K V : Type 0} (ek : K → List ℕ) (ev : V → List ℕ) where
     pub ends : r.end ≤ length (object_of es)
     pub bytes : between r.start r.end (object_of es) ≡ ev value
 
+-- an object's pairs, and the key that is looked for among them
+pub record Sought (K V : Type 0) : Type 0 where
+  pub pairs : List (K × V)
+  pub key : K
+
+abbrev pub sought : {K V : Type 0} → List (K × V) → K → Sought K V
+sought es k = record { pairs = es; key = k }
+
 -- the pairs without that of the key k
 abbrev pub cut : {K V : Type 0} → (K → K → Ordering) → K → List (K × V) → List (K × V)
 cut cmp k es = filter (λ e. not (is_at (cmp k) e.0)) es

@@ -15,6 +15,7 @@ mod keys;
 mod laws;
 mod number;
 mod object;
+mod order;
 mod text;
 mod traits;
 
@@ -27,9 +28,6 @@ pub use laws::{
     objects_are_longer_than_their_counts, spellings_are_misplaced_elsewhere,
     values_are_where_encodings_begin,
 };
-pub use object::{MOST_PAIRS, Object};
+pub use object::{Entry, MOST_PAIRS, Object};
 pub use text::Text;
 pub use traits::FarObject;
-
-#[cfg(test)]
-mod tests;

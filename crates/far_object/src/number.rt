@@ -3,6 +3,7 @@ ghost use Rattle.far_object.specs.Encodings.{enc_u64, dec_u64};
 ghost use Rattle.far_object.specs.EncodingLaws.{u64_laws};
 
 use crate::fault::{Memory, ObjectFault};
+use crate::order::order;
 use crate::traits::FarObject;
 use std::alloc::Global;
 use std::cmp::Ordering;
@@ -56,12 +57,12 @@ impl FarObject for u64 {
     }
 
     fn compare_to_bytes(&self, bytes: &[u8]) -> Ordering {
-        self.to_be_bytes().as_slice().cmp(bytes)
+        order(&self.to_be_bytes(), bytes)
     }
 
     fn compare(&self, other: &u64) -> Ordering {
-        self.to_be_bytes()
-            .as_slice()
-            .cmp(other.to_be_bytes().as_slice())
+        let own = *self;
+        let other = *other;
+        own.cmp(&other)
     }
 }

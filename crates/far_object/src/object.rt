@@ -12,12 +12,14 @@ ghost use Rattle.far_object.specs.Objects.{object_of, IsMap};
 
 mod change;
 mod entries;
+mod entry;
 mod locate;
 mod read;
 mod write;
 
 use crate::fault::Memory;
 use crate::traits::FarObject;
+pub use entry::Entry;
 use std::alloc::Global;
 use std::marker::{Model, PhantomData};
 
@@ -28,8 +30,9 @@ pub const MOST_PAIRS: u32 = 1_048_576;
 /// order of their keys' encoded bytes.
 #[derive(Drop)]
 pub struct Object<K: FarObject, V: FarObject> {
-    bytes: Vec<u8>,
+    // In front of the list, so that what a reader asks stands together, and the list's room behind it.
     start: usize,
+    bytes: Vec<u8>,
     key: PhantomData<K>,
     value: PhantomData<V>,
 }

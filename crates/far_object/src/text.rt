@@ -1,10 +1,11 @@
 //! Texts: short lists of bytes, as keys and values.
-ghost use Rattle.std.specs.Prelude.{◌≡◌, ◌≤◌, ◌^◌, length, IfOk, ◌↔◌, Err};
+ghost use Rattle.std.specs.Prelude.{◌≡◌, ◌<◌, ◌≤◌, ◌^◌, length, IfOk, ◌↔◌, Err};
 ghost use Rattle.std.specs.Int.{w16, to_be_bytes};
 ghost use Rattle.far_object.specs.Encodings.{enc_text, dec_text, IsText};
 ghost use Rattle.far_object.specs.EncodingLaws.{text_laws};
 
 use crate::fault::{Memory, ObjectFault, TextFault};
+use crate::order::order;
 use crate::traits::FarObject;
 use std::alloc::Global;
 use std::cmp::Ordering;
@@ -134,24 +135,27 @@ impl FarObject for Text {
     }
 
     fn compare_to_bytes(&self, bytes: &[u8]) -> Ordering {
-        let front = self.length_bytes();
         match bytes.split_first_chunk::<2>() {
-            None => front.as_slice().cmp(bytes),
-            Some((other, rest)) => {
-                match front.as_slice().cmp(other.as_slice()) {
-                    Ordering::Equal => self.as_bytes().cmp(rest),
-                    unequal => unequal,
-                }
-            }
+            None => self.length_bytes().as_slice().cmp(bytes),
+            Some((front, rest)) => match self.bytes.len().cmp(&length_of(front)) {
+                Ordering::Equal => order(self.as_bytes(), rest),
+                unequal => unequal,
+            },
         }
     }
 
     fn compare(&self, other: &Text) -> Ordering {
-        let front = self.length_bytes();
-        let others = other.length_bytes();
-        match front.as_slice().cmp(others.as_slice()) {
-            Ordering::Equal => self.as_bytes().cmp(other.as_bytes()),
+        match self.bytes.len().cmp(&other.bytes.len()) {
+            Ordering::Equal => order(self.as_bytes(), other.as_bytes()),
             unequal => unequal,
         }
     }
+}
+
+/// The length that these bytes before a text tell.
+fn length_of(front: &[u8; 2]) -> usize
+    ensures bytes { to_be_bytes w16 result ≡ front.now }
+    ensures below { result < 2 ^ 16 }
+{
+    u16::from_be_bytes(*front) as usize
 }

@@ -1,7 +1,5 @@
 -- What a frame's slot shows, and what is told of a version without its object.
 use Rattle.std.specs.Prelude.{◌≡◌, ◌<◌, ℕ, List, [], length, get_or, Option, Some, None, ⊤}
-use Rattle.crossbeam_utils.specs.declared.cache_padded.CachePadded.{CachePadded}
-use Rattle.crossbeam_utils.specs.Padded.{padded_value}
 use Rattle.table_core.specs.declared.limits.Limits.{Limits}
 use Rattle.version_words.specs.Shown.{Shown, shown, IsOwn}
 
@@ -18,8 +16,8 @@ shown_in (Some None) = shown [] 0 0 []
 shown_in None = shown [] 0 0 []
 
 -- the number of each slot, which is its tag, is its place in the row
-abbrev pub AreNumbered : List (CachePadded ℕ) → Type 0
-AreNumbered slots = (i : ℕ) (d : CachePadded ℕ) → i < length slots → padded_value (get_or slots i d) ≡ i
+abbrev pub AreNumbered : List ℕ → Type 0
+AreNumbered slots = (i d : ℕ) → i < length slots → get_or slots i d ≡ i
 
 module _ {K V : Type 0} (ek : K → List ℕ) (ev : V → List ℕ) (l : Limits) where
   -- the bucket b and the name n are those of a version that is the object of its naming

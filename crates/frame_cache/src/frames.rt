@@ -35,7 +35,6 @@ use crate::scope::Scope;
 use crate::slot::{Slot, SlotClaim, read, reader_count, take, unread, word_of};
 use crate::version::{Lodged, Version};
 use counted_slot::{Counted, FREE};
-use crossbeam_utils::CachePadded;
 use far_object::{FarObject, Memory};
 use std::alloc::Global;
 use std::marker::Model;
@@ -64,13 +63,13 @@ fn told<K: FarObject, V: FarObject, J: Naming>(claim: &SlotClaim<'_, K, V, J>) -
     }
 }
 
-/// A row of frames, whose numbers are those below their count. Every call takes `&self`, and threads share it. Each frame
-/// lies alone on its cache lines. Contracts see the count, which is the most versions that lie in frames at once.
+/// A row of frames, whose numbers are those below their count. Every call takes `&self`, and threads share it. A frame
+/// takes 64 bytes. Contracts see the count, which is the most versions that lie in frames at once.
 ///
 /// A number that is not below the count is that of an empty frame to every call.
 #[derive(Drop)]
 pub struct Frames<K: FarObject, V: FarObject, J: Naming> {
-    slots: Vec<CachePadded<Slot<K, V, J>>>,
+    slots: Vec<Slot<K, V, J>>,
     vacant: Vacant,
     // Whether a frame was ever kept.
     keeps: AtomicBool,
@@ -96,7 +95,7 @@ impl<K: FarObject, V: FarObject, J: Naming> Frames<K, V, J> {
     {
         let mut slots = Vec::with_capacity(alloc, count as usize)?;
         for frame in 0..count {
-            slots.push(CachePadded::new(Counted::new(None, &frame)))?;
+            slots.push(Counted::new(None, &frame))?;
         }
         Ok(Frames {
             slots,
@@ -118,8 +117,7 @@ impl<K: FarObject, V: FarObject, J: Naming> Frames<K, V, J> {
         ensures here { IfSome result (λ _. frame < self.now) }
         ensures few { self.now ≤ 65536 }
     {
-        let padded = self.slots.get(frame as usize)?;
-        Some(padded)
+        self.slots.get(frame as usize)
     }
 
     /// This frame where it is free: for a frame that the caller emptied by `reclaim_kept`. No clause says when none comes.

@@ -5,6 +5,7 @@ ghost use Rattle.std.specs.Prelude.{◌≡◌, ◌<◌, false};
 mod absent;
 mod hints;
 mod kept;
+mod layout;
 mod put_back;
 mod readers;
 mod retired;

@@ -13,9 +13,10 @@ use version_words::{Mark, Name, Naming};
 ///
 /// It can be neither copied nor dropped: it goes into a frame (`Reserved::fill`), and `laws::retire` ends it.
 pub struct Version<K: FarObject, V: FarObject, J: Naming> {
+    // What a reader asks stands in front: with the frame's word it fills the first 48 of a frame's 64 bytes.
+    pub(crate) name: u64,
     pub(crate) object: Object<K, V>,
     pub(crate) bucket: u32,
-    pub(crate) name: u64,
     pub(crate) mark: Mark<K, V, J>,
 }
 

@@ -5,6 +5,7 @@ ghost use Rattle.std.specs.Int.{w32, to_be_bytes};
 ghost use Rattle.std.specs.BTreeMap.{insert_entry};
 ghost use Rattle.far_object.specs.Buckets.{key_cmp};
 ghost use Rattle.far_object.specs.Objects.{cut, most_pairs};
+ghost use Rattle.far_object.specs.Spots.{spot_from};
 
 use crate::fault::Memory;
 use crate::keys::size;
@@ -30,11 +31,34 @@ impl<K: FarObject, V: FarObject> Object<K, V> {
         requires { length self.now < most_pairs }
         ensures { IfOk result (λ o. o ≡ insert_entry (key_cmp K.enc) self.now key.now value.now) }
     {
+        self.with_at(alloc, key, self.locate(key), value)
+    }
+
+    /// The object without this key; the same pairs where the key is not there. `Memory` comes where
+    /// the new bytes are refused.
+    pub fn without(&self, alloc: Global, key: &K) -> Result<Object<K, V>, Memory>
+        ensures { IfOk result (λ o. o ≡ cut (key_cmp K.enc) key.now self.now) }
+    {
+        self.without_at(alloc, key, self.locate(key))
+    }
+
+    /// As `with`, of a key that was located.
+    pub(super) fn with_at(
+        &self,
+        alloc: Global,
+        key: &K,
+        spot: Spot,
+        value: &V,
+    ) -> Result<Object<K, V>, Memory>
+        requires located { spot ≡ spot_from K.enc V.enc key.now 4 self.now }
+        requires few { length self.now < most_pairs }
+        ensures { IfOk result (λ o. o ≡ insert_entry (key_cmp K.enc) self.now key.now value.now) }
+    {
         key.admitted();
         value.admitted();
         let bytes = self.as_bytes();
         let count = self.count();
-        match self.locate(key) {
+        match spot {
             Spot::Gap(at) => {
                 let with = spliced(alloc, bytes, count + 1, at, at, key, value)?;
                 Ok(Object::behind(with, 0))
@@ -46,14 +70,19 @@ impl<K: FarObject, V: FarObject> Object<K, V> {
         }
     }
 
-    /// The object without this key; the same pairs where the key is not there. `Memory` comes where
-    /// the new bytes are refused.
-    pub fn without(&self, alloc: Global, key: &K) -> Result<Object<K, V>, Memory>
+    /// As `without`, of a key that was located.
+    pub(super) fn without_at(
+        &self,
+        alloc: Global,
+        key: &K,
+        spot: Spot,
+    ) -> Result<Object<K, V>, Memory>
+        requires located { spot ≡ spot_from K.enc V.enc key.now 4 self.now }
         ensures { IfOk result (λ o. o ≡ cut (key_cmp K.enc) key.now self.now) }
     {
         let bytes = self.as_bytes();
         let count = self.count();
-        match self.locate(key) {
+        match spot {
             Spot::Gap(_) => {
                 let same = Vec::from_slice(alloc, bytes)?;
                 Ok(Object::behind(same, 0))

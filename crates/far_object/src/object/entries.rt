@@ -4,9 +4,11 @@ ghost use Rattle.std.specs.Map.{lookup};
 ghost use Rattle.std.specs.BTreeMap.{is_at};
 ghost use Rattle.far_object.specs.Buckets.{key_cmp};
 ghost use Rattle.far_object.specs.Decoded.{BeginsWith};
+ghost use Rattle.far_object.specs.Spots.{spot_from};
 
 use crate::fault::Memory;
 use crate::object::Object;
+use crate::object::locate::Spot;
 use crate::traits::FarObject;
 use std::alloc::Global;
 
@@ -48,8 +50,16 @@ impl<K: FarObject, V: FarObject> Object<K, V> {
     pub fn value(&self, alloc: Global, key: &K) -> Result<Option<V>, Memory>
         ensures { IfOk result (λ value. value ≡ lookup (is_at (key_cmp K.enc key.now)) self.now) }
     {
+        self.value_at(alloc, key, self.locate(key))
+    }
+
+    /// As `value`, of a key that was located.
+    pub(super) fn value_at(&self, alloc: Global, key: &K, spot: Spot) -> Result<Option<V>, Memory>
+        requires located { spot ≡ spot_from K.enc V.enc key.now 4 self.now }
+        ensures { IfOk result (λ value. value ≡ lookup (is_at (key_cmp K.enc key.now)) self.now) }
+    {
         let bytes = self.as_bytes();
-        match self.find(key) {
+        match self.place_at(key, spot) {
             None => Ok(None),
             Some(place) => match V::decode(alloc, &bytes[place]) {
                 Err(_) => Err(Memory),

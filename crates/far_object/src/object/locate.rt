@@ -63,8 +63,17 @@ impl<K: FarObject, V: FarObject> Object<K, V> {
         ensures place { result ≡ value_place K.enc V.enc key.now self.now }
         ensures value { MatchOption result (lookup (is_at (key_cmp K.enc key.now)) self.now ≡ None) (λ r. IsValueAt K.enc V.enc key.now self.now r) }
     {
+        self.place_at(key, self.locate(key))
+    }
+
+    /// As `find`, of a key that was located.
+    pub(super) fn place_at(&self, key: &K, spot: Spot) -> Option<Range<usize>>
+        requires located { spot ≡ spot_from K.enc V.enc key.now 4 self.now }
+        ensures place { result ≡ value_place K.enc V.enc key.now self.now }
+        ensures value { MatchOption result (lookup (is_at (key_cmp K.enc key.now)) self.now ≡ None) (λ r. IsValueAt K.enc V.enc key.now self.now r) }
+    {
         let _bytes = self.as_bytes();
-        match self.locate(key) {
+        match spot {
             Spot::Gap(_) => None,
             Spot::Here(_, start, end) => Some(start..end),
         }

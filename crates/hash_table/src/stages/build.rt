@@ -10,7 +10,7 @@ ghost use Rattle.hash_table.specs.Stages.{IsUnmade};
 
 use crate::edit::Edit;
 use crate::refusal::Refusal;
-use far_object::{FarObject, MOST_PAIRS, Object, full_objects_grow_too_long};
+use far_object::{Entry, FarObject, MOST_PAIRS, Object, full_objects_grow_too_long};
 use std::alloc::Global;
 
 /// What an operation answers, and the object that it makes; none where it leaves the one that there is.
@@ -31,24 +31,25 @@ fn is_met<V: FarObject>(expected: Option<&V>, found: &Option<V>) -> bool
     }
 }
 
-// The object with the value at the key, where it is no longer than the limit.
+// The object with the value at the key of the entry, where it is no longer than the limit.
 fn with<K: FarObject, V: FarObject>(
     alloc: Global,
     object: &Object<K, V>,
-    key: &K,
+    entry: &Entry<'_, K, V>,
     value: &V,
     limit: u32,
 ) -> Result<Object<K, V>, Refusal>
+    requires own { entry.now.pairs ≡ object.now }
     requires limited { limit ≤ 1048576 }
-    ensures with { IfOk result (λ o. o ≡ insert_entry (key_cmp K.enc) object.now key.now value.now) }
-    ensures why { IfErr result (λ e. IsUnmade K.enc V.enc limit object.now (op.Put key.now value.now) e) }
+    ensures with { IfOk result (λ o. o ≡ insert_entry (key_cmp K.enc) object.now entry.now.key value.now) }
+    ensures why { IfErr result (λ e. IsUnmade K.enc V.enc limit object.now (op.Put entry.now.key value.now) e) }
 {
     full_objects_grow_too_long::<K, V>();
     let _map = object.as_bytes();
     if object.count() >= MOST_PAIRS {
         return Err(Refusal::TooLong);
     }
-    let object = match object.with(alloc, key, value) {
+    let object = match entry.with(alloc, value) {
         Ok(object) => object,
         Err(_) => return Err(Refusal::Memory),
     };
@@ -120,7 +121,7 @@ pub(crate) fn build_first<K: FarObject, V: FarObject>(
     }
 }
 
-/// What the operation makes of the object.
+/// What the operation makes of the object, of which it looks for its key once.
 pub(crate) fn build<K: FarObject, V: FarObject>(
     alloc: Global,
     object: &Object<K, V>,
@@ -133,26 +134,27 @@ pub(crate) fn build<K: FarObject, V: FarObject>(
     ensures may { IfOk result (λ t. IfNone t.object (MayLeave edit.now)) }
     ensures why { IfErr result (λ e. IsUnmade K.enc V.enc limit object.now (edited edit.now) e) }
 {
-    let answer = match object.value(alloc, edit.key()) {
+    let entry = object.entry(edit.key());
+    let answer = match entry.value(alloc) {
         Ok(answer) => answer,
         Err(_) => return Err(Refusal::Memory),
     };
     match edit {
-        Edit::Put(key, value) => match with(alloc, object, *key, *value, limit) {
+        Edit::Put(_, value) => match with(alloc, object, &entry, *value, limit) {
             Ok(made) => Ok(Built {
                 answer,
                 object: Some(made),
             }),
             Err(refusal) => Err(refusal),
         },
-        Edit::Remove(key) => {
+        Edit::Remove(_) => {
             if answer.is_none() {
                 return Ok(Built {
                     answer,
                     object: None,
                 });
             }
-            match object.without(alloc, *key) {
+            match entry.without(alloc) {
                 Ok(made) => Ok(Built {
                     answer,
                     object: Some(made),
@@ -160,14 +162,14 @@ pub(crate) fn build<K: FarObject, V: FarObject>(
                 Err(_) => Err(Refusal::Memory),
             }
         }
-        Edit::PutIf(key, expected, value) => {
+        Edit::PutIf(_, expected, value) => {
             if !is_met(*expected, &answer) {
                 return Ok(Built {
                     answer,
                     object: None,
                 });
             }
-            match with(alloc, object, *key, *value, limit) {
+            match with(alloc, object, &entry, *value, limit) {
                 Ok(made) => Ok(Built {
                     answer,
                     object: Some(made),

@@ -1,5 +1,5 @@
 use Rattle.far_object.proofs.Values.{value_found}
-use Rattle.far_object.proofs.object.Object.value.Goals as goal
+use Rattle.far_object.proofs.object.Object.value_at.Goals as goal
 
 pub returns-in-Ok : goal.returns-in-Ok
 returns-in-Ok g c =

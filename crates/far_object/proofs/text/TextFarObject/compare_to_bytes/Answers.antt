@@ -1,0 +1,29 @@
+use Rattle.std.proofs.Common.{◌≡◌, ◌++◌, subst, ◌∙◌, ap, arith, length}
+use Rattle.std.specs.Int.{w16, to_be_bytes}
+use Rattle.std.specs.Ordering.{nat_cmp, ordering_then}
+use Rattle.std.specs.Cmp.Lexicographic.{slice_cmp}
+use Rattle.std.proofs.lemmas.List.{take-append-drop}
+use Rattle.far_object.specs.Encodings.{IsText, enc_text}
+use Rattle.far_object.proofs.Spelled.{lengths_decide, others_decide, equals_leave}
+use Rattle.far_object.proofs.text.TextFarObject.compare_to_bytes.Goals as goal
+use Rattle.far_object.proofs.text.TextFarObject.compare_to_bytes.Goals.{After-cmp-in-Some}
+
+-- the lengths decide, and else the bytes
+decide : (c : After-cmp-in-Some) → ordering_then c.cmp-in-Some.result (slice_cmp nat_cmp c.args.self.now c.in-Some.rest.now) ≡ slice_cmp nat_cmp (enc_text c.args.self.now) c.args.bytes.now
+decide c =
+    let cases = c.in-Some.ensures.cases in
+    let is : IsText c.args.self.now = subst IsText c.self.view_is c.self.invariant in
+    let bytes : to_be_bytes w16 c.length_of.result ++ c.in-Some.rest.now ≡ c.args.bytes.now =
+    (λ i. (c.length_of.ensures.bytes ∙ cases.0) i ++ cases.1 i) ∙ take-append-drop 2 c.args.bytes.now in
+    let told : c.cmp-in-Some.result ≡ nat_cmp (length c.args.self.now) c.length_of.result = c.cmp-in-Some.ensures ∙ ap (λ m. nat_cmp m c.length_of.result) (omega (arith, c.self.inside.bytes.ok.0, ap length c.self.view_is)) in
+    ap (λ o. ordering_then o (slice_cmp nat_cmp c.args.self.now c.in-Some.rest.now)) told
+    ∙ lengths_decide (length c.args.self.now) c.length_of.result c.args.self.now c.in-Some.rest.now is.0 c.length_of.ensures.below
+    ∙ ap (slice_cmp nat_cmp (enc_text c.args.self.now)) bytes
+
+pub returns-in-Equal : goal.returns-in-Equal
+returns-in-Equal c =
+    c.order.ensures ∙ ap (λ z. slice_cmp nat_cmp z c.in-Some.rest.now) c.as_bytes.ensures
+    ∙ equals_leave c.cmp-in-Some.result _ c.in-Equal.is ∙ decide (goal.at.returns-in-Equal c).After-cmp-in-Some
+
+pub returns-in_default : goal.returns-in_default
+returns-in_default c = others_decide c.cmp-in-Some.result _ c.in_default.not-Equal ∙ decide (goal.at.returns-in_default c).After-cmp-in-Some
