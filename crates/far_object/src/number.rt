@@ -61,6 +61,7 @@ impl FarObject for u64 {
     }
 
     fn compare(&self, other: &u64) -> Ordering {
+        // A number that was read is known to be below 2^64, which the order of its eight bytes needs.
         let own = *self;
         let other = *other;
         own.cmp(&other)
