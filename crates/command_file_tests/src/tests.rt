@@ -1,10 +1,12 @@
 //! Worked files, readers that give few bytes at a time, and readers that fail.
+mod expect;
+
 use command_file::{Command, FileFault, MapCommand, TableCommand, read_file};
+use expect::{holds, made};
 use std::alloc::{AllocError, Global};
 use std::io;
 use std::io::{BufRead, BufReader, ErrorKind, Read};
 use std::process::Abort;
-use std::test::Fail;
 
 /// Gives `size` bytes at a time, and fails at the look with the number `failing`, counted from 0.
 #[derive(Drop)]
@@ -88,20 +90,14 @@ fn shown(alloc: Global, commands: &[Command]) -> Result<Vec<u8>, AllocError> {
     Ok(shown)
 }
 
-fn assert_shown<R: BufRead>(
-    rt: &impl Abort,
-    alloc: Global,
-    file: &mut R,
-    wanted: &[u8],
-) -> Result<(), Fail> {
-    let commands = read_file(alloc, file)?;
-    let found = shown(alloc, commands.as_slice())?;
-    assert!(rt; found.as_slice() == wanted);
-    Ok(())
+fn assert_shown<R: BufRead>(rt: &impl Abort, alloc: Global, file: &mut R, wanted: &[u8]) {
+    let commands = made(rt, read_file(alloc, file));
+    let found = made(rt, shown(alloc, commands.as_slice()));
+    holds(rt, found.as_slice() == wanted);
 }
 
 #[test]
-fn good_files(rt: HostRuntime) -> Result<(), Fail> {
+fn good_files(rt: HostRuntime) {
     let rows: [(&[u8], &[u8]); 8] = [
         (b"", b""),
         (b"\n\n", b""),
@@ -114,9 +110,8 @@ fn good_files(rt: HostRuntime) -> Result<(), Fail> {
     ];
     for (bytes, wanted) in &rows {
         let mut file = *bytes;
-        assert_shown(&rt, rt.alloc(), &mut file, wanted)?;
+        assert_shown(&rt, rt.alloc(), &mut file, wanted);
     }
-    Ok(())
 }
 
 #[test]
@@ -148,66 +143,79 @@ fn bad_lines(rt: HostRuntime) {
         b"get a\0",
     ];
     for bytes in &rows {
-        assert!(rt; fault_of(rt.alloc(), bytes) == Some(FileFault::BadLine(1)));
+        holds(
+            &rt,
+            fault_of(rt.alloc(), bytes) == Some(FileFault::BadLine(1)),
+        );
     }
-    assert!(rt; fault_of(rt.alloc(), b"\nput a") == Some(FileFault::BadLine(2)));
+    holds(
+        &rt,
+        fault_of(rt.alloc(), b"\nput a") == Some(FileFault::BadLine(2)),
+    );
 }
 
 #[test]
-fn long_words(rt: HostRuntime) -> Result<(), Fail> {
-    let mut line = Vec::from_slice(rt.alloc(), b"get ")?;
-    line.resize(4 + 255, b'a')?;
-    assert!(rt; fault_of(rt.alloc(), line.as_slice()).is_none());
-    line.push(b'a')?;
-    assert!(rt; fault_of(rt.alloc(), line.as_slice()) == Some(FileFault::BadLine(1)));
-    Ok(())
+fn long_words(rt: HostRuntime) {
+    let mut line = made(&rt, Vec::from_slice(rt.alloc(), b"get "));
+    made(&rt, line.resize(4 + 255, b'a'));
+    holds(&rt, fault_of(rt.alloc(), line.as_slice()).is_none());
+    made(&rt, line.push(b'a'));
+    holds(
+        &rt,
+        fault_of(rt.alloc(), line.as_slice()) == Some(FileFault::BadLine(1)),
+    );
 }
 
 #[test]
-fn long_lines(rt: HostRuntime) -> Result<(), Fail> {
+fn long_lines(rt: HostRuntime) {
     for len in [1024, 1025, 1026, 2_000_000] {
-        let mut line = Vec::from_slice(rt.alloc(), b"get ")?;
-        line.resize(len, b'a')?;
-        assert!(rt; fault_of(rt.alloc(), line.as_slice()) == Some(FileFault::BadLine(1)));
+        let mut line = made(&rt, Vec::from_slice(rt.alloc(), b"get "));
+        made(&rt, line.resize(len, b'a'));
+        holds(
+            &rt,
+            fault_of(rt.alloc(), line.as_slice()) == Some(FileFault::BadLine(1)),
+        );
     }
-    Ok(())
 }
 
 #[test]
-fn many_lines(rt: HostRuntime) -> Result<(), Fail> {
+fn many_lines(rt: HostRuntime) {
     let mut file = Vec::new(rt.alloc());
-    file.resize(65_535, b'\n')?;
-    assert!(rt; fault_of(rt.alloc(), file.as_slice()).is_none());
-    file.extend_from_slice(b"get a")?;
-    assert!(rt; fault_of(rt.alloc(), file.as_slice()).is_none());
+    made(&rt, file.resize(65_535, b'\n'));
+    holds(&rt, fault_of(rt.alloc(), file.as_slice()).is_none());
+    made(&rt, file.extend_from_slice(b"get a"));
+    holds(&rt, fault_of(rt.alloc(), file.as_slice()).is_none());
     file.truncate(65_535);
-    file.extend_from_slice(b"put a")?;
-    assert!(rt; fault_of(rt.alloc(), file.as_slice()) == Some(FileFault::BadLine(65_536)));
-    Ok(())
+    made(&rt, file.extend_from_slice(b"put a"));
+    holds(
+        &rt,
+        fault_of(rt.alloc(), file.as_slice()) == Some(FileFault::BadLine(65_536)),
+    );
 }
 
 #[test]
-fn too_many_lines(rt: HostRuntime) -> Result<(), Fail> {
+fn too_many_lines(rt: HostRuntime) {
     let mut file = Vec::new(rt.alloc());
-    file.resize(65_536, b'\n')?;
-    assert!(rt; fault_of(rt.alloc(), file.as_slice()).is_none());
-    file.extend_from_slice(b"put a")?;
-    assert!(rt; fault_of(rt.alloc(), file.as_slice()) == Some(FileFault::TooManyLines));
-    Ok(())
+    made(&rt, file.resize(65_536, b'\n'));
+    holds(&rt, fault_of(rt.alloc(), file.as_slice()).is_none());
+    made(&rt, file.extend_from_slice(b"put a"));
+    holds(
+        &rt,
+        fault_of(rt.alloc(), file.as_slice()) == Some(FileFault::TooManyLines),
+    );
 }
 
 #[test]
-fn small_buffers(rt: HostRuntime) -> Result<(), Fail> {
+fn small_buffers(rt: HostRuntime) {
     let bytes: &[u8] = b"put a 1\n\nget b";
     for size in 1..4 {
-        let mut file = BufReader::with_capacity(rt.alloc(), size, bytes)?;
-        assert_shown(&rt, rt.alloc(), &mut file, b"p/a/1/g/b//")?;
+        let mut file = made(&rt, BufReader::with_capacity(rt.alloc(), size, bytes));
+        assert_shown(&rt, rt.alloc(), &mut file, b"p/a/1/g/b//");
     }
-    Ok(())
 }
 
 #[test]
-fn failing_reads(rt: HostRuntime) -> Result<(), Fail> {
+fn failing_reads(rt: HostRuntime) {
     let rest: &[u8] = b"put a 1\nget b\n";
     let (size, looks) = (5, 0);
     for failing in 0..5 {
@@ -219,7 +227,7 @@ fn failing_reads(rt: HostRuntime) -> Result<(), Fail> {
             failing,
             kind,
         };
-        assert_shown(&rt, rt.alloc(), &mut file, b"p/a/1/g/b//")?;
+        assert_shown(&rt, rt.alloc(), &mut file, b"p/a/1/g/b//");
         for kind in [ErrorKind::Other, ErrorKind::OutOfMemory] {
             let mut file = Faltering {
                 rest,
@@ -229,8 +237,7 @@ fn failing_reads(rt: HostRuntime) -> Result<(), Fail> {
                 kind,
             };
             let found = read_file(rt.alloc(), &mut file).err();
-            assert!(rt; found == Some(FileFault::Read));
+            holds(&rt, found == Some(FileFault::Read));
         }
     }
-    Ok(())
 }

@@ -4,6 +4,7 @@ ghost use Rattle.std.specs.Prelude.{◌<◌, ◌≤◌};
 
 mod compared;
 mod devices;
+mod expect;
 mod faults;
 mod files;
 mod inputs;
@@ -11,12 +12,12 @@ mod outputs;
 mod program;
 mod runtime;
 
+use expect::{equal, holds, made};
 use far_driver::{RunFault, open_lanes, run_files};
 use hash_table::Config;
 use std::io::BufRead;
 use std::process::Abort;
 use std::sync::Wait;
-use std::test::Fail;
 use std::thread::Threads;
 use threaded_run::OpenGate;
 
@@ -35,27 +36,25 @@ fn settings() -> Config {
 }
 
 /// Runs files of these bytes over as many devices as lanes. The result has what was written.
-fn run<R: Threads + Wait + AllocGlobal + Sync>(
+fn run<R: Threads + Wait + AllocGlobal + Abort + Sync>(
     rt: &R,
     config: &Config,
     files: &[&'static [u8]],
-) -> Result<(Result<(), RunFault>, Vec<u8>), Fail> {
-    run_readers(rt, config, Vec::from_slice(rt.alloc(), files)?)
+) -> (Result<(), RunFault>, Vec<u8>) {
+    run_readers(rt, config, made(rt, Vec::from_slice(rt.alloc(), files)))
 }
 
 /// The same of files that these readers give.
-fn run_readers<B: BufRead + Drop, R: Threads + Wait + AllocGlobal + Sync>(
+fn run_readers<B: BufRead + Drop, R: Threads + Wait + AllocGlobal + Abort + Sync>(
     rt: &R,
     config: &Config,
     files: Vec<B>,
-) -> Result<(Result<(), RunFault>, Vec<u8>), Fail> {
-    if files.is_empty() || files.len() > 64 {
-        return Err("no files".into());
-    }
-    let devices = open_lanes(rt.alloc(), config.lanes)?;
+) -> (Result<(), RunFault>, Vec<u8>) {
+    assert!(rt; !files.is_empty() && files.len() <= 64);
+    let devices = made(rt, open_lanes(rt.alloc(), config.lanes));
     let mut out = Vec::new(rt.alloc());
     let ended = run_files(rt, *config, devices, files, &OpenGate, &mut out);
-    Ok((ended, out))
+    (ended, out)
 }
 
 /// Runs files of these bytes, and checks what is written.
@@ -64,11 +63,10 @@ fn assert_written<R: Threads + Wait + AllocGlobal + Abort + Sync>(
     config: &Config,
     files: &[&'static [u8]],
     wanted: &[u8],
-) -> Result<(), Fail> {
-    let (ended, out) = run(rt, config, files)?;
-    assert_eq!(rt; ended, Ok(()));
-    assert_eq!(rt; out.as_slice(), wanted);
-    Ok(())
+) {
+    let (ended, out) = run(rt, config, files);
+    equal(rt, ended, Ok(()));
+    equal(rt, out.as_slice(), wanted);
 }
 
 /// Runs files of these bytes, and checks the fault, and that nothing is written.
@@ -77,16 +75,15 @@ fn assert_fault<R: Threads + Wait + AllocGlobal + Abort + Sync>(
     config: &Config,
     files: &[&'static [u8]],
     wanted: RunFault,
-) -> Result<(), Fail> {
-    let (ended, out) = run(rt, config, files)?;
-    assert_eq!(rt; ended, Err(wanted));
-    assert!(rt; out.is_empty());
-    Ok(())
+) {
+    let (ended, out) = run(rt, config, files);
+    equal(rt, ended, Err(wanted));
+    holds(rt, out.is_empty());
 }
 
 /// A run takes a pass for each file and one for the evictor: the least of the settings has one.
 #[test]
-fn settings_at_their_limits(rt: HostRuntime) -> Result<(), Fail> {
+fn settings_at_their_limits(rt: HostRuntime) {
     let least = Config {
         buckets: 1,
         frames: 1,
@@ -107,24 +104,24 @@ fn settings_at_their_limits(rt: HostRuntime) -> Result<(), Fail> {
         spares: 4_096,
         format: 2,
     };
-    assert_fault(&rt, &least, &[b"get a"], RunFault::Passes)?;
+    assert_fault(&rt, &least, &[b"get a"], RunFault::Passes);
     assert_written(
         &rt,
         &Config { passes: 2, ..least },
         &[b"get a\nput a 1"],
         b"file 1\nnone\ntoo long\ncontents\n",
-    )?;
+    );
     assert_written(
         &rt,
         &greatest,
         &[b"get a\nput a 1"],
         b"file 1\nnone\nnone\ncontents\na 1\n",
-    )
+    );
 }
 
 /// Two files whose keys are apart have the same replies in every order.
 #[test]
-fn two_files(rt: HostRuntime) -> Result<(), Fail> {
+fn two_files(rt: HostRuntime) {
     assert_written(
         &rt,
         &Config {
@@ -136,5 +133,5 @@ fn two_files(rt: HostRuntime) -> Result<(), Fail> {
             b"put c 3\nput e 6\nput d 4\nput c 5\nget d\n",
         ],
         b"file 1\nnone\nnone\n1\n2\nfile 2\nnone\nnone\nnone\n3\n4\ncontents\nb 2\nc 5\nd 4\ne 6\n",
-    )
+    );
 }

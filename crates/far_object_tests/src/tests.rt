@@ -1,6 +1,7 @@
 //! Worked rows, and bytes that were tampered with beside a decoder written for the tests alone.
 mod decoder;
 mod encodings;
+mod expect;
 mod objects;
 mod orders;
 mod places;

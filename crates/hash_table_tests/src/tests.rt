@@ -6,6 +6,7 @@ mod closing;
 mod conditional;
 mod damaged;
 mod evicting;
+mod expect;
 mod failing;
 mod far;
 mod held;
@@ -19,14 +20,15 @@ mod script;
 mod shared;
 mod texts;
 
+use expect::made;
 use far_device::{Device, FakeDevice};
 use far_object::{FarObject, Text};
 use hash_table::{
-    BucketState, Caller, Config, FarTable, OpenFault, Opening, ReclaimFault, Refusal,
+    BucketState, Caller, Config, FarTable, OpenFault, Opening, ReclaimFault, Refusal, TableScope,
 };
 use std::alloc::Global;
+use std::process::Abort;
 use std::sync::Wait;
-use std::test::Fail;
 use table_core::word::name_of;
 use version_words::{Naming, Spare};
 
@@ -47,10 +49,20 @@ fn settings() -> Config {
     }
 }
 
-/// A table for these settings, without a name, over one device in the process.
-fn opened(alloc: Global, config: Config) -> Result<Opening<Text, Text, FakeDevice>, Fail> {
-    let devices = Vec::from_array(alloc, [FakeDevice::new(alloc)])?;
-    Ok(Opening::open(alloc, config, devices)?)
+/// A table for these settings, without a name, over this device.
+fn table_over<D: Device, R: Alloc<A = Global> + Abort>(
+    rt: &R,
+    config: Config,
+    device: D,
+) -> Opening<Text, Text, D> {
+    let mut devices = Vec::new(rt.alloc());
+    made(rt, devices.push(device));
+    made(rt, Opening::open(rt.alloc(), config, devices))
+}
+
+/// The same over a device in the process.
+fn opened<R: Alloc<A = Global> + Abort>(rt: &R, config: Config) -> Opening<Text, Text, FakeDevice> {
+    table_over(rt, config, FakeDevice::new(rt.alloc()))
 }
 
 /// A text of these bytes.
@@ -66,6 +78,19 @@ fn text_of(alloc: Global, number: u32) -> Result<Text, Refusal> {
     match format!(in alloc; "{number}") {
         Ok(digits) => text(alloc, digits.as_bytes()),
         Err(_) => Err(Refusal::Memory),
+    }
+}
+
+/// A key's text and a value's.
+fn pair_of(alloc: Global, key: &[u8], value: u32) -> Result<(Text, Text), Refusal> {
+    Ok((text(alloc, key)?, text_of(alloc, value)?))
+}
+
+/// The text of a value that is expected.
+fn expected_of(alloc: Global, expected: Option<u32>) -> Result<Option<Text>, Refusal> {
+    match expected {
+        None => Ok(None),
+        Some(number) => Ok(Some(text_of(alloc, number)?)),
     }
 }
 
@@ -91,6 +116,28 @@ fn answer(found: Result<Option<Text>, Refusal>) -> Answer {
     }
 }
 
+fn count_of(pairs: Result<Vec<(Text, Text)>, Refusal>) -> Result<u32, Refusal> {
+    match pairs {
+        Ok(pairs) => Ok(u32::try_from(pairs.len()).unwrap_or(u32::MAX)),
+        Err(refusal) => Err(refusal),
+    }
+}
+
+/// What a scope shows: the bytes of its value, the value, and the name of its version. The scope is closed again.
+fn shown_in<J: Naming>(
+    alloc: Global,
+    scope: TableScope<'_, Text, Text, J>,
+) -> Result<Option<(Vec<u8>, u32, u64)>, Refusal> {
+    let bytes = Vec::from_slice(alloc, scope.bytes());
+    let value = scope.value(alloc);
+    let name = scope.name();
+    scope.close();
+    match (bytes, value) {
+        (Ok(bytes), Ok(value)) => Ok(Some((bytes, number_of(&value), name))),
+        _ => Err(Refusal::Memory),
+    }
+}
+
 /// A caller that enters also while others do.
 fn entered<J: Naming, D: Device>(
     table: &FarTable<Text, Text, J, D>,
@@ -102,6 +149,15 @@ fn entered<J: Naming, D: Device>(
         }
     }
     None
+}
+
+/// A caller who enters. Stops the test where no pass is left.
+fn user_of<'t, J: Naming, D: Device, R: Abort>(
+    rt: &R,
+    alloc: Global,
+    table: &'t FarTable<Text, Text, J, D>,
+) -> User<'t, J, D> {
+    made(rt, User::enter(alloc, table).ok_or("no caller"))
 }
 
 /// A caller of a table whose values are numbers.
@@ -151,7 +207,7 @@ impl<'t, J: Naming, D: Device> User<'t, J, D> {
     }
 
     fn try_put(&mut self, key: &[u8], value: u32) -> Answer {
-        let (key, value) = (text(self.alloc, key)?, text_of(self.alloc, value)?);
+        let (key, value) = pair_of(self.alloc, key, value)?;
         let found = self
             .table
             .try_put(self.alloc, &mut self.caller, &key, &value);
@@ -165,15 +221,10 @@ impl<'t, J: Naming, D: Device> User<'t, J, D> {
 
     fn try_put_if(&mut self, key: &[u8], expected: Option<u32>, value: u32) -> Answer {
         let alloc = self.alloc;
-        let (key, value) = (text(alloc, key)?, text_of(alloc, value)?);
+        let (key, value) = pair_of(alloc, key, value)?;
+        let expected = expected_of(alloc, expected)?;
         let (table, caller) = (self.table, &mut self.caller);
-        match expected {
-            None => answer(table.try_put_if(alloc, caller, &key, None, &value)),
-            Some(number) => {
-                let expected = text_of(alloc, number)?;
-                answer(table.try_put_if(alloc, caller, &key, Some(&expected), &value))
-            }
-        }
+        answer(table.try_put_if(alloc, caller, &key, expected.as_ref(), &value))
     }
 
     fn get<R: Wait>(&mut self, rt: &R, key: &[u8]) -> Answer {
@@ -182,7 +233,7 @@ impl<'t, J: Naming, D: Device> User<'t, J, D> {
     }
 
     fn put<R: Wait>(&mut self, rt: &R, key: &[u8], value: u32) -> Answer {
-        let (key, value) = (text(self.alloc, key)?, text_of(self.alloc, value)?);
+        let (key, value) = pair_of(self.alloc, key, value)?;
         let found = self
             .table
             .put(rt, self.alloc, &mut self.caller, &key, &value);
@@ -196,15 +247,10 @@ impl<'t, J: Naming, D: Device> User<'t, J, D> {
 
     fn put_if<R: Wait>(&mut self, rt: &R, key: &[u8], expected: Option<u32>, value: u32) -> Answer {
         let alloc = self.alloc;
-        let (key, value) = (text(alloc, key)?, text_of(alloc, value)?);
+        let (key, value) = pair_of(alloc, key, value)?;
+        let expected = expected_of(alloc, expected)?;
         let (table, caller) = (self.table, &mut self.caller);
-        match expected {
-            None => answer(table.put_if(rt, alloc, caller, &key, None, &value)),
-            Some(number) => {
-                let expected = text_of(alloc, number)?;
-                answer(table.put_if(rt, alloc, caller, &key, Some(&expected), &value))
-            }
-        }
+        answer(table.put_if(rt, alloc, caller, &key, expected.as_ref(), &value))
     }
 
     fn read_through<R: Wait>(&mut self, rt: &R, key: &[u8]) -> Answer {
@@ -235,10 +281,10 @@ impl<'t, J: Naming, D: Device> User<'t, J, D> {
     fn count_pairs<R: Wait>(&mut self, rt: &R, key: &[u8]) -> Result<u32, Refusal> {
         let key = text(self.alloc, key)?;
         let bucket = self.table.bucket(&key);
-        let pairs = self
-            .table
-            .pairs_in(rt, self.alloc, &mut self.caller, bucket)?;
-        Ok(u32::try_from(pairs.len()).unwrap_or(u32::MAX))
+        count_of(
+            self.table
+                .pairs_in(rt, self.alloc, &mut self.caller, bucket),
+        )
     }
 
     /// Puts the values from 1 to this one, and counts the puts that answered the value before.
@@ -258,16 +304,7 @@ impl<'t, J: Naming, D: Device> User<'t, J, D> {
     fn shown(&mut self, key: &[u8]) -> Result<Option<(Vec<u8>, u32, u64)>, Refusal> {
         let key = text(self.alloc, key)?;
         match self.table.open_scope(&mut self.caller, &key) {
-            Ok(Some(scope)) => {
-                let bytes = Vec::from_slice(self.alloc, scope.bytes());
-                let value = scope.value(self.alloc);
-                let name = scope.name();
-                scope.close();
-                match (bytes, value) {
-                    (Ok(bytes), Ok(value)) => Ok(Some((bytes, number_of(&value), name))),
-                    _ => Err(Refusal::Memory),
-                }
-            }
+            Ok(Some(scope)) => shown_in(self.alloc, scope),
             Ok(None) => Ok(None),
             Err(refusal) => Err(refusal),
         }
@@ -301,13 +338,19 @@ impl<'t, J: Naming, D: Device> User<'t, J, D> {
         }
     }
 
+    /// Puts a spare back as the oldest. Whether there was room.
+    fn give_back(&mut self, spare: Spare<Text, Text, J>) -> bool {
+        self.caller.return_spare(spare).is_ok()
+    }
+
     /// The name of the oldest spare, which stays.
     fn oldest(&mut self) -> Option<u64> {
         let spare = self.caller.take_spare()?;
         let name = name_of(spare.word());
-        match self.caller.return_spare(spare) {
-            Ok(()) => Some(name),
-            Err(_) => None,
+        if self.give_back(spare) {
+            Some(name)
+        } else {
+            None
         }
     }
 
@@ -316,10 +359,13 @@ impl<'t, J: Naming, D: Device> User<'t, J, D> {
         let spare = self.caller.take_spare()?;
         match self.table.reclaim(rt, &mut self.caller, spare) {
             Ok(there) => Some(Ok(there)),
-            Err((spare, fault)) => match self.caller.return_spare(spare) {
-                Ok(()) => Some(Err(fault)),
-                Err(_) => None,
-            },
+            Err((spare, fault)) => {
+                if self.give_back(spare) {
+                    Some(Err(fault))
+                } else {
+                    None
+                }
+            }
         }
     }
 }

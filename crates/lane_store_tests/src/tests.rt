@@ -1,9 +1,10 @@
 //! Lanes as callers use them: the worked run of two lanes, both formats, a device that fails at each call in turn, devices
 //! that give other bytes, and threads at lanes of their own.
-ghost use Rattle.std.specs.Prelude.{◌≡◌, false};
+ghost use Rattle.std.specs.Prelude.{◌≡◌, ◌<◌, false};
 ghost use Rattle.table_core.specs.Logs.{contents};
 
 mod altered;
+mod expect;
 mod failing;
 mod formats;
 mod opening;
@@ -15,9 +16,10 @@ mod waiting;
 mod worked;
 
 use far_device::Device;
-use far_object::{Format, Memory, Object, Text};
+use far_object::{Format, Object, Text};
 use lane_store::{LaneFault, LaneStore, Receipt};
 use std::alloc::Global;
+use std::process::Abort;
 use std::sync::Wait;
 use table_core::word::{FAR_PLACE, place_of};
 use version_words::{Honesty, Name, Naming, Opened, Pass, Sizes, Spare, Words};
@@ -35,13 +37,13 @@ impl Honesty for Unvouched {
 }
 
 /// A row of four buckets with more names and passes than a test draws.
-fn opened(alloc: Global) -> Result<Opened<Text, Text, Unvouched>, Memory> {
+fn opened<R: Abort>(rt: &R, alloc: Global) -> Opened<Text, Text, Unvouched> {
     let sizes = Sizes {
         buckets: 4,
         names: (1 << 40) - 1,
         passes: 65_535,
     };
-    Opened::open(alloc, sizes)
+    Opened::open(alloc, sizes).expect(rt, "no row")
 }
 
 /// Draws a pass, also while other threads draw.
@@ -56,11 +58,10 @@ fn entered<J: Naming>(words: &Words<Text, Text, J>) -> Option<Pass<Text, Text, J
 }
 
 /// The object of one pair: the key a, and a value of this one byte.
-fn object(alloc: Global, value: u8) -> Option<Object<Text, Text>> {
-    let key = Text::new(alloc, b"a").ok()?;
-    let value = Text::new(alloc, &[value]).ok()?;
-    let empty = Object::empty(alloc).ok()?;
-    empty.with(alloc, &key, &value).ok()
+fn object<R: Abort>(rt: &R, alloc: Global, value: u8) -> Object<Text, Text> {
+    let key = Text::new(alloc, b"a").expect(rt, "no key");
+    let value = Text::new(alloc, &[value]).expect(rt, "no value");
+    Object::of_pair(alloc, &key, &value).expect(rt, "no object")
 }
 
 /// That object's bytes in the first format.
@@ -94,26 +95,43 @@ impl<J: Naming> Drawn<J> {
     }
 }
 
-/// Draws the next name of the bucket for an object of one pair, also while other threads draw.
-fn draw<J: Naming>(
+/// Draws the next name of the bucket for the object, also while other threads draw.
+fn named<J: Naming, R: Abort>(
+    rt: &R,
+    words: &Words<Text, Text, J>,
+    pass: &mut Pass<Text, Text, J>,
+    bucket: u32,
+    object: &Object<Text, Text>,
+) -> Name<Text, Text, J>
+    requires unvouched { J.limits.honest ≡ false }
+    requires bucket { bucket < J.limits.buckets }
+    ensures { contents result.front result.number ≡ object.now }
+{
+    for _ in 0..TRIES {
+        if let Ok(name) = words.name(pass, bucket, object) {
+            return name;
+        }
+    }
+    panic!(rt; "no name")
+}
+
+/// Draws the next name of the bucket for an object of one pair.
+fn draw<J: Naming, R: Abort>(
+    rt: &R,
     alloc: Global,
     words: &Words<Text, Text, J>,
     pass: &mut Pass<Text, Text, J>,
     bucket: u32,
     value: u8,
-) -> Option<Drawn<J>>
+) -> Drawn<J>
     requires { J.limits.honest ≡ false }
 {
-    let object = object(alloc, value)?;
     if bucket >= words.buckets() {
-        return None;
+        panic!(rt; "no bucket");
     }
-    for _ in 0..TRIES {
-        if let Ok(name) = words.name(pass, bucket, &object) {
-            return Some(Drawn { name, object });
-        }
-    }
-    None
+    let object = object(rt, alloc, value);
+    let name = named(rt, words, pass, bucket, &object);
+    Drawn { name, object }
 }
 
 /// Removes the spare's object. The place of each spare of these tests is the device's.

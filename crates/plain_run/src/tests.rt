@@ -1,10 +1,12 @@
 //! Worked runs, files that are refused, and readers and writers that fail.
 ghost use Rattle.std.specs.Prelude.{◌≤◌};
 
+mod expect;
 mod refused;
 mod runs;
 
 use crate::{PlainFault, run_file};
+use expect::{equal, holds};
 use std::alloc::Global;
 use std::process::Abort;
 
@@ -15,8 +17,8 @@ fn assert_written(rt: &impl Abort, alloc: Global, limit: u32, file: &[u8], wante
     let mut file = file;
     let mut out = Vec::new(alloc);
     let ended = run_file(alloc, 4, limit, &mut file, &mut out);
-    assert_eq!(rt; ended, Ok(()));
-    assert!(rt; out.as_slice() == wanted);
+    equal(rt, ended, Ok(()));
+    holds(rt, out.as_slice() == wanted);
 }
 
 /// Runs a file of these bytes with four buckets, and checks its fault, and that nothing is written.
@@ -24,6 +26,6 @@ fn assert_fault(rt: &impl Abort, alloc: Global, file: &[u8], wanted: PlainFault)
     let mut file = file;
     let mut out = Vec::new(alloc);
     let ended = run_file(alloc, 4, 4096, &mut file, &mut out);
-    assert_eq!(rt; ended, Err(wanted));
-    assert!(rt; out.is_empty());
+    equal(rt, ended, Err(wanted));
+    holds(rt, out.is_empty());
 }

@@ -1,12 +1,16 @@
 //! The texts of replies, what is written, and writers that have no room.
+mod expect;
+
 use crate::{Refusal, push_line, reply_text, write_contents, write_files};
+use expect::{equal, holds, made};
 use far_object::Text;
+use std::alloc::Global;
 use std::io;
 use std::io::{ErrorKind, Write};
-use std::test::Fail;
+use std::process::Abort;
 
 #[test]
-fn refusals(rt: HostRuntime) -> Result<(), Fail> {
+fn refusals(rt: HostRuntime) {
     let rows = [
         (Refusal::Memory, "memory"),
         (Refusal::TooLong, "too long"),
@@ -18,62 +22,68 @@ fn refusals(rt: HostRuntime) -> Result<(), Fail> {
         (Refusal::HeldAlready, "held already"),
     ];
     for (refusal, wanted) in rows {
-        let text = format!(in rt.alloc(); "{refusal}")?;
-        assert_eq!(&rt; text.as_str(), wanted);
-        assert!(&rt; reply_text(&Err(refusal)) == wanted.as_bytes());
+        let text = made(&rt, format!(in rt.alloc(); "{refusal}"));
+        equal(&rt, text.as_str(), wanted);
+        holds(&rt, reply_text(&Err(refusal)) == wanted.as_bytes());
     }
-    Ok(())
 }
 
 #[test]
-fn values(rt: HostRuntime) -> Result<(), Fail> {
+fn values(rt: HostRuntime) {
     let mut lines = Vec::new(rt.alloc());
-    let value = Text::new(rt.alloc(), b"1")?;
-    push_line(&mut lines, reply_text(&Ok(Some(value))))?;
-    push_line(&mut lines, reply_text(&Ok(None)))?;
-    push_line(&mut lines, b"")?;
-    assert!(&rt; lines.as_slice() == b"1\nnone\n\n".as_slice());
-    Ok(())
+    let value = made(&rt, Text::new(rt.alloc(), b"1"));
+    made(&rt, push_line(&mut lines, reply_text(&Ok(Some(value)))));
+    made(&rt, push_line(&mut lines, reply_text(&Ok(None))));
+    made(&rt, push_line(&mut lines, b""));
+    holds(&rt, lines.as_slice() == b"1\nnone\n\n".as_slice());
+}
+
+fn pair(rt: &impl Abort, alloc: Global, key: &[u8], value: &[u8]) -> (Text, Text) {
+    (
+        made(rt, Text::new(alloc, key)),
+        made(rt, Text::new(alloc, value)),
+    )
 }
 
 #[test]
-fn files_and_contents(rt: HostRuntime) -> Result<(), Fail> {
+fn files_and_contents(rt: HostRuntime) {
     let mut texts = Vec::new(rt.alloc());
     for text in [b"none\n1\n".as_slice(), b"".as_slice(), b"2\n".as_slice()] {
-        texts.push(Vec::from_slice(rt.alloc(), text)?)?;
+        made(
+            &rt,
+            texts.push(made(&rt, Vec::from_slice(rt.alloc(), text))),
+        );
     }
-    let first = (Text::new(rt.alloc(), b"a")?, Text::new(rt.alloc(), b"1")?);
-    let second = (
-        Text::new(rt.alloc(), b"b")?,
-        Text::new(rt.alloc(), b"none")?,
-    );
+    let first = pair(&rt, rt.alloc(), b"a", b"1");
+    let second = pair(&rt, rt.alloc(), b"b", b"none");
     let mut out = Vec::new(rt.alloc());
-    write_files(&mut out, texts.as_slice())?;
-    write_contents(&mut out, &[first, second])?;
+    made(&rt, write_files(&mut out, texts.as_slice()));
+    made(&rt, write_contents(&mut out, &[first, second]));
     let wanted = b"file 1\nnone\n1\nfile 2\nfile 3\n2\ncontents\na 1\nb none\n".as_slice();
-    assert!(&rt; out.as_slice() == wanted);
-    Ok(())
+    holds(&rt, out.as_slice() == wanted);
 }
 
 #[test]
-fn numbers_of_files(rt: HostRuntime) -> Result<(), Fail> {
+fn numbers_of_files(rt: HostRuntime) {
     let mut texts = Vec::new(rt.alloc());
     for _ in 0..64 {
-        texts.push(Vec::new(rt.alloc()))?;
+        made(&rt, texts.push(Vec::new(rt.alloc())));
     }
     let mut out = Vec::new(rt.alloc());
-    write_files(&mut out, texts.as_slice())?;
-    assert!(&rt; out.as_slice().starts_with(b"file 1\nfile 2\n"));
-    assert!(&rt; out.as_slice().ends_with(b"file 63\nfile 64\n"));
-    Ok(())
+    made(&rt, write_files(&mut out, texts.as_slice()));
+    holds(&rt, out.as_slice().starts_with(b"file 1\nfile 2\n"));
+    holds(&rt, out.as_slice().ends_with(b"file 63\nfile 64\n"));
 }
 
 /// What fits is written, and then the write fails.
 #[test]
-fn little_room(rt: HostRuntime) -> Result<(), Fail> {
+fn little_room(rt: HostRuntime) {
     let mut texts = Vec::new(rt.alloc());
-    texts.push(Vec::from_slice(rt.alloc(), b"none\n")?)?;
-    let pair = (Text::new(rt.alloc(), b"a")?, Text::new(rt.alloc(), b"1")?);
+    made(
+        &rt,
+        texts.push(made(&rt, Vec::from_slice(rt.alloc(), b"none\n"))),
+    );
+    let pair = pair(&rt, rt.alloc(), b"a", b"1");
     let wanted = b"file 1\nnone\ncontents\na 1\n".as_slice();
     for room in 0..=wanted.len() {
         let mut bytes = [0u8; 32];
@@ -82,10 +92,9 @@ fn little_room(rt: HostRuntime) -> Result<(), Fail> {
         if ended.is_ok() {
             ended = write_contents(&mut out, &[&pair]);
         }
-        assert_eq!(&rt; ended.is_ok(), room == wanted.len());
-        assert!(&rt; bytes[..room] == wanted[..room]);
+        equal(&rt, ended.is_ok(), room == wanted.len());
+        holds(&rt, bytes[..room] == wanted[..room]);
     }
-    Ok(())
 }
 
 /// Takes what it is given, and can't be flushed.
@@ -105,5 +114,5 @@ impl Write for Unflushed {
 #[test]
 fn failing_flush(rt: HostRuntime) {
     let none: [(Text, Text); 0] = [];
-    assert!(&rt; write_contents(&mut Unflushed, &none).is_err());
+    holds(&rt, write_contents(&mut Unflushed, &none).is_err());
 }

@@ -6,9 +6,11 @@ ghost use Rattle.hash_table.specs.Configs.{sizes_of};
 
 mod clock;
 mod evicting;
+mod expect;
 mod handing;
 mod shared;
 
+use expect::equal;
 use far_device::{FakeDevice, FaultyDevice};
 use far_object::FarObject;
 use hash_table::{BucketState, Caller, Config, FarTable, Opening, Refusal};
@@ -16,7 +18,6 @@ use std::alloc::Global;
 use std::marker::Brand;
 use std::process::Abort;
 use std::sync::Wait;
-use std::test::Fail;
 use std::thread::Threads;
 use swapper::{QueueNaming, QueueOpening, QueueSeat, SpareQueue};
 use table_core::word::name_of;
@@ -84,8 +85,11 @@ impl<J: Naming, B: QueueNaming> Taker<J, B> {
     }
 
     fn takes<R: Wait + Abort>(&mut self, rt: &R, queue: &Queue<J, B>, wanted: Option<u64>) {
-        assert!(rt; self.take(rt, queue) == wanted);
+        equal(rt, self.take(rt, queue), wanted);
     }
+
+    /// Drops it, as `Desk::end`.
+    fn end(self) {}
 
     fn into_seat(self) -> Seat<J, B>
         ensures { result.takes ≡ true }
@@ -106,7 +110,7 @@ struct Desk<J: Naming, B: QueueNaming> {
 }
 
 impl<J: Naming, B: QueueNaming> Desk<J, B> {
-    fn new(rig: Rig<J, B>) -> Result<(Desk<J, B>, Taker<J, B>), Fail> {
+    fn new<R: Abort>(rt: &R, rig: Rig<J, B>) -> (Desk<J, B>, Taker<J, B>) {
         let Rig {
             alloc,
             table,
@@ -114,10 +118,8 @@ impl<J: Naming, B: QueueNaming> Desk<J, B> {
             taker,
             mut others,
         } = rig;
-        let seat = others.pop().ok_or("no seat")?;
-        let Ok(caller) = table.enter() else {
-            return Err("no caller".into());
-        };
+        let seat = others.pop().expect(rt, "no seat");
+        let caller = table.enter().expect(rt, "no caller");
         let desk = Desk {
             alloc,
             table,
@@ -125,8 +127,11 @@ impl<J: Naming, B: QueueNaming> Desk<J, B> {
             caller,
             seat,
         };
-        Ok((desk, taker))
+        (desk, taker)
     }
+
+    /// Drops it. A function that does so itself is proved with all that lies in a desk, at each of its calls.
+    fn end(self) {}
 
     // Puts by one try, which has to answer so.
     fn puts<R: Abort>(
@@ -139,24 +144,28 @@ impl<J: Naming, B: QueueNaming> Desk<J, B> {
         let answer = self
             .table
             .try_put(self.alloc, &mut self.caller, &key, &value);
-        assert!(rt; answer == wanted);
+        equal(rt, answer, wanted);
     }
 
     fn gets<R: Wait + Abort>(&mut self, rt: &R, key: u64, wanted: u64) {
         let answer = self.table.get(rt, self.alloc, &mut self.caller, &key);
-        assert!(rt; answer == Ok(Some(wanted)));
+        equal(rt, answer, Ok(Some(wanted)));
     }
 
     // Where the key's bucket has to lie.
     fn lies<R: Abort>(&mut self, rt: &R, key: u64, wanted: BucketState) {
         let bucket = self.table.bucket(&key);
-        assert!(rt; self.table.state_of(&mut self.caller, bucket) == wanted);
+        equal(rt, self.table.state_of(&mut self.caller, bucket), wanted);
     }
 
     // So many spares have to go, and so many to stay.
     fn settles<R: Wait + Abort>(&mut self, rt: &R, went: u32, stay: u32) {
-        assert!(rt; self.queue.settle(rt, &mut self.seat, &mut self.caller) == went);
-        assert!(rt; self.caller.limbo_len() == stay);
+        equal(
+            rt,
+            self.queue.settle(rt, &mut self.seat, &mut self.caller),
+            went,
+        );
+        equal(rt, self.caller.limbo_len(), stay);
     }
 
     // Hands over the caller's oldest spare. Where it comes back, its name.
@@ -169,16 +178,12 @@ impl<J: Naming, B: QueueNaming> Desk<J, B> {
     }
 
     fn hands_over<R: Wait + Abort>(&mut self, rt: &R, back: Option<u64>) {
-        assert!(rt; self.hand_over(rt) == back);
+        equal(rt, self.hand_over(rt), back);
     }
 }
 
 /// Runs a scenario over a table, whose device fails at the call of this number.
-fn run<R: Threads + Wait + Abort + Sync>(
-    rt: &R,
-    alloc: Global,
-    scenario: Scenario,
-) -> Result<(), Fail> {
+fn run<R: Threads + Wait + Abort + Sync>(rt: &R, alloc: Global, scenario: Scenario) {
     let (buckets, frames, room, fails) = scenario.sizes();
     let config = Config {
         buckets,
@@ -191,8 +196,9 @@ fn run<R: Threads + Wait + Abort + Sync>(
         format: 2,
     };
     let device = FaultyDevice::new(FakeDevice::new(alloc), fails);
-    let opening = Opening::open(alloc, config, Vec::from_array(alloc, [device])?)?;
-    over_table::<Brand, _>(rt, alloc, opening, room, scenario)
+    let devices = Vec::from_array(alloc, [device]).expect(rt, "no devices");
+    let opening = Opening::open(alloc, config, devices).expect(rt, "no table");
+    over_table::<Brand, _>(rt, alloc, opening, room, scenario);
 }
 
 fn over_table<J: Naming + Send + Sync, R: Threads + Wait + Abort + Sync>(
@@ -201,36 +207,28 @@ fn over_table<J: Naming + Send + Sync, R: Threads + Wait + Abort + Sync>(
     opening: Opening<u64, u64, Device>,
     room: u32,
     scenario: Scenario,
-) -> Result<(), Fail>
+)
     requires book { opening.row.book ≡ J.book }
     requires boards { opening.row.names ≡ J.names }
     requires limits { limits_of (sizes_of opening.config) true ≡ J.limits }
 {
     if room == 0 {
-        return Err("no room".into());
+        panic!(rt; "no room");
     }
-    let table = opening.named::<J>(alloc)?;
-    let Ok(queue) = QueueOpening::open(alloc, room) else {
-        return Err("no queue".into());
-    };
-    over_queue::<J, Brand, _>(rt, alloc, table, queue, scenario)
+    let table = opening.named::<J>(alloc).expect(rt, "no table");
+    let queue = QueueOpening::open(alloc, room).expect(rt, "no queue");
+    over_queue::<J, Brand, _>(rt, alloc, table, queue, scenario);
 }
 
 fn over_queue<
     J: Naming + Send + Sync,
     B: QueueNaming + Send + Sync,
     R: Threads + Wait + Abort + Sync,
->(
-    rt: &R,
-    alloc: Global,
-    table: Table<J>,
-    queue: QueueOpening<u64, u64, J>,
-    scenario: Scenario,
-) -> Result<(), Fail>
+>(rt: &R, alloc: Global, table: Table<J>, queue: QueueOpening<u64, u64, J>, scenario: Scenario)
     requires { queue.table ≡ B.table }
 {
     let Ok((queue, taker, others)) = queue.named::<B>(alloc, 3) else {
-        return Err("no seats".into());
+        panic!(rt; "no seats");
     };
     let rig = Rig {
         alloc,

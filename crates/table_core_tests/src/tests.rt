@@ -3,6 +3,9 @@
 ghost use Rattle.std.specs.Prelude.{◌≡◌};
 ghost use Rattle.table_core.specs.Machines.{buckets_of};
 
+mod expect;
+
+use expect::{equal, holds};
 use far_object::Text;
 use std::alloc::Global;
 use std::process::Abort;
@@ -22,7 +25,7 @@ fn pairs(rt: &impl Abort, alloc: Global, bytes: &[u8]) -> Pairs<Text, Text> {
     for pair in bytes.chunks(2) {
         assert_eq!(rt; pair.len(), 2);
         let pushed = items.push((text(rt, alloc, &pair[..1]), text(rt, alloc, &pair[1..])));
-        assert!(rt; pushed.is_ok());
+        holds(rt, pushed.is_ok());
     }
     Pairs::new(items)
 }
@@ -65,7 +68,7 @@ fn put_if_absent(
 fn refuses(rt: &impl Abort, alloc: Global, events: &[TextEvent], place: u64, rule: Rule) {
     match Machine::replay(alloc, 4, events) {
         Ok(_) => panic!(rt; "accepted"),
-        Err(fault) => assert_eq!(rt; fault, CoreFault { place, rule }),
+        Err(fault) => equal(rt, fault, CoreFault { place, rule }),
     }
 }
 
@@ -93,22 +96,22 @@ fn answers(found: Result<Option<Text>, CoreFault>, wanted: Option<&[u8]>) -> boo
 
 #[test]
 fn words(rt: HostRuntime) {
-    assert_eq!(rt; pack(1, 0), 16777216);
-    assert_eq!(rt; pack(1, 1), 16777217);
-    assert_eq!(rt; pack(1, FAR_PLACE), 33554431);
-    assert_eq!(rt; pack(2, 1), 33554433);
-    assert_eq!(rt; pack(2, FAR_PLACE), 50331647);
-    assert_eq!(rt; pack(3, EMPTY_PLACE), 67108862);
-    assert_eq!(rt; pack(4, EMPTY_PLACE), 83886078);
-    assert_eq!(rt; pack(1099511627775, FAR_PLACE), 18446744073709551615);
+    equal(&rt, pack(1, 0), 16777216);
+    equal(&rt, pack(1, 1), 16777217);
+    equal(&rt, pack(1, FAR_PLACE), 33554431);
+    equal(&rt, pack(2, 1), 33554433);
+    equal(&rt, pack(2, FAR_PLACE), 50331647);
+    equal(&rt, pack(3, EMPTY_PLACE), 67108862);
+    equal(&rt, pack(4, EMPTY_PLACE), 83886078);
+    equal(&rt, pack(1099511627775, FAR_PLACE), 18446744073709551615);
 }
 
 #[test]
 fn parts_of_words(rt: HostRuntime) {
-    assert_eq!(rt; place_of(0), 0);
-    assert_eq!(rt; name_of(0), 0);
-    assert_eq!(rt; name_of(67108862), 3);
-    assert_eq!(rt; place_of(67108862), EMPTY_PLACE);
+    equal(&rt, place_of(0), 0);
+    equal(&rt, name_of(0), 0);
+    equal(&rt, name_of(67108862), 3);
+    equal(&rt, place_of(67108862), EMPTY_PLACE);
 }
 
 #[test]
@@ -246,11 +249,11 @@ fn a_log_of_one_key(rt: HostRuntime) {
         remove(&rt, alloc, b"a", Some(67108862)),
     ];
     let machine = replayed(&rt, alloc, &events);
-    assert_eq!(rt; machine.current(0), 67108862);
+    equal(&rt, machine.current(0), 67108862);
     let second = machine.contents(2).expect(&rt, "a name");
     assert_eq!(rt; second.len(), 1);
-    assert!(rt; is_pair(&second[0], b"a", b"1"));
-    assert!(rt; machine.contents(4).is_none());
+    holds(&rt, is_pair(&second[0], b"a", b"1"));
+    holds(&rt, machine.contents(4).is_none());
 }
 
 #[test]
@@ -258,14 +261,20 @@ fn the_same_by_calls(rt: HostRuntime) {
     let alloc = rt.alloc();
     let (key, value) = (text(&rt, alloc, b"a"), text(&rt, alloc, b"1"));
     let mut machine = replayed(&rt, alloc, &[]);
-    assert_eq!(rt; machine.enter(), Ok(1));
-    assert_eq!(rt; machine.name(0, pairs(&rt, alloc, b"a1")), Ok(1));
-    assert!(rt; answers(machine.put(alloc, 1, &key, &value, 16777216), None));
-    assert!(rt; answers(machine.get(alloc, 1, &key), Some(b"1")));
-    assert_eq!(rt; machine.name(0, pairs(&rt, alloc, b"a1")), Ok(2));
-    assert_eq!(rt; machine.move_to(0, 50331647), Ok(()));
-    assert_eq!(rt; machine.name(0, pairs(&rt, alloc, b"")), Ok(3));
-    assert!(rt; answers(machine.remove(alloc, 1, &key, Some(67108862)), Some(b"1")));
+    equal(&rt, machine.enter(), Ok(1));
+    equal(&rt, machine.name(0, pairs(&rt, alloc, b"a1")), Ok(1));
+    holds(
+        &rt,
+        answers(machine.put(alloc, 1, &key, &value, 16777216), None),
+    );
+    holds(&rt, answers(machine.get(alloc, 1, &key), Some(b"1")));
+    equal(&rt, machine.name(0, pairs(&rt, alloc, b"a1")), Ok(2));
+    equal(&rt, machine.move_to(0, 50331647), Ok(()));
+    equal(&rt, machine.name(0, pairs(&rt, alloc, b"")), Ok(3));
+    holds(
+        &rt,
+        answers(machine.remove(alloc, 1, &key, Some(67108862)), Some(b"1")),
+    );
 }
 
 #[test]
@@ -278,7 +287,7 @@ fn a_put_that_is_met_once(rt: HostRuntime) {
         put_if_absent(&rt, alloc, b"a", b"2", None),
     ];
     let machine = replayed(&rt, alloc, &events);
-    assert_eq!(rt; machine.current(0), 16777216);
+    equal(&rt, machine.current(0), 16777216);
 }
 
 #[test]
@@ -291,13 +300,17 @@ fn the_same_put_by_calls(rt: HostRuntime) {
         alloc,
         &[Event::Enter(1), named(&rt, alloc, 1, 0, b"a1")],
     );
-    assert!(rt;
+    holds(
+        &rt,
         answers(
             machine.put_if(alloc, 1, &key, None, &one, Some(16777216)),
-            None
-        )
+            None,
+        ),
     );
-    assert!(rt; answers(machine.put_if(alloc, 1, &key, None, &two, None), Some(b"1")));
+    holds(
+        &rt,
+        answers(machine.put_if(alloc, 1, &key, None, &two, None), Some(b"1")),
+    );
 }
 
 #[test]
@@ -317,7 +330,10 @@ fn three_keys_of_one_bucket(rt: HostRuntime) {
     let machine = replayed(&rt, alloc, &events);
     let left = machine.pairs(alloc).ok().expect(&rt, "pairs");
     assert_eq!(rt; left.len(), 2);
-    assert!(rt; is_pair(left[0], b"a", b"1") && is_pair(left[1], b"i", b"3"));
+    holds(
+        &rt,
+        is_pair(left[0], b"a", b"1") && is_pair(left[1], b"i", b"3"),
+    );
 }
 
 #[test]
@@ -333,7 +349,10 @@ fn two_buckets_in_key_order(rt: HostRuntime) {
     let machine = replayed(&rt, alloc, &events);
     let all = machine.pairs(alloc).ok().expect(&rt, "pairs");
     assert_eq!(rt; all.len(), 2);
-    assert!(rt; is_pair(all[0], b"b", b"2") && is_pair(all[1], b"e", b"3"));
+    holds(
+        &rt,
+        is_pair(all[0], b"b", b"2") && is_pair(all[1], b"e", b"3"),
+    );
 }
 
 #[test]
@@ -341,10 +360,10 @@ fn a_refused_call_changes_nothing(rt: HostRuntime) {
     let alloc = rt.alloc();
     let (key, value) = (text(&rt, alloc, b"a"), text(&rt, alloc, b"1"));
     let mut machine = replayed(&rt, alloc, &[Event::Enter(1)]);
-    assert!(rt; machine.put(alloc, 1, &key, &value, 16777216).is_err());
-    assert!(rt; machine.name(4, pairs(&rt, alloc, b"a1")).is_err());
-    assert_eq!(rt; machine.names(), 0);
-    assert_eq!(rt; machine.current(0), 0);
+    holds(&rt, machine.put(alloc, 1, &key, &value, 16777216).is_err());
+    holds(&rt, machine.name(4, pairs(&rt, alloc, b"a1")).is_err());
+    equal(&rt, machine.names(), 0);
+    equal(&rt, machine.current(0), 0);
 }
 
 #[test]
@@ -354,9 +373,9 @@ fn numbers_as_keys(rt: HostRuntime) {
         .ok()
         .expect(&rt, "a machine");
     let mut items = Vec::new(alloc);
-    assert!(rt; items.push((7, 70)).is_ok());
-    assert_eq!(rt; machine.enter(), Ok(1));
-    assert_eq!(rt; machine.name(0, Pairs::new(items)), Ok(1));
-    assert_eq!(rt; machine.put(alloc, 1, &7, &70, 16777216), Ok(None));
-    assert_eq!(rt; machine.get(alloc, 1, &7), Ok(Some(70)));
+    holds(&rt, items.push((7, 70)).is_ok());
+    equal(&rt, machine.enter(), Ok(1));
+    equal(&rt, machine.name(0, Pairs::new(items)), Ok(1));
+    equal(&rt, machine.put(alloc, 1, &7, &70, 16777216), Ok(None));
+    equal(&rt, machine.get(alloc, 1, &7), Ok(Some(70)));
 }

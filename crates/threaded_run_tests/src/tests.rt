@@ -1,18 +1,21 @@
 //! Whole runs: worked rows of one file, files that a gate interleaves, and runs that end early.
-ghost use Rattle.std.specs.Prelude.{◌<◌, ◌≤◌, length};
+ghost use Rattle.std.specs.Prelude.{◌≡◌, ◌<◌, ◌≤◌, None, length, vec_len};
+ghost use Rattle.std.specs.List.{AllByRecursion};
+ghost use Rattle.hash_table.specs.Configs.{first_bad_with};
 
 mod evicting;
+mod expect;
 mod gates;
 mod rows;
 
-use command_file::read_file;
+use command_file::{Command, read_file};
+use expect::{equal, made};
 use far_device::{FakeDevice, FaultyDevice, WatchedDevice};
 use hash_table::Config;
 use std::alloc::Global;
 use std::process::Abort;
 use std::sync::atomic::AtomicU64;
 use std::sync::{Arc, Wait};
-use std::test::Fail;
 use std::thread::Threads;
 use threaded_run::{Gate, OpenGate, ThreadedFault, run_files};
 
@@ -40,32 +43,44 @@ fn ample() -> Settings {
 }
 
 /// A lane that counts its writes here.
-fn lane(alloc: Global, fails: u64, writes: Arc<AtomicU64>) -> Result<Lane, Fail> {
-    let inner = FaultyDevice::new(FakeDevice::new(alloc), fails);
-    Ok(WatchedDevice::new(inner, writes, Arc::new(alloc, AtomicU64::new(0))?))
+fn lane<R: Alloc<A = Global> + Abort>(rt: &R, fails: u64, writes: Arc<AtomicU64>) -> Lane {
+    let inner = FaultyDevice::new(FakeDevice::new(rt.alloc()), fails);
+    WatchedDevice::new(
+        inner,
+        writes,
+        made(rt, Arc::new(rt.alloc(), AtomicU64::new(0))),
+    )
 }
 
-/// Runs files of these bytes over one lane and four buckets. The result has what was written.
-fn run<G: Gate, R: Threads + Wait + Abort + Sync>(
-    rt: &R,
-    alloc: Global,
-    settings: Settings,
-    files: &[&[u8]],
-    gate: &G,
-) -> Result<(Result<(), ThreadedFault>, Vec<u8>), Fail> {
-    let lane = lane(alloc, settings.fails, Arc::new(alloc, AtomicU64::new(0))?)?;
-    run_over(rt, alloc, settings, lane, files, gate)
+/// The commands of a file of these bytes.
+fn commands_of<R: Alloc<A = Global> + Abort>(rt: &R, file: &[u8]) -> Vec<Command>
+    ensures few { vec_len result ≤ 65536 }
+{
+    let mut left = file;
+    match read_file(rt.alloc(), &mut left) {
+        Ok(commands) => commands,
+        Err(fault) => panic!(rt; "{fault:?}"),
+    }
 }
 
-/// The same over this lane.
-fn run_over<G: Gate, R: Threads + Wait + Abort + Sync>(
-    rt: &R,
-    alloc: Global,
-    settings: Settings,
-    lane: Lane,
-    files: &[&[u8]],
-    gate: &G,
-) -> Result<(Result<(), ThreadedFault>, Vec<u8>), Fail> {
+/// The same of several files, which are 1 to 64.
+fn all_commands<R: Alloc<A = Global> + Abort>(rt: &R, files: &[&[u8]]) -> Vec<Vec<Command>>
+    ensures some { 0 < vec_len result }
+    ensures few { vec_len result ≤ 64 }
+    ensures short { AllByRecursion (λ f. vec_len f ≤ 65536) result.items }
+{
+    let mut commands = Vec::new(rt.alloc());
+    for file in files {
+        made(rt, commands.push(commands_of(rt, file)));
+    }
+    assert!(rt; !commands.is_empty() && commands.len() <= 64);
+    commands
+}
+
+/// The settings of a table with four buckets and one lane.
+fn config_of<R: Abort>(rt: &R, settings: Settings) -> Config
+    ensures within { first_bad_with 1 result ≡ None }
+{
     let config = Config {
         buckets: 4,
         frames: settings.frames,
@@ -76,33 +91,66 @@ fn run_over<G: Gate, R: Threads + Wait + Abort + Sync>(
         spares: 256,
         format: 2,
     };
-    let devices = Vec::from_array(alloc, [lane])?;
-    let mut commands = Vec::new(alloc);
-    for file in files {
-        let mut file = *file;
-        commands.push(read_file(alloc, &mut file)?)?;
+    assert!(rt; config.first_bad_with(1).is_none());
+    config
+}
+
+fn alone<R: Alloc<A = Global> + Abort>(rt: &R, lane: Lane) -> Vec<Lane>
+    ensures { vec_len result ≡ 1 }
+{
+    match Vec::from_array(rt.alloc(), [lane]) {
+        Ok(lanes) => lanes,
+        Err(_) => panic!(rt; "memory"),
     }
-    if config.first_bad_with(devices.len()).is_some()
-        || commands.is_empty()
-        || commands.len() > 64
-    {
-        return Err("no settings".into());
-    }
-    let mut out = Vec::new(alloc);
-    let ended = run_files(rt, alloc, config, devices, commands, gate, &mut out);
-    Ok((ended, out))
+}
+
+/// Runs files of these bytes over one lane and four buckets. The result has what was written.
+fn run<G: Gate, R: Alloc<A = Global> + Threads + Wait + Abort + Sync>(
+    rt: &R,
+    settings: Settings,
+    files: &[&[u8]],
+    gate: &G,
+) -> (Result<(), ThreadedFault>, Vec<u8>) {
+    let writes = made(rt, Arc::new(rt.alloc(), AtomicU64::new(0)));
+    run_over(rt, settings, lane(rt, settings.fails, writes), files, gate)
+}
+
+/// The same over this lane.
+fn run_over<G: Gate, R: Alloc<A = Global> + Threads + Wait + Abort + Sync>(
+    rt: &R,
+    settings: Settings,
+    lane: Lane,
+    files: &[&[u8]],
+    gate: &G,
+) -> (Result<(), ThreadedFault>, Vec<u8>) {
+    let config = config_of(rt, settings);
+    let commands = all_commands(rt, files);
+    let lanes = alone(rt, lane);
+    let mut out = Vec::new(rt.alloc());
+    let ended = run_files(rt, rt.alloc(), config, lanes, commands, gate, &mut out);
+    (ended, out)
 }
 
 /// Runs files, which have to be replied these lines.
-fn assert_written<R: Threads + Wait + Abort + Sync>(
+fn expect_written<R: Alloc<A = Global> + Threads + Wait + Abort + Sync>(
     rt: &R,
-    alloc: Global,
     settings: Settings,
     files: &[&[u8]],
     wanted: &[u8],
-) -> Result<(), Fail> {
-    let (ended, out) = run(rt, alloc, settings, files, &OpenGate)?;
-    assert_eq!(rt; ended, Ok(()));
-    assert_eq!(rt; out.as_slice(), wanted);
-    Ok(())
+) {
+    expect_run(rt, settings, files, &OpenGate, Ok(()), wanted);
+}
+
+/// Runs files, whose run has to end in this way once it has written these lines.
+fn expect_run<G: Gate, R: Alloc<A = Global> + Threads + Wait + Abort + Sync>(
+    rt: &R,
+    settings: Settings,
+    files: &[&[u8]],
+    gate: &G,
+    end: Result<(), ThreadedFault>,
+    wanted: &[u8],
+) {
+    let (ended, out) = run(rt, settings, files, gate);
+    equal(rt, ended, end);
+    equal(rt, out.as_slice(), wanted);
 }

@@ -1,20 +1,22 @@
 //! Rows as callers use them: the worked run of one thread, several passes, passes that are handed in together, contents that
 //! are vouched for, and threads that share a row.
-ghost use Rattle.std.specs.Prelude.{◌≡◌, ◌<◌, false};
+ghost use Rattle.std.specs.Prelude.{◌≡◌, ◌<◌, [], ◌∷◌, false};
 ghost use Rattle.far_object.specs.Encodings.{enc_text};
 ghost use Rattle.far_object.specs.Buckets.{bucket as bucket_at};
 
 mod case;
+mod expect;
 mod gathered;
 mod passes;
 mod shared;
+mod step;
 mod vouched;
 mod worked;
 
 use far_object::{Object, Text, bucket_of};
 use std::alloc::Global;
 use std::marker::PhantomData;
-use std::test::Fail;
+use std::process::Abort;
 use version_words::{Honesty, Naming, Pass, Words};
 
 /// How often a draw is tried while other threads draw.
@@ -43,34 +45,39 @@ struct Sample<J: Naming> {
 }
 
 /// A key, a value and the object of this pair alone.
-fn parts(
+fn parts<R: Abort>(
+    rt: &R,
     alloc: Global,
     key: &[u8],
     value: &[u8],
-) -> Result<(Text, Text, Object<Text, Text>), Fail> {
-    let (key, value) = (Text::new(alloc, key)?, Text::new(alloc, value)?);
-    let object = Object::empty(alloc)?.with(alloc, &key, &value)?;
-    Ok((key, value, object))
+) -> (Text, Text, Object<Text, Text>)
+    ensures { result.2 ≡ (result.0, result.1) ∷ [] }
+{
+    let key = Text::new(alloc, key).expect(rt, "no key");
+    let value = Text::new(alloc, value).expect(rt, "no value");
+    let object = Object::of_pair(alloc, &key, &value).expect(rt, "no object");
+    (key, value, object)
 }
 
 impl<J: Naming> Sample<J> {
-    fn new(
+    fn new<R: Abort>(
+        rt: &R,
         alloc: Global,
         words: &Words<Text, Text, J>,
         key: &[u8],
         value: &[u8],
-    ) -> Result<Sample<J>, Fail>
+    ) -> Sample<J>
         requires { J.limits.honest ≡ false }
     {
-        let (key, value, object) = parts(alloc, key, value)?;
+        let (key, value, object) = parts(rt, alloc, key, value);
         let bucket = bucket_of(&key, words.buckets());
-        Ok(Sample {
+        Sample {
             key,
             value,
             object,
             bucket,
             of: PhantomData,
-        })
+        }
     }
 }
 
@@ -95,15 +102,15 @@ struct Fixture<J: Naming> {
 
 impl<J: Naming> Fixture<J> {
     /// The sample has this key and the value 1.
-    fn new(alloc: Global, words: Words<Text, Text, J>, key: &[u8]) -> Result<Fixture<J>, Fail>
+    fn new<R: Abort>(rt: &R, alloc: Global, words: Words<Text, Text, J>, key: &[u8]) -> Fixture<J>
         requires { J.limits.honest ≡ false }
     {
-        let sample = Sample::new(alloc, &words, key, b"1")?;
-        let pass = entered(&words).ok_or("no pass")?;
-        Ok(Fixture {
+        let sample = Sample::new(rt, alloc, &words, key, b"1");
+        let pass = entered(&words).expect(rt, "no pass");
+        Fixture {
             words,
             pass,
             sample,
-        })
+        }
     }
 }

@@ -1,11 +1,12 @@
 //! Random files of one thread: on the table they are replied, and leave behind, what the plain run says.
 ghost use Rattle.std.specs.Prelude.{◌<◌, ◌≤◌};
 
+use super::expect::{equal, made};
 use super::{run_readers, settings};
 use hash_table::Config;
 use std::alloc::Global;
 use std::io::Write;
-use std::test::Fail;
+use std::process::Abort;
 
 /// How many files are compared, and how many commands each has.
 const FILES: u32 = 200;
@@ -22,46 +23,46 @@ fn next(seed: &mut u32, below: u32) -> u32
 }
 
 /// One command on one of seven keys, which lie in four buckets.
-fn write_command(file: &mut Vec<u8>, seed: &mut u32) -> Result<(), Fail> {
+fn write_command(rt: &impl Abort, file: &mut Vec<u8>, seed: &mut u32) {
     let key = ["a", "b", "c", "d", "e", "i", "long-key"][next(seed, 7) as usize];
     let value = next(seed, 4);
-    match next(seed, 6) {
-        0 => writeln!(file, "get {key}")?,
-        1 => writeln!(file, "del {key}")?,
-        2 => writeln!(file, "putnew {key} {value}")?,
-        3 => writeln!(file, "putif {key} {} {value}", next(seed, 4))?,
-        _ => writeln!(file, "put {key} {value}")?,
-    }
-    Ok(())
+    let written = match next(seed, 6) {
+        0 => writeln!(file, "get {key}"),
+        1 => writeln!(file, "del {key}"),
+        2 => writeln!(file, "putnew {key} {value}"),
+        3 => writeln!(file, "putif {key} {} {value}", next(seed, 4)),
+        _ => writeln!(file, "put {key} {value}"),
+    };
+    made(rt, written);
 }
 
 /// A file that begins with this seed.
-fn random_file(alloc: Global, seed: u32) -> Result<Vec<u8>, Fail> {
+fn random_file(rt: &impl Abort, alloc: Global, seed: u32) -> Vec<u8> {
     let mut file = Vec::new(alloc);
     let mut seed = seed;
     for _ in 0..COMMANDS {
-        write_command(&mut file, &mut seed)?;
+        write_command(rt, &mut file, &mut seed);
     }
-    Ok(file)
+    file
 }
 
 /// What the plain run writes, with four buckets.
-pub(super) fn plainly(alloc: Global, limit: u32, file: &[u8]) -> Result<Vec<u8>, Fail>
+pub(super) fn plainly(rt: &impl Abort, alloc: Global, limit: u32, file: &[u8]) -> Vec<u8>
     requires { limit ≤ 1048576 }
 {
     let mut file = file;
     let mut out = Vec::new(alloc);
     match plain_run::run_file(alloc, 4, limit, &mut file, &mut out) {
-        Ok(()) => Ok(out),
-        Err(_) => Err("the plain run ended early".into()),
+        Ok(()) => out,
+        Err(fault) => panic!(rt; "{fault}"),
     }
 }
 
 #[test]
-fn random_files(rt: HostRuntime) -> Result<(), Fail> {
+fn random_files(rt: HostRuntime) {
     let mut seed = 7;
     for number in 0..FILES {
-        let file = random_file(rt.alloc(), number)?;
+        let file = random_file(&rt, rt.alloc(), number);
         let limit = 10 + next(&mut seed, 30);
         let config = Config {
             frames: 1 + next(&mut seed, 4),
@@ -69,11 +70,10 @@ fn random_files(rt: HostRuntime) -> Result<(), Fail> {
             format: 1 + next(&mut seed, 2),
             ..settings()
         };
-        let wanted = plainly(rt.alloc(), limit, file.as_slice())?;
-        let files = Vec::from_array(rt.alloc(), [file.as_slice()])?;
-        let (ended, out) = run_readers(&rt, &config, files)?;
-        assert_eq!(&rt; ended, Ok(()));
-        assert_eq!(&rt; out.as_slice(), wanted.as_slice());
+        let wanted = plainly(&rt, rt.alloc(), limit, file.as_slice());
+        let files = made(&rt, Vec::from_array(rt.alloc(), [file.as_slice()]));
+        let (ended, out) = run_readers(&rt, &config, files);
+        equal(&rt, ended, Ok(()));
+        equal(&rt, out.as_slice(), wanted.as_slice());
     }
-    Ok(())
 }

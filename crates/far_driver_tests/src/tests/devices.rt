@@ -1,5 +1,6 @@
 //! Runs of one file over one lane whose device fails, lies, or gives bytes that nobody wrote.
 use super::compared::plainly;
+use super::expect::{equal, holds, made};
 use super::settings;
 use far_device::{CannedDevice, Device, FakeDevice, FaultyDevice, LyingDevice, WatchedDevice};
 use far_driver::{Refusal, RunFault, run_files};
@@ -10,32 +11,27 @@ use std::process::Abort;
 use std::str;
 use std::sync::atomic::{AtomicU64, Ordering};
 use std::sync::{Arc, Wait};
-use std::test::Fail;
 use std::thread::Threads;
 use threaded_run::{Gate, OpenGate};
 
 /// Runs one file over this device alone.
-fn run_over<D: Device + Send, G: Gate, R: Threads + Wait + AllocGlobal + Sync>(
+fn run_over<D: Device + Send, G: Gate, R: Threads + Wait + AllocGlobal + Abort + Sync>(
     rt: &R,
     device: D,
     file: &[u8],
     gate: &G,
-) -> Result<(Result<(), RunFault>, Vec<u8>), Fail> {
+) -> (Result<(), RunFault>, Vec<u8>) {
     let config = Config {
         lanes: 1,
         ..settings()
     };
     let mut devices = Vec::new(rt.alloc());
-    let Ok(()) = devices.push(device) else {
-        return Err("no memory".into());
-    };
-    let files = Vec::from_array(rt.alloc(), [file])?;
-    if files.len() != 1 {
-        return Err("one file".into());
-    }
+    assert!(rt; devices.push(device).is_ok());
+    let files = made(rt, Vec::from_array(rt.alloc(), [file]));
+    assert_eq!(rt; files.len(), 1);
     let mut out = Vec::new(rt.alloc());
     let ended = run_files(rt, config, devices, files, gate, &mut out);
-    Ok((ended, out))
+    (ended, out)
 }
 
 /// Runs one file over this device, and checks how it ends and what is written.
@@ -45,47 +41,49 @@ fn assert_over<D: Device + Send, R: Threads + Wait + AllocGlobal + Abort + Sync>
     file: &[u8],
     ended_wanted: Result<(), RunFault>,
     wanted: &[u8],
-) -> Result<(), Fail> {
-    let (ended, out) = run_over(rt, device, file, &OpenGate)?;
-    assert_eq!(rt; ended, ended_wanted);
-    assert_eq!(rt; out.as_slice(), wanted);
-    Ok(())
+) {
+    let (ended, out) = run_over(rt, device, file, &OpenGate);
+    equal(rt, ended, ended_wanted);
+    equal(rt, out.as_slice(), wanted);
 }
 
 const DAMAGED: Result<(), RunFault> = Err(RunFault::Contents(Refusal::Damaged));
 
 #[test]
-fn a_device_that_lies(rt: HostRuntime) -> Result<(), Fail> {
+fn a_device_that_lies(rt: HostRuntime) {
     assert_over(
         &rt,
         LyingDevice::new(FakeDevice::new(rt.alloc())),
         b"put a 1\nevict\nget a\n",
         DAMAGED,
         b"file 1\nnone\nevicted\ndamaged\n",
-    )
+    );
 }
 
 /// A device whose every read gives these bytes.
-fn canned(alloc: Global, bytes: &[u8]) -> Result<CannedDevice<FakeDevice>, Fail> {
-    Ok(CannedDevice::new(FakeDevice::new(alloc), Vec::from_slice(alloc, bytes)?))
+fn canned(rt: &impl Abort, alloc: Global, bytes: &[u8]) -> CannedDevice<FakeDevice> {
+    CannedDevice::new(
+        FakeDevice::new(alloc),
+        made(rt, Vec::from_slice(alloc, bytes)),
+    )
 }
 
 /// The object's keys are not in order.
 #[test]
-fn bytes_that_are_no_object(rt: HostRuntime) -> Result<(), Fail> {
+fn bytes_that_are_no_object(rt: HostRuntime) {
     let bytes = b"\0\0\0\x02\0\x01e\0\x012\0\x01a\0\x011";
     assert_over(
         &rt,
-        canned(rt.alloc(), bytes)?,
+        canned(&rt, rt.alloc(), bytes),
         b"put a 1\nevict\nget a\nput a 2\ndel a\nwhere a\n",
         DAMAGED,
         b"file 1\nnone\nevicted\ndamaged\ndamaged\ndamaged\nfar 2\n",
-    )
+    );
 }
 
 /// An object of the first format fits each bucket and name, and one of the second its own alone.
 #[test]
-fn objects_of_both_formats(rt: HostRuntime) -> Result<(), Fail> {
+fn objects_of_both_formats(rt: HostRuntime) {
     let file = b"put a 1\nevict\nget a\n";
     let rows: [(&[u8], bool); 4] = [
         (b"\0\0\0\x01\0\x01a\0\x011", true),
@@ -103,7 +101,7 @@ fn objects_of_both_formats(rt: HostRuntime) -> Result<(), Fail> {
         ),
     ];
     for (bytes, fits) in &rows {
-        let device = canned(rt.alloc(), bytes)?;
+        let device = canned(&rt, rt.alloc(), bytes);
         if *fits {
             assert_over(
                 &rt,
@@ -111,7 +109,7 @@ fn objects_of_both_formats(rt: HostRuntime) -> Result<(), Fail> {
                 file,
                 Ok(()),
                 b"file 1\nnone\nevicted\n1\ncontents\na 1\n",
-            )?;
+            );
         } else {
             assert_over(
                 &rt,
@@ -119,10 +117,9 @@ fn objects_of_both_formats(rt: HostRuntime) -> Result<(), Fail> {
                 file,
                 DAMAGED,
                 b"file 1\nnone\nevicted\ndamaged\n",
-            )?;
+            );
         }
     }
-    Ok(())
 }
 
 /// Notes in which commands the shared count of failures rose.
@@ -163,32 +160,31 @@ fn assert_answered(
     out: &str,
     rose: u64,
     is_whole: bool,
-) -> Result<(), Fail> {
+) {
     let mut kept = Vec::new(alloc);
-    let mut replies = Vec::from_slice(alloc, b"file 1\n")?;
+    let mut replies = made(rt, Vec::from_slice(alloc, b"file 1\n"));
     let mut lines = out.lines();
-    assert_eq!(rt; lines.next(), Some("file 1"));
+    equal(rt, lines.next(), Some("file 1"));
     let mut bit = 1u64;
     for command in file.lines() {
         let reply = lines.next().unwrap_or("");
         bit = bit.wrapping_shl(1);
         if reply == "device" {
-            assert!(rt; rose & bit != 0);
+            holds(rt, rose & bit != 0);
         } else if asks_map(command) {
-            writeln!(kept, "{command}")?;
-            writeln!(replies, "{reply}")?;
+            made(rt, writeln!(kept, "{command}"));
+            made(rt, writeln!(replies, "{reply}"));
         }
     }
     for line in lines {
-        writeln!(replies, "{line}")?;
+        made(rt, writeln!(replies, "{line}"));
     }
-    let wanted = plainly(alloc, 4096, kept.as_slice())?;
+    let wanted = plainly(rt, alloc, 4096, kept.as_slice());
     if is_whole {
-        assert_eq!(rt; replies.as_slice(), wanted.as_slice());
+        equal(rt, replies.as_slice(), wanted.as_slice());
     } else {
-        assert!(rt; wanted.as_slice().starts_with(replies.as_slice()));
+        holds(rt, wanted.as_slice().starts_with(replies.as_slice()));
     }
-    Ok(())
 }
 
 /// Runs the file over a device whose call of this number fails, and answers whether one failed.
@@ -196,30 +192,31 @@ fn assert_failing<R: Threads + Wait + AllocGlobal + Abort + Sync>(
     rt: &R,
     file: &str,
     fails: u64,
-) -> Result<bool, Fail> {
+) -> bool {
     let gate = Failures {
-        count: Arc::new(rt.alloc(), AtomicU64::new(0))?,
+        count: made(rt, Arc::new(rt.alloc(), AtomicU64::new(0))),
         before: AtomicU64::new(0),
         rose: AtomicU64::new(0),
     };
     let device = WatchedDevice::new(
         FaultyDevice::new(FakeDevice::new(rt.alloc()), fails),
-        Arc::new(rt.alloc(), AtomicU64::new(0))?,
-        gate.count.clone()?,
+        made(rt, Arc::new(rt.alloc(), AtomicU64::new(0))),
+        made(rt, gate.count.clone()),
     );
-    let (ended, out) = run_over(rt, device, file.as_bytes(), &gate)?;
-    let Ok(text) = str::from_utf8(out.as_slice()) else {
-        return Err("no text".into());
-    };
-    assert!(rt; ended == Ok(()) || ended == Err(RunFault::Contents(Refusal::Device)));
+    let (ended, out) = run_over(rt, device, file.as_bytes(), &gate);
+    let text = made(rt, str::from_utf8(out.as_slice()));
+    holds(
+        rt,
+        ended == Ok(()) || ended == Err(RunFault::Contents(Refusal::Device)),
+    );
     let rose = gate.rose.load(Ordering::SeqCst);
-    assert_answered(rt, rt.alloc(), file, text, rose, ended == Ok(()))?;
-    Ok(gate.count.load(Ordering::SeqCst) != 0)
+    assert_answered(rt, rt.alloc(), file, text, rose, ended == Ok(()));
+    gate.count.load(Ordering::SeqCst) != 0
 }
 
 /// Each call of the device fails in turn, until a run ends before its number.
 #[test]
-fn each_call_fails(rt: HostRuntime) -> Result<(), Fail> {
+fn each_call_fails(rt: HostRuntime) {
     let rows = [
         ("put a 1\nget a\nput a 2\nevict\nget a\n", 3),
         (
@@ -235,12 +232,11 @@ fn each_call_fails(rt: HostRuntime) -> Result<(), Fail> {
     for (file, calls) in rows {
         let mut failed = 0;
         for fails in 1..100 {
-            if !assert_failing(&rt, file, fails)? {
+            if !assert_failing(&rt, file, fails) {
                 break;
             }
             failed = fails;
         }
-        assert_eq!(&rt; failed, calls);
+        equal(&rt, failed, calls);
     }
-    Ok(())
 }

@@ -1,72 +1,70 @@
 //! Settings and files that are refused, and the texts of the faults.
+use super::expect::{equal, holds, made};
 use super::inputs::Faltering;
 use super::{assert_fault, run_readers, settings};
 use far_driver::{Refusal, RunFault, open_lanes, run_files};
 use hash_table::Config;
-use std::test::Fail;
 use threaded_run::OpenGate;
 
 #[test]
-fn refused_files(rt: HostRuntime) -> Result<(), Fail> {
+fn refused_files(rt: HostRuntime) {
     let rows: [(&'static [u8], RunFault); 3] = [
         (b"put a", RunFault::BadLine(1, 1)),
         (b"put a 1\n\nget\n", RunFault::BadLine(1, 3)),
         (b"put a 1\nput  a 1\n", RunFault::BadLine(1, 2)),
     ];
     for (file, wanted) in &rows {
-        assert_fault(&rt, &settings(), &[*file], *wanted)?;
+        assert_fault(&rt, &settings(), &[*file], *wanted);
     }
     assert_fault(
         &rt,
         &settings(),
         &[b"get a", b"get"],
         RunFault::BadLine(2, 1),
-    )
+    );
 }
 
 #[test]
-fn more_lines_than_may_be(rt: HostRuntime) -> Result<(), Fail> {
+fn more_lines_than_may_be(rt: HostRuntime) {
     let mut lines = Vec::new(rt.alloc());
-    lines.resize(65_536, b'\n')?;
-    lines.extend_from_slice(b"put a")?;
-    let files = Vec::from_array(rt.alloc(), [b"get a".as_slice(), lines.as_slice()])?;
-    let (ended, out) = run_readers(&rt, &settings(), files)?;
-    assert_eq!(&rt; ended, Err(RunFault::TooManyLines(2)));
-    assert!(&rt; out.is_empty());
-    Ok(())
+    made(&rt, lines.resize(65_536, b'\n'));
+    made(&rt, lines.extend_from_slice(b"put a"));
+    let files = made(
+        &rt,
+        Vec::from_array(rt.alloc(), [b"get a".as_slice(), lines.as_slice()]),
+    );
+    let (ended, out) = run_readers(&rt, &settings(), files);
+    equal(&rt, ended, Err(RunFault::TooManyLines(2)));
+    holds(&rt, out.is_empty());
 }
 
 /// A read of the second file fails, and nothing has been run.
 #[test]
-fn second_file_is_not_read(rt: HostRuntime) -> Result<(), Fail> {
+fn second_file_is_not_read(rt: HostRuntime) {
     for failing in 0..2 {
         let mut files = Vec::new(rt.alloc());
-        files.push(Faltering::new(b"put a 1", 255))?;
-        files.push(Faltering::new(b"put b 1", failing))?;
-        let (ended, out) = run_readers(&rt, &settings(), files)?;
-        assert_eq!(&rt; ended, Err(RunFault::Read(2)));
-        assert!(&rt; out.is_empty());
+        made(&rt, files.push(Faltering::new(b"put a 1", 255)));
+        made(&rt, files.push(Faltering::new(b"put b 1", failing)));
+        let (ended, out) = run_readers(&rt, &settings(), files);
+        equal(&rt, ended, Err(RunFault::Read(2)));
+        holds(&rt, out.is_empty());
     }
-    Ok(())
 }
 
 #[test]
-fn little_room(rt: HostRuntime) -> Result<(), Fail> {
+fn little_room(rt: HostRuntime) {
     let mut bytes = [0u8; 8];
     let mut out = bytes.as_mut_slice();
-    let devices = open_lanes(rt.alloc(), 4)?;
-    let files = Vec::from_array(rt.alloc(), [b"put a 1".as_slice()])?;
-    if files.len() != 1 {
-        return Err("one file".into());
-    }
+    let devices = made(&rt, open_lanes(rt.alloc(), 4));
+    let files = made(&rt, Vec::from_array(rt.alloc(), [b"put a 1".as_slice()]));
+    assert_eq!(&rt; files.len(), 1);
     let ended = run_files(&rt, settings(), devices, files, &OpenGate, &mut out);
-    assert_eq!(&rt; ended, Err(RunFault::Write));
-    Ok(())
+    equal(&rt, ended, Err(RunFault::Write));
 }
 
 /// There are not as many devices as lanes: the settings' own faults come by their numbers.
 #[test]
-fn devices_and_lanes(rt: HostRuntime) -> Result<(), Fail> {
+fn devices_and_lanes(rt: HostRuntime) {
     let rows = [
         (4, 4, 2, None),
         (4, 3, 2, Some(6)),
@@ -79,24 +77,21 @@ fn devices_and_lanes(rt: HostRuntime) -> Result<(), Fail> {
             frames,
             ..settings()
         };
-        let devices = open_lanes(rt.alloc(), devices)?;
-        let files = Vec::from_array(rt.alloc(), [b"".as_slice()])?;
-        if files.len() != 1 {
-            return Err("one file".into());
-        }
+        let devices = made(&rt, open_lanes(rt.alloc(), devices));
+        let files = made(&rt, Vec::from_array(rt.alloc(), [b"".as_slice()]));
+        assert_eq!(&rt; files.len(), 1);
         let mut out = Vec::new(rt.alloc());
         let ended = run_files(&rt, config, devices, files, &OpenGate, &mut out);
         let wanted = match field {
             None => Ok(()),
             Some(field) => Err(RunFault::BadConfig(field)),
         };
-        assert_eq!(&rt; ended, wanted);
+        equal(&rt, ended, wanted);
     }
-    Ok(())
 }
 
 #[test]
-fn first_four_settings(rt: HostRuntime) -> Result<(), Fail> {
+fn first_four_settings(rt: HostRuntime) {
     let good = settings();
     let rows = [
         (Config { buckets: 0, ..good }, 1),
@@ -133,13 +128,12 @@ fn first_four_settings(rt: HostRuntime) -> Result<(), Fail> {
         ),
     ];
     for (config, field) in rows {
-        assert_fault(&rt, &config, &[b"get a"], RunFault::BadConfig(field))?;
+        assert_fault(&rt, &config, &[b"get a"], RunFault::BadConfig(field));
     }
-    Ok(())
 }
 
 #[test]
-fn last_four_settings(rt: HostRuntime) -> Result<(), Fail> {
+fn last_four_settings(rt: HostRuntime) {
     let good = settings();
     let rows = [
         (Config { passes: 0, ..good }, 5),
@@ -164,14 +158,13 @@ fn last_four_settings(rt: HostRuntime) -> Result<(), Fail> {
         (Config { format: 3, ..good }, 8),
     ];
     for (config, field) in rows {
-        assert_fault(&rt, &config, &[b"get a"], RunFault::BadConfig(field))?;
+        assert_fault(&rt, &config, &[b"get a"], RunFault::BadConfig(field));
     }
-    Ok(())
 }
 
 /// The settings come before the file.
 #[test]
-fn first_fault_of_two(rt: HostRuntime) -> Result<(), Fail> {
+fn first_fault_of_two(rt: HostRuntime) {
     let good = settings();
     let rows = [
         (
@@ -200,13 +193,12 @@ fn first_fault_of_two(rt: HostRuntime) -> Result<(), Fail> {
         ),
     ];
     for (config, field) in rows {
-        assert_fault(&rt, &config, &[b"put a"], RunFault::BadConfig(field))?;
+        assert_fault(&rt, &config, &[b"put a"], RunFault::BadConfig(field));
     }
-    Ok(())
 }
 
 #[test]
-fn texts(rt: HostRuntime) -> Result<(), Fail> {
+fn texts(rt: HostRuntime) {
     let rows = [
         (RunFault::BadConfig(3), "bad config 3"),
         (RunFault::BadLine(1, 2), "file 1 line 2: bad command"),
@@ -222,8 +214,7 @@ fn texts(rt: HostRuntime) -> Result<(), Fail> {
         (RunFault::Contents(Refusal::Damaged), "contents: damaged"),
     ];
     for (fault, wanted) in rows {
-        let text = format!(in rt.alloc(); "{fault}")?;
-        assert_eq!(&rt; text.as_str(), wanted);
+        let text = made(&rt, format!(in rt.alloc(); "{fault}"));
+        equal(&rt, text.as_str(), wanted);
     }
-    Ok(())
 }

@@ -1,9 +1,9 @@
 //! A writer that fails, at each of its calls in turn.
+use super::expect::{equal, holds, made};
 use super::settings;
 use far_driver::{RunFault, open_lanes, run_files};
 use std::io;
 use std::io::{ErrorKind, Write};
-use std::test::Fail;
 use threaded_run::OpenGate;
 
 /// Keeps what is written, and fails at the call with the number `failing`, counted from 0; flushes are counted too.
@@ -39,16 +39,14 @@ impl Write for Stumbling {
 
 /// Whichever call of the writer fails, the run says so, and a beginning of the output was written.
 #[test]
-fn each_write_fails(rt: HostRuntime) -> Result<(), Fail> {
+fn each_write_fails(rt: HostRuntime) {
     let wanted = b"file 1\nnone\n1\nfile 2\nnone\ncontents\na 1\nb 2\n".as_slice();
     let files: [&[u8]; 2] = [b"put a 1\nget a\n", b"put b 2\n"];
     let mut calls = 0;
     for failing in 0..100 {
-        let devices = open_lanes(rt.alloc(), 4)?;
-        let files = Vec::from_array(rt.alloc(), files)?;
-        if files.len() != 2 {
-            return Err("two files".into());
-        }
+        let devices = made(&rt, open_lanes(rt.alloc(), 4));
+        let files = made(&rt, Vec::from_array(rt.alloc(), files));
+        assert_eq!(&rt; files.len(), 2);
         let mut out = Stumbling {
             kept: Vec::new(rt.alloc()),
             calls: 0,
@@ -56,13 +54,12 @@ fn each_write_fails(rt: HostRuntime) -> Result<(), Fail> {
         };
         let ended = run_files(&rt, settings(), devices, files, &OpenGate, &mut out);
         if ended == Ok(()) {
-            assert!(&rt; out.kept.as_slice() == wanted);
+            holds(&rt, out.kept.as_slice() == wanted);
             break;
         }
-        assert_eq!(&rt; ended, Err(RunFault::Write));
-        assert!(&rt; wanted.starts_with(out.kept.as_slice()));
+        equal(&rt, ended, Err(RunFault::Write));
+        holds(&rt, wanted.starts_with(out.kept.as_slice()));
         calls = failing + 1;
     }
-    assert!(&rt; 5 < calls && calls < 100);
-    Ok(())
+    holds(&rt, 5 < calls && calls < 100);
 }

@@ -1,4 +1,5 @@
 //! The program's words, the texts of its faults, and its statuses.
+use super::expect::{equal, holds, made};
 use super::runtime::{InputAlone, WordsAlone};
 use far_driver::{ProgramFault, read_words, run_program};
 use std::alloc::{AllocError, Global};
@@ -6,7 +7,6 @@ use std::fs;
 use std::process::Abort;
 use std::rt::Files;
 use std::sync::Wait;
-use std::test::Fail;
 use std::thread::Threads;
 
 fn owned_words(alloc: Global, words: &[&str]) -> Result<Vec<String>, AllocError> {
@@ -25,22 +25,21 @@ fn assert_ends<R>(
     status: u8,
     out_wanted: &str,
     err_wanted: &str,
-) -> Result<(), Fail>
+)
 where
     R: Files + Input + AllocGlobal + Threads + Wait + Sync,
 {
-    let words = owned_words(rt.alloc(), words)?;
+    let words = made(handle, owned_words(rt.alloc(), words));
     let mut out = Vec::new(rt.alloc());
     let mut err = Vec::new(rt.alloc());
     let ended = run_program(rt, words.as_slice(), &mut out, &mut err);
-    assert_eq!(handle; ended, status);
-    assert!(handle; out.as_slice() == out_wanted.as_bytes());
-    assert!(handle; err.as_slice() == err_wanted.as_bytes());
-    Ok(())
+    equal(handle, ended, status);
+    holds(handle, out.as_slice() == out_wanted.as_bytes());
+    holds(handle, err.as_slice() == err_wanted.as_bytes());
 }
 
 #[test]
-fn wrong_words(rt: HostRuntime) -> Result<(), Fail> {
+fn wrong_words(rt: HostRuntime) {
     let rows: [&[&str]; 8] = [
         &[],
         &["4", "2", "4096"],
@@ -53,30 +52,23 @@ fn wrong_words(rt: HostRuntime) -> Result<(), Fail> {
     ];
     for words in &rows {
         let usage = "usage: fartable BUCKETS FRAMES LIMIT FILE...\n";
-        assert_ends(&rt, &rt, words, 2, "", usage)?;
+        assert_ends(&rt, &rt, words, 2, "", usage);
     }
-    Ok(())
 }
 
 /// Reads the words of a process that has these arguments, and checks them.
-fn assert_words(
-    rt: &impl Abort,
-    alloc: Global,
-    words: &[&[u8]],
-    wanted: &[&str],
-) -> Result<(), Fail> {
-    let read = read_words(&WordsAlone { alloc, words })?;
-    let wanted = owned_words(alloc, wanted)?;
-    assert!(rt; read == wanted);
-    Ok(())
+fn assert_words(rt: &impl Abort, alloc: Global, words: &[&[u8]], wanted: &[&str]) {
+    let read = made(rt, read_words(&WordsAlone { alloc, words }));
+    let wanted = made(rt, owned_words(alloc, wanted));
+    holds(rt, read == wanted);
 }
 
 #[test]
-fn words_of_the_process(rt: HostRuntime) -> Result<(), Fail> {
-    assert_words(&rt, rt.alloc(), &[], &[])?;
-    assert_words(&rt, rt.alloc(), &[b"fartable"], &[])?;
+fn words_of_the_process(rt: HostRuntime) {
+    assert_words(&rt, rt.alloc(), &[], &[]);
+    assert_words(&rt, rt.alloc(), &[b"fartable"], &[]);
     let words: [&[u8]; 4] = [b"fartable", b"4", b"", b"-"];
-    assert_words(&rt, rt.alloc(), &words, &["4", "", "-"])
+    assert_words(&rt, rt.alloc(), &words, &["4", "", "-"]);
 }
 
 #[test]
@@ -92,14 +84,14 @@ fn words_that_are_no_text(rt: HostRuntime) {
             words,
         };
         let fault = read_words(&alone).err();
-        assert_eq!(&rt; fault, Some(ProgramFault::Usage));
-        assert_eq!(&rt; fault.map_or(0, |fault| fault.status()), 2);
+        equal(&rt, fault, Some(ProgramFault::Usage));
+        equal(&rt, fault.map_or(0, |fault| fault.status()), 2);
     }
 }
 
 #[test]
-fn wrong_settings(rt: HostRuntime) -> Result<(), Fail> {
-    fs::write(&rt, "settings", "get a")?;
+fn wrong_settings(rt: HostRuntime) {
+    made(&rt, fs::write(&rt, "settings", "get a"));
     assert_ends(
         &rt,
         &rt,
@@ -107,7 +99,7 @@ fn wrong_settings(rt: HostRuntime) -> Result<(), Fail> {
         2,
         "",
         "bad config 1\n",
-    )?;
+    );
     assert_ends(
         &rt,
         &rt,
@@ -115,7 +107,7 @@ fn wrong_settings(rt: HostRuntime) -> Result<(), Fail> {
         2,
         "",
         "bad config 2\n",
-    )?;
+    );
     assert_ends(
         &rt,
         &rt,
@@ -123,12 +115,11 @@ fn wrong_settings(rt: HostRuntime) -> Result<(), Fail> {
         2,
         "",
         "bad config 3\n",
-    )?;
-    Ok(())
+    );
 }
 
 #[test]
-fn absent_files(rt: HostRuntime) -> Result<(), Fail> {
+fn absent_files(rt: HostRuntime) {
     assert_ends(
         &rt,
         &rt,
@@ -136,7 +127,7 @@ fn absent_files(rt: HostRuntime) -> Result<(), Fail> {
         1,
         "",
         "file 1: cannot open\n",
-    )?;
+    );
     assert_ends(
         &rt,
         &rt,
@@ -144,7 +135,7 @@ fn absent_files(rt: HostRuntime) -> Result<(), Fail> {
         1,
         "",
         "file 1: cannot open\n",
-    )?;
+    );
     assert_ends(
         &rt,
         &rt,
@@ -152,8 +143,8 @@ fn absent_files(rt: HostRuntime) -> Result<(), Fail> {
         1,
         "",
         "file 1: cannot open\n",
-    )?;
-    fs::write(&rt, "there", "get")?;
+    );
+    made(&rt, fs::write(&rt, "there", "get"));
     assert_ends(
         &rt,
         &rt,
@@ -161,40 +152,47 @@ fn absent_files(rt: HostRuntime) -> Result<(), Fail> {
         1,
         "",
         "file 2: cannot open\n",
-    )?;
-    Ok(())
+    );
 }
 
 #[test]
-fn sixty_four_files(rt: HostRuntime) -> Result<(), Fail> {
-    fs::write(&rt, "short", "get a\n")?;
-    let mut words = owned_words(rt.alloc(), &["4", "2", "4096"])?;
+fn sixty_four_files(rt: HostRuntime) {
+    made(&rt, fs::write(&rt, "short", "get a\n"));
+    let mut words = made(&rt, owned_words(rt.alloc(), &["4", "2", "4096"]));
     for _ in 0..64 {
-        words.push(String::from_str(rt.alloc(), "short")?)?;
+        made(
+            &rt,
+            words.push(made(&rt, String::from_str(rt.alloc(), "short"))),
+        );
     }
     let mut out = Vec::new(rt.alloc());
     let mut err = Vec::new(rt.alloc());
     let ended = run_program(&rt, words.as_slice(), &mut out, &mut err);
-    assert_eq!(&rt; ended, 0);
-    assert!(&rt; err.is_empty());
-    assert_eq!(&rt; out.iter().filter(|byte| **byte == b'\n').count(), 129);
-    assert!(&rt; out.as_slice().ends_with(b"file 64\nnone\ncontents\n"));
-    words.push(String::from_str(rt.alloc(), "short")?)?;
+    equal(&rt, ended, 0);
+    holds(&rt, err.is_empty());
+    equal(&rt, out.iter().filter(|byte| **byte == b'\n').count(), 129);
+    holds(&rt, out.as_slice().ends_with(b"file 64\nnone\ncontents\n"));
+    made(
+        &rt,
+        words.push(made(&rt, String::from_str(rt.alloc(), "short"))),
+    );
     out.clear();
     let ended = run_program(&rt, words.as_slice(), &mut out, &mut err);
-    assert_eq!(&rt; ended, 2);
-    assert!(&rt; out.is_empty());
-    assert!(&rt; err.as_slice() == b"usage: fartable BUCKETS FRAMES LIMIT FILE...\n".as_slice());
-    Ok(())
+    equal(&rt, ended, 2);
+    holds(&rt, out.is_empty());
+    holds(
+        &rt,
+        err.as_slice() == b"usage: fartable BUCKETS FRAMES LIMIT FILE...\n".as_slice(),
+    );
 }
 
 #[test]
-fn files(rt: HostRuntime) -> Result<(), Fail> {
-    fs::write(&rt, "good", "put a 1\nget a\n")?;
-    fs::write(&rt, "bad", "put a 1\nput a\n")?;
+fn files(rt: HostRuntime) {
+    made(&rt, fs::write(&rt, "good", "put a 1\nget a\n"));
+    made(&rt, fs::write(&rt, "bad", "put a 1\nput a\n"));
     let out = "file 1\nnone\n1\ncontents\na 1\n";
-    assert_ends(&rt, &rt, &["4", "2", "4096", "good"], 0, out, "")?;
-    assert_ends(&rt, &rt, &["0000004", "02", "4096", "good"], 0, out, "")?;
+    assert_ends(&rt, &rt, &["4", "2", "4096", "good"], 0, out, "");
+    assert_ends(&rt, &rt, &["0000004", "02", "4096", "good"], 0, out, "");
     assert_ends(
         &rt,
         &rt,
@@ -202,12 +200,15 @@ fn files(rt: HostRuntime) -> Result<(), Fail> {
         2,
         "",
         "file 1 line 2: bad command\n",
-    )?;
-    fs::write(
+    );
+    made(
         &rt,
-        "other",
-        "put b 2\nget b\nshow\nrelease\nhold b\nshow\nrelease\n",
-    )?;
+        fs::write(
+            &rt,
+            "other",
+            "put b 2\nget b\nshow\nrelease\nhold b\nshow\nrelease\n",
+        ),
+    );
     assert_ends(
         &rt,
         &rt,
@@ -215,7 +216,7 @@ fn files(rt: HostRuntime) -> Result<(), Fail> {
         0,
         "file 1\nnone\n1\nfile 2\nnone\n2\nnothing held\nnothing held\n2\n2\nreleased\ncontents\na 1\nb 2\n",
         "",
-    )?;
+    );
     assert_ends(
         &rt,
         &rt,
@@ -223,7 +224,7 @@ fn files(rt: HostRuntime) -> Result<(), Fail> {
         1,
         "",
         "file 3: cannot open\n",
-    )?;
+    );
     assert_ends(
         &rt,
         &rt,
@@ -231,28 +232,26 @@ fn files(rt: HostRuntime) -> Result<(), Fail> {
         2,
         "",
         "file 2 line 2: bad command\n",
-    )?;
-    Ok(())
+    );
 }
 
 #[test]
-fn little_room(rt: HostRuntime) -> Result<(), Fail> {
-    fs::write(&rt, "written", "put a 1\n")?;
-    let words = owned_words(rt.alloc(), &["4", "2", "4096", "written"])?;
+fn little_room(rt: HostRuntime) {
+    made(&rt, fs::write(&rt, "written", "put a 1\n"));
+    let words = made(&rt, owned_words(rt.alloc(), &["4", "2", "4096", "written"]));
     let mut err = Vec::new(rt.alloc());
     let mut bytes = [0u8; 8];
     let mut out = bytes.as_mut_slice();
     let ended = run_program(&rt, words.as_slice(), &mut out, &mut err);
-    assert_eq!(&rt; ended, 1);
-    assert!(&rt; err.as_slice() == b"write failed\n".as_slice());
+    equal(&rt, ended, 1);
+    holds(&rt, err.as_slice() == b"write failed\n".as_slice());
     let mut silent = &mut bytes[..0];
     let ended = run_program(&rt, &[], &mut err, &mut silent);
-    assert_eq!(&rt; ended, 2);
-    Ok(())
+    equal(&rt, ended, 2);
 }
 
 #[test]
-fn standard_input(rt: HostRuntime) -> Result<(), Fail> {
+fn standard_input(rt: HostRuntime) {
     let alone = InputAlone {
         threads: &rt,
         alloc: rt.alloc(),
@@ -260,7 +259,7 @@ fn standard_input(rt: HostRuntime) -> Result<(), Fail> {
         failing: 255,
     };
     let out = "file 1\nnone\n1\ncontents\na 1\n";
-    assert_ends(&rt, &alone, &["4", "2", "4096", "-"], 0, out, "")?;
+    assert_ends(&rt, &alone, &["4", "2", "4096", "-"], 0, out, "");
     for failing in 0..3 {
         let alone = InputAlone { failing, ..alone };
         assert_ends(
@@ -270,7 +269,6 @@ fn standard_input(rt: HostRuntime) -> Result<(), Fail> {
             1,
             "",
             "file 1: read failed\n",
-        )?;
+        );
     }
-    Ok(())
 }

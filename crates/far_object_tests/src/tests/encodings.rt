@@ -1,4 +1,5 @@
 //! Numbers and texts as bytes, and their buckets.
+use crate::tests::expect::holds;
 use crate::tests::{list, text};
 use far_object::{FarObject, ObjectFault, Text, TextFault, bucket_of};
 use std::alloc::Global;
@@ -20,61 +21,75 @@ pub(super) fn encoding<T: FarObject>(rt: &impl Abort, alloc: Global, value: &T) 
 #[test]
 fn number_as_bytes(rt: HostRuntime) {
     let number: u64 = 258;
-    assert!(rt; encoding(&rt, rt.alloc(), &number).as_slice() == &[0, 0, 0, 0, 0, 0, 1, 2][..]);
-    assert!(rt; number.copy(rt.alloc()) == Ok(258));
+    holds(
+        &rt,
+        encoding(&rt, rt.alloc(), &number).as_slice() == &[0, 0, 0, 0, 0, 0, 1, 2][..],
+    );
+    holds(&rt, number.copy(rt.alloc()) == Ok(258));
 }
 
 #[test]
 fn buckets_of_numbers(rt: HostRuntime) {
     let number: u64 = 258;
-    assert!(rt; bucket_of(&number, u32::MAX) == 33);
-    assert!(rt; bucket_of(&number, 4) == 1);
+    holds(&rt, bucket_of(&number, u32::MAX) == 33);
+    holds(&rt, bucket_of(&number, 4) == 1);
 }
 
 #[test]
 fn bytes_as_number(rt: HostRuntime) {
     let nine: &[u8] = &[0, 0, 0, 0, 0, 0, 1, 2, 255];
-    assert!(rt; u64::decode(rt.alloc(), nine) == Ok((258, 8)));
-    assert!(rt; u64::skip(nine) == Ok(8));
+    holds(&rt, u64::decode(rt.alloc(), nine) == Ok((258, 8)));
+    holds(&rt, u64::skip(nine) == Ok(8));
     let seven: &[u8] = &[0, 0, 0, 0, 0, 0, 1];
-    assert!(rt; u64::decode(rt.alloc(), seven) == Err(ObjectFault::Short));
-    assert!(rt; u64::skip(seven) == Err(ObjectFault::Short));
+    holds(
+        &rt,
+        u64::decode(rt.alloc(), seven) == Err(ObjectFault::Short),
+    );
+    holds(&rt, u64::skip(seven) == Err(ObjectFault::Short));
 }
 
 #[test]
 fn empty_text(rt: HostRuntime) {
     let empty = text(&rt, rt.alloc(), b"");
-    assert!(rt; encoding(&rt, rt.alloc(), &empty).as_slice() == &[0, 0][..]);
-    assert!(rt; bucket_of(&empty, u32::MAX) == 0);
-    assert!(rt; bucket_of(&empty, 4) == 0);
+    holds(
+        &rt,
+        encoding(&rt, rt.alloc(), &empty).as_slice() == &[0, 0][..],
+    );
+    holds(&rt, bucket_of(&empty, u32::MAX) == 0);
+    holds(&rt, bucket_of(&empty, 4) == 0);
 }
 
 #[test]
-fn longest_text(rt: HostRuntime) -> Result<(), Fail> {
-    let bytes = vec![in rt.alloc(); 200u8; 65_536]?;
-    let longest = text(&rt, rt.alloc(), &bytes[..65_535]);
-    let copy = longest.copy(rt.alloc())?;
-    assert!(rt; copy.as_bytes() == &bytes[..65_535]);
+fn longest_text(rt: HostRuntime) {
+    let bytes = vec![in rt.alloc(); 200u8; 65_536]
+        .ok()
+        .expect(&rt, "memory");
+    let (most, _) = bytes.split_at(65_535);
+    let longest = text(&rt, rt.alloc(), most);
+    let copy = longest.copy(rt.alloc()).ok().expect(&rt, "memory");
+    holds(&rt, copy.as_bytes() == most);
     let refused = Text::new(rt.alloc(), bytes.as_slice()).err();
-    assert!(rt; refused == Some(TextFault::TooLong));
-    Ok(())
+    holds(&rt, refused == Some(TextFault::TooLong));
 }
 
 #[test]
 fn bytes_as_text(rt: HostRuntime) {
     let bytes: &[u8] = &[0, 1, 97, 98];
-    assert!(rt; Text::skip(bytes) == Ok(3));
+    holds(&rt, Text::skip(bytes) == Ok(3));
     let (found, size) = Text::decode(rt.alloc(), bytes).ok().expect(&rt, "a text");
-    assert!(rt; found.as_bytes() == b"a".as_slice());
-    assert!(rt; size == 3);
+    holds(&rt, found.as_bytes() == b"a".as_slice());
+    holds(&rt, size == 3);
 }
 
 #[test]
 fn cut_texts(rt: HostRuntime) {
     for end in 0..3usize {
         let cut = &[0, 1, 97][..end];
-        assert!(rt; Text::skip(cut) == Err(ObjectFault::Short));
-        assert!(rt; Text::decode(rt.alloc(), cut).err() == Some(ObjectFault::Short));
+        holds(&rt, Text::skip(cut) == Err(ObjectFault::Short));
+        holds(
+            &rt,
+            Text::decode(rt.alloc(), cut).err() == Some(ObjectFault::Short),
+        );
     }
 }
 
@@ -85,7 +100,7 @@ fn order_of_texts(rt: HostRuntime) {
         for (j, other) in rising.iter().enumerate() {
             let own = text(&rt, rt.alloc(), own);
             let other = text(&rt, rt.alloc(), other);
-            assert!(rt; own.compare(&other) == i.cmp(&j));
+            holds(&rt, own.compare(&other) == i.cmp(&j));
         }
     }
 }
@@ -93,9 +108,9 @@ fn order_of_texts(rt: HostRuntime) {
 #[test]
 fn text_beside_bytes(rt: HostRuntime) {
     let short = text(&rt, rt.alloc(), b"a");
-    assert!(rt; short.compare_to_bytes(&[0, 1, 97]) == Ordering::Equal);
-    assert!(rt; short.compare_to_bytes(&[0, 1, 98]) == Ordering::Less);
-    assert!(rt; short.compare_to_bytes(&[0]) == Ordering::Greater);
+    holds(&rt, short.compare_to_bytes(&[0, 1, 97]) == Ordering::Equal);
+    holds(&rt, short.compare_to_bytes(&[0, 1, 98]) == Ordering::Less);
+    holds(&rt, short.compare_to_bytes(&[0]) == Ordering::Greater);
 }
 
 #[test]
@@ -110,6 +125,6 @@ fn buckets_of_letters(rt: HostRuntime) {
     ];
     for (letter, bucket) in &rows {
         let key = text(&rt, rt.alloc(), letter);
-        assert!(rt; bucket_of(&key, 4) == *bucket);
+        holds(&rt, bucket_of(&key, 4) == *bucket);
     }
 }

@@ -1,4 +1,5 @@
 //! What objects answer, and the bytes that they are.
+use crate::tests::expect::holds;
 use crate::tests::{list, object_of, put, text};
 use far_object::{MOST_PAIRS, Object, ObjectFault, Text};
 use std::alloc::Global;
@@ -11,10 +12,13 @@ const ONE: [u8; 10] = [0, 0, 0, 1, 0, 1, 97, 0, 1, 49];
 #[test]
 fn one_pair(rt: HostRuntime) {
     let object = object_of(&rt, rt.alloc(), &[(b"a", b"1")]);
-    assert!(rt; object.as_bytes() == ONE.as_slice());
-    assert!(rt; object.count() == 1);
-    assert!(rt; object.find(&text(&rt, rt.alloc(), b"a")) == Some(7..10));
-    assert!(rt; object.find(&text(&rt, rt.alloc(), b"b")) == None);
+    holds(&rt, object.as_bytes() == ONE.as_slice());
+    holds(&rt, object.count() == 1);
+    holds(
+        &rt,
+        object.find(&text(&rt, rt.alloc(), b"a")) == Some(7..10),
+    );
+    holds(&rt, object.find(&text(&rt, rt.alloc(), b"b")) == None);
 }
 
 #[test]
@@ -24,8 +28,15 @@ fn one_pair_at_once(rt: HostRuntime) {
     let object = Object::of_pair(rt.alloc(), &key, &value)
         .ok()
         .expect(&rt, "memory");
-    assert!(rt; object.as_bytes() == ONE.as_slice());
-    assert!(rt; object.count() == 1);
+    holds(&rt, object.as_bytes() == ONE.as_slice());
+    holds(&rt, object.count() == 1);
+}
+
+fn bytes_of(value: &Option<Text>) -> Option<&[u8]> {
+    match value {
+        Some(value) => Some(value.as_bytes()),
+        None => None,
+    }
 }
 
 #[test]
@@ -46,7 +57,7 @@ fn values_of_keys(rt: HostRuntime) {
     for (key, wanted) in &rows {
         let key = text(&rt, rt.alloc(), key);
         let value = object.value(rt.alloc(), &key).ok().expect(&rt, "memory");
-        assert!(rt; value.as_ref().map(|value| value.as_bytes()) == *wanted);
+        holds(&rt, bytes_of(&value) == *wanted);
     }
 }
 
@@ -58,16 +69,13 @@ fn answers_as_its_object(rt: &impl Abort, alloc: Global, object: &Object<Text, T
     let entry = object.entry(&key);
     let found = entry.value(alloc).ok().expect(rt, "memory");
     let wanted = object.value(alloc, &key).ok().expect(rt, "memory");
-    assert!(rt;
-        found.as_ref().map(|found| found.as_bytes())
-            == wanted.as_ref().map(|wanted| wanted.as_bytes())
-    );
+    holds(rt, bytes_of(&found) == bytes_of(&wanted));
     let made = entry.with(alloc, &value).ok().expect(rt, "memory");
     let wanted = object.with(alloc, &key, &value).ok().expect(rt, "memory");
-    assert!(rt; made.as_bytes() == wanted.as_bytes());
+    holds(rt, made.as_bytes() == wanted.as_bytes());
     let made = entry.without(alloc).ok().expect(rt, "memory");
     let wanted = object.without(alloc, &key).ok().expect(rt, "memory");
-    assert!(rt; made.as_bytes() == wanted.as_bytes());
+    holds(rt, made.as_bytes() == wanted.as_bytes());
 }
 
 #[test]
@@ -93,7 +101,10 @@ fn value_behind_a_header(rt: HostRuntime) {
         .expect(&rt, "an object");
     let key = text(&rt, rt.alloc(), b"a");
     let value = object.value(rt.alloc(), &key).ok().expect(&rt, "memory");
-    assert!(rt; value.is_some_and(|value| value.as_bytes() == b"1".as_slice()));
+    holds(
+        &rt,
+        value.is_some_and(|value| value.as_bytes() == b"1".as_slice()),
+    );
 }
 
 #[test]
@@ -101,8 +112,8 @@ fn no_pair(rt: HostRuntime) {
     let object = object_of(&rt, rt.alloc(), &[(b"a", b"1")]);
     let key = text(&rt, rt.alloc(), b"a");
     let none = object.without(rt.alloc(), &key).ok().expect(&rt, "memory");
-    assert!(rt; none.as_bytes() == &[0, 0, 0, 0][..]);
-    assert!(rt; none.find(&key) == None);
+    holds(&rt, none.as_bytes() == &[0, 0, 0, 0][..]);
+    holds(&rt, none.find(&key) == None);
 }
 
 #[test]
@@ -116,7 +127,7 @@ fn entries_put_again(rt: HostRuntime) {
     for (key, value) in &entries {
         again = put(&rt, rt.alloc(), &again, key.as_bytes(), value.as_bytes());
     }
-    assert!(rt; again.as_bytes() == ONE.as_slice());
+    holds(&rt, again.as_bytes() == ONE.as_slice());
 }
 
 #[test]
@@ -129,8 +140,11 @@ fn number_to_text(rt: HostRuntime) {
         .with(rt.alloc(), &258, &value)
         .ok()
         .expect(&rt, "memory");
-    assert!(rt; object.as_bytes() == &[0, 0, 0, 1, 0, 0, 0, 0, 0, 0, 1, 2, 0, 1, 120][..]);
-    assert!(rt; object.find(&258) == Some(12..15));
+    holds(
+        &rt,
+        object.as_bytes() == &[0, 0, 0, 1, 0, 0, 0, 0, 0, 0, 1, 2, 0, 1, 120][..],
+    );
+    holds(&rt, object.find(&258) == Some(12..15));
 }
 
 #[test]
@@ -151,7 +165,7 @@ fn three_keys_in_any_order(rt: HostRuntime) {
         [i, a, e],
         [i, e, a],
     ] {
-        assert!(rt; object_of(&rt, rt.alloc(), &order).as_bytes() == wanted);
+        holds(&rt, object_of(&rt, rt.alloc(), &order).as_bytes() == wanted);
     }
 }
 
@@ -180,6 +194,6 @@ fn faults_of_bytes(rt: HostRuntime) {
     ];
     for (bytes, wanted) in &rows {
         let read = Object::<Text, Text>::read(list(&rt, rt.alloc(), bytes));
-        assert!(rt; read.err().map(|(fault, _)| fault) == *wanted);
+        holds(&rt, read.err().map(|(fault, _)| fault) == *wanted);
     }
 }

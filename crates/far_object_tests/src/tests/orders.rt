@@ -2,6 +2,7 @@
 ghost use Rattle.std.specs.Prelude.{◌<◌};
 
 use crate::tests::encodings::encoding;
+use crate::tests::expect::holds;
 use crate::tests::text;
 use far_object::{FarObject, Text};
 use std::alloc::Global;
@@ -19,9 +20,9 @@ const RISING: [u8; 4] = [0x00, 0x7f, 0x80, 0xff];
 fn compares(rt: &impl Abort, alloc: Global, own: &[u8], other: &[u8], outcome: Ordering) {
     let own = text(rt, alloc, own);
     let other = text(rt, alloc, other);
-    assert!(rt; own.compare(&other) == outcome);
+    holds(rt, own.compare(&other) == outcome);
     let written = encoding(rt, alloc, &other);
-    assert!(rt; own.compare_to_bytes(written.as_slice()) == outcome);
+    holds(rt, own.compare_to_bytes(written.as_slice()) == outcome);
 }
 
 /// The lists are alike before this place, and there the first is lower. What is behind the place
@@ -83,10 +84,13 @@ fn text_beside_cut_and_longer_bytes(rt: HostRuntime) {
         let whole = text(&rt, rt.alloc(), &bytes[..count]);
         let mut written = encoding(&rt, rt.alloc(), &whole);
         for end in 0..written.len() {
-            assert!(rt; whole.compare_to_bytes(&written[..end]) == Ordering::Greater);
+            holds(
+                &rt,
+                whole.compare_to_bytes(&written[..end]) == Ordering::Greater,
+            );
         }
         written.push(0).ok().expect(&rt, "memory");
-        assert!(rt; whole.compare_to_bytes(&written) == Ordering::Less);
+        holds(&rt, whole.compare_to_bytes(&written) == Ordering::Less);
     }
 }
 
@@ -103,9 +107,9 @@ fn numbers(rt: HostRuntime) {
     ];
     for (i, own) in rising.iter().enumerate() {
         for (j, other) in rising.iter().enumerate() {
-            assert!(rt; own.compare(other) == i.cmp(&j));
+            holds(&rt, own.compare(other) == i.cmp(&j));
             let written = encoding(&rt, rt.alloc(), other);
-            assert!(rt; own.compare_to_bytes(written.as_slice()) == i.cmp(&j));
+            holds(&rt, own.compare_to_bytes(written.as_slice()) == i.cmp(&j));
         }
     }
 }

@@ -1,4 +1,5 @@
 //! Objects with a bucket and a name.
+use crate::tests::expect::holds;
 use crate::tests::{list, object_of, text};
 use far_object::{Format, Object, ObjectFault, Text};
 use std::alloc::Global;
@@ -30,8 +31,14 @@ fn spelling(rt: &impl Abort, alloc: Global, format: Format) -> Vec<u8> {
 
 #[test]
 fn both_formats(rt: HostRuntime) {
-    assert!(rt; spelling(&rt, rt.alloc(), Format::One).as_slice() == ONE.as_slice());
-    assert!(rt; spelling(&rt, rt.alloc(), Format::Two).as_slice() == ONE_AT.as_slice());
+    holds(
+        &rt,
+        spelling(&rt, rt.alloc(), Format::One).as_slice() == ONE.as_slice(),
+    );
+    holds(
+        &rt,
+        spelling(&rt, rt.alloc(), Format::Two).as_slice() == ONE_AT.as_slice(),
+    );
 }
 
 /// The fault that is found in the bytes for this bucket and name.
@@ -60,7 +67,10 @@ fn faults_at_a_place(rt: HostRuntime) {
         (&ONE, 7, 9, None),
     ];
     for (bytes, bucket, name, wanted) in &rows {
-        assert!(rt; fault_at(&rt, rt.alloc(), bytes, *bucket, *name) == *wanted);
+        holds(
+            &rt,
+            fault_at(&rt, rt.alloc(), bytes, *bucket, *name) == *wanted,
+        );
     }
 }
 
@@ -70,10 +80,10 @@ fn object_behind_a_header(rt: HostRuntime) {
     let object = Object::<Text, Text>::read_at(bytes, 0, 2)
         .ok()
         .expect(&rt, "an object");
-    assert!(rt; object.as_bytes() == ONE.as_slice());
-    assert!(rt; object.count() == 1);
+    holds(&rt, object.as_bytes() == ONE.as_slice());
+    holds(&rt, object.count() == 1);
     let key = text(&rt, rt.alloc(), b"a");
-    assert!(rt; object.find(&key) == Some(7..10));
+    holds(&rt, object.find(&key) == Some(7..10));
     let none = object.without(rt.alloc(), &key).ok().expect(&rt, "memory");
-    assert!(rt; none.as_bytes() == &[0, 0, 0, 0][..]);
+    holds(&rt, none.as_bytes() == &[0, 0, 0, 0][..]);
 }

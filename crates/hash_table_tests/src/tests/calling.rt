@@ -10,13 +10,13 @@ use std::alloc::Global;
 use std::marker::Brand;
 use std::process::Abort;
 use std::sync::Wait;
-use std::test::Fail;
 use version_words::Naming;
 
 type Table<J> = FarTable<Text, Text, J, FakeDevice>;
 
 #[test]
-fn as_shown(rt: HostRuntime) -> Result<(), Fail> {
+fn as_shown(rt: HostRuntime) {
+    let alloc = rt.alloc();
     let config = Config {
         buckets: 1_024,
         frames: 256,
@@ -27,46 +27,49 @@ fn as_shown(rt: HostRuntime) -> Result<(), Fail> {
         spares: 256,
         format: 2,
     };
-    let devices = Vec::from_array(rt.alloc(), [FakeDevice::new(rt.alloc())])?;
+    let devices = Vec::from_array(alloc, [FakeDevice::new(alloc)]).expect(&rt, "devices");
+    let opening = Opening::open(alloc, config, devices).expect(&rt, "an opening");
     // `Brand` stands for whatever name the row of words has got.
-    calls::<Brand, _>(&rt, rt.alloc(), Opening::open(rt.alloc(), config, devices)?)
+    calls::<Brand, _>(&rt, alloc, opening);
 }
 
 fn calls<J: Naming, R: Wait + Abort>(
     rt: &R,
     alloc: Global,
     opening: Opening<Text, Text, FakeDevice>,
-) -> Result<(), Fail>
+)
     requires book { opening.row.book ≡ J.book }
     requires boards { opening.row.names ≡ J.names }
     requires limits { limits_of (sizes_of opening.config) true ≡ J.limits }
 {
-    let table = opening.named::<J>(alloc)?;
-    let Ok(mut caller) = table.enter() else {
-        return Err("no pass is left".into());
-    };
-    puts(rt, alloc, &table, &mut caller)?;
-    reads(rt, alloc, &table, &mut caller)?;
+    let table = opening.named::<J>(alloc).expect(rt, "a table");
+    let mut caller = table.enter().expect(rt, "a pass");
+    puts(rt, alloc, &table, &mut caller);
+    reads(rt, alloc, &table, &mut caller);
     reclaims(rt, &table, &mut caller);
     // All callers end the table, and all pairs come out.
-    let Ok(pairs) = table.close(rt, alloc, Vec::from_array(alloc, [caller])?) else {
-        return Err("not closed".into());
-    };
-    assert_eq!(rt; pairs.len(), 1);
-    Ok(())
+    let callers = Vec::from_array(alloc, [caller]).expect(rt, "callers");
+    match table.close(rt, alloc, callers) {
+        Ok(pairs) => assert_eq!(rt; pairs.len(), 1),
+        Err(_) => panic!(rt; "not closed"),
+    }
 }
 
-fn puts<J: Naming, R: Wait>(
+fn puts<J: Naming, R: Wait + Abort>(
     rt: &R,
     alloc: Global,
     table: &Table<J>,
     caller: &mut Caller<Text, Text, J>,
-) -> Result<(), Fail> {
-    let planet = Text::new(alloc, b"planet")?;
-    let (saturn, venus) = (Text::new(alloc, b"Saturn")?, Text::new(alloc, b"Venus")?);
-    table.put(rt, alloc, caller, &planet, &saturn)?;
-    table.put(rt, alloc, caller, &planet, &venus)?;
-    Ok(())
+) {
+    let planet = Text::new(alloc, b"planet").expect(rt, "a key");
+    let saturn = Text::new(alloc, b"Saturn").expect(rt, "a value");
+    let venus = Text::new(alloc, b"Venus").expect(rt, "a value");
+    table
+        .put(rt, alloc, caller, &planet, &saturn)
+        .expect(rt, "a put");
+    table
+        .put(rt, alloc, caller, &planet, &venus)
+        .expect(rt, "a put");
 }
 
 fn reads<J: Naming, R: Wait + Abort>(
@@ -74,18 +77,16 @@ fn reads<J: Naming, R: Wait + Abort>(
     alloc: Global,
     table: &Table<J>,
     caller: &mut Caller<Text, Text, J>,
-) -> Result<(), Fail> {
-    let planet = Text::new(alloc, b"planet")?;
-    let Some(found) = table.get(rt, alloc, caller, &planet)? else {
-        return Err("no value".into());
-    };
-    assert_eq!(rt; found.as_bytes(), b"Venus".as_slice());
+) {
+    let planet = Text::new(alloc, b"planet").expect(rt, "a key");
+    let found = table.get(rt, alloc, caller, &planet).expect(rt, "a get");
+    let value = found.expect(rt, "a value");
+    assert_eq!(rt; value.as_bytes(), b"Venus".as_slice());
     // A value that is read where it lies. While the scope is open its version stays.
-    if let Some(scope) = table.open_scope(caller, &planet)? {
+    if let Some(scope) = table.open_scope(caller, &planet).expect(rt, "a scope") {
         assert_eq!(rt; scope.bytes(), b"\x00\x05Venus".as_slice());
         scope.close();
     }
-    Ok(())
 }
 
 // The old version waits in the caller, until it is reclaimed or handed on.

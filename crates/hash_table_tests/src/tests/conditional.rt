@@ -3,10 +3,9 @@
 use super::script::{Said, Step, played};
 use super::{opened, settings};
 use hash_table::{BucketState, Config, Refusal};
-use std::test::Fail;
 
 #[test]
-fn a_put_if_writes_where_it_is_met(rt: HostRuntime) -> Result<(), Fail> {
+fn a_put_if_writes_where_it_is_met(rt: HostRuntime) {
     let more = Config {
         frames: 8,
         ..settings()
@@ -21,11 +20,11 @@ fn a_put_if_writes_where_it_is_met(rt: HostRuntime) -> Result<(), Fail> {
         (Step::PutIf(b'a', Some(1), 3), Said::Value(2)),
         (Step::Get(b'a'), Said::Value(2)),
     ];
-    played(&rt, opened(rt.alloc(), more)?, &script)
+    played(&rt, opened(&rt, more), &script);
 }
 
 #[test]
-fn a_try_of_a_put_if_writes_where_it_is_met(rt: HostRuntime) -> Result<(), Fail> {
+fn a_try_of_a_put_if_writes_where_it_is_met(rt: HostRuntime) {
     let more = Config {
         frames: 8,
         ..settings()
@@ -43,11 +42,11 @@ fn a_try_of_a_put_if_writes_where_it_is_met(rt: HostRuntime) -> Result<(), Fail>
         (Step::State(b'a'), Said::In(BucketState::Local(3))),
         (Step::TryGet(b'a'), Said::Value(2)),
     ];
-    played(&rt, opened(rt.alloc(), more)?, &script)
+    played(&rt, opened(&rt, more), &script);
 }
 
 #[test]
-fn a_put_if_reads_a_far_bucket_through(rt: HostRuntime) -> Result<(), Fail> {
+fn a_put_if_reads_a_far_bucket_through(rt: HostRuntime) {
     let script = [
         (Step::Put(b'a', 1), Said::Nothing),
         (Step::SwapOut(0), Said::Is(true)),
@@ -61,11 +60,11 @@ fn a_put_if_reads_a_far_bucket_through(rt: HostRuntime) -> Result<(), Fail> {
         (Step::State(b'a'), Said::In(BucketState::Local(3))),
         (Step::TryGet(b'a'), Said::Value(2)),
     ];
-    played(&rt, opened(rt.alloc(), settings())?, &script)
+    played(&rt, opened(&rt, settings()), &script);
 }
 
 #[test]
-fn an_absent_key_is_removed_without_a_version(rt: HostRuntime) -> Result<(), Fail> {
+fn an_absent_key_is_removed_without_a_version(rt: HostRuntime) {
     let script = [
         (Step::Remove(b'a'), Said::Nothing),
         (Step::TryRemove(b'a'), Said::Nothing),
@@ -79,11 +78,11 @@ fn an_absent_key_is_removed_without_a_version(rt: HostRuntime) -> Result<(), Fai
         (Step::State(b'a'), Said::In(BucketState::Far(2))),
         (Step::Waiting, Said::Count(1)),
     ];
-    played(&rt, opened(rt.alloc(), settings())?, &script)
+    played(&rt, opened(&rt, settings()), &script);
 }
 
 #[test]
-fn three_keys_in_one_bucket(rt: HostRuntime) -> Result<(), Fail> {
+fn three_keys_in_one_bucket(rt: HostRuntime) {
     let more = Config {
         frames: 8,
         ..settings()
@@ -98,5 +97,5 @@ fn three_keys_in_one_bucket(rt: HostRuntime) -> Result<(), Fail> {
         (Step::Get(b'e'), Said::Nothing),
         (Step::Get(b'i'), Said::Value(3)),
     ];
-    played(&rt, opened(rt.alloc(), more)?, &script)
+    played(&rt, opened(&rt, more), &script);
 }

@@ -1,12 +1,13 @@
 //! Devices that give other bytes than were written.
 
+use super::expect::made;
 use super::script::{Said, Step, played};
-use super::settings;
+use super::{settings, table_over};
 use far_device::{CannedDevice, FakeDevice, LyingDevice};
 use far_object::Text;
 use hash_table::{BucketState, Config, Opening, Refusal};
 use std::alloc::Global;
-use std::test::Fail;
+use std::process::Abort;
 
 /// The pairs `e` and `a`, in this order: keys have to rise.
 const DISORDER: [u8; 16] = [0, 0, 0, 2, 0, 1, b'e', 0, 1, b'2', 0, 1, b'a', 0, 1, b'1'];
@@ -42,49 +43,43 @@ fn spelled(bucket: u8, name: u8) -> [u8; 26] {
 }
 
 /// A table over one device whose every read gives these bytes.
-pub fn canned(
-    alloc: Global,
+pub fn canned<R: Alloc<A = Global> + Abort>(
+    rt: &R,
     bytes: &[u8],
-) -> Result<Opening<Text, Text, CannedDevice<FakeDevice>>, Fail> {
-    let bytes = Vec::from_slice(alloc, bytes)?;
-    let device = CannedDevice::new(FakeDevice::new(alloc), bytes);
-    let devices = Vec::from_array(alloc, [device])?;
-    Ok(Opening::open(alloc, settings(), devices)?)
+) -> Opening<Text, Text, CannedDevice<FakeDevice>> {
+    let bytes = made(rt, Vec::from_slice(rt.alloc(), bytes));
+    let device = CannedDevice::new(FakeDevice::new(rt.alloc()), bytes);
+    table_over(rt, settings(), device)
 }
 
 #[test]
-fn other_bytes_are_damaged(rt: HostRuntime) -> Result<(), Fail> {
+fn other_bytes_are_damaged(rt: HostRuntime) {
     for bytes in [DISORDER.as_slice(), [5, 6, 7].as_slice(), [].as_slice()] {
-        played(&rt, canned(rt.alloc(), bytes)?, &DAMAGED)?;
+        played(&rt, canned(&rt, bytes), &DAMAGED);
     }
-    Ok(())
 }
 
 #[test]
-fn objects_of_another_bucket_or_name_are_damaged(rt: HostRuntime) -> Result<(), Fail> {
+fn objects_of_another_bucket_or_name_are_damaged(rt: HostRuntime) {
     for (bucket, name) in [(1, 2), (0, 3)] {
-        played(&rt, canned(rt.alloc(), &spelled(bucket, name))?, &DAMAGED)?;
+        played(&rt, canned(&rt, &spelled(bucket, name)), &DAMAGED);
     }
-    Ok(())
 }
 
 #[test]
-fn cut_bytes_are_damaged(rt: HostRuntime) -> Result<(), Fail> {
-    let alloc = rt.alloc();
+fn cut_bytes_are_damaged(rt: HostRuntime) {
     for format in [1, 2] {
-        let device = LyingDevice::new(FakeDevice::new(alloc));
-        let devices = Vec::from_array(alloc, [device])?;
+        let device = LyingDevice::new(FakeDevice::new(rt.alloc()));
         let config = Config {
             format,
             ..settings()
         };
-        played(&rt, Opening::open(alloc, config, devices)?, &DAMAGED)?;
+        played(&rt, table_over(&rt, config, device), &DAMAGED);
     }
-    Ok(())
 }
 
 #[test]
-fn both_formats_are_read(rt: HostRuntime) -> Result<(), Fail> {
+fn both_formats_are_read(rt: HostRuntime) {
     let with_header = spelled(0, 2);
     for bytes in [ONE_PAIR.as_slice(), with_header.as_slice()] {
         let script = [
@@ -92,7 +87,6 @@ fn both_formats_are_read(rt: HostRuntime) -> Result<(), Fail> {
             (Step::SwapOut(0), Said::Is(true)),
             (Step::Get(b'a'), Said::Value(1)),
         ];
-        played(&rt, canned(rt.alloc(), bytes)?, &script)?;
+        played(&rt, canned(&rt, bytes), &script);
     }
-    Ok(())
 }

@@ -3,6 +3,7 @@ ghost use Rattle.std.specs.Prelude.{◌≡◌, true};
 ghost use Rattle.version_words.specs.Rows.{limits_of};
 ghost use Rattle.hash_table.specs.Configs.{sizes_of};
 
+use super::expect::{equal, made};
 use super::{Answer, User, opened, settings};
 use far_device::FakeDevice;
 use far_object::Text;
@@ -13,7 +14,6 @@ use std::process::Abort;
 use std::sync::Wait;
 use std::sync::atomic::AtomicU64;
 use std::sync::atomic::Ordering::SeqCst;
-use std::test::Fail;
 use std::thread::{Threads, join};
 use version_words::Naming;
 
@@ -113,19 +113,24 @@ fn key_of(thread: u8, at: u8) -> [u8; 2] {
 
 // How many calls answered what this thread alone has left in its keys.
 fn right_answers<J: Naming, R: Wait>(rt: &R, alloc: Global, table: &Table<J>, thread: u8) -> u32 {
+    match User::enter(alloc, table) {
+        Some(mut user) => right_answers_to(rt, &mut user, thread),
+        None => 0,
+    }
+}
+
+fn right_answers_to<J: Naming, R: Wait>(rt: &R, user: &mut Fake<'_, J>, thread: u8) -> u32 {
     let mut right = 0u32;
     let mut known = [None; 8];
-    if let Some(mut user) = User::enter(alloc, table) {
-        for round in 0..ROUNDS {
-            for at in 0..KEYS {
-                let key = key_of(thread, at);
-                let deed = Deed::of(round, thread, at);
-                let before = known[at as usize];
-                if until_done(rt, &mut user, &key, deed) == Ok(before) {
-                    right = right.wrapping_add(1);
-                }
-                known[at as usize] = deed.leaves(before);
+    for round in 0..ROUNDS {
+        for at in 0..KEYS {
+            let key = key_of(thread, at);
+            let deed = Deed::of(round, thread, at);
+            let before = known[at as usize];
+            if until_done(rt, user, &key, deed) == Ok(before) {
+                right = right.wrapping_add(1);
             }
+            known[at as usize] = deed.leaves(before);
         }
     }
     right
@@ -138,17 +143,22 @@ fn swap_outs<J: Naming, R: Wait>(
     table: &Table<J>,
     ended: &AtomicU64,
 ) -> u32 {
+    match User::enter(alloc, table) {
+        Some(mut user) => swap_outs_by(rt, &mut user, ended),
+        None => 0,
+    }
+}
+
+fn swap_outs_by<J: Naming, R: Wait>(rt: &R, user: &mut Fake<'_, J>, ended: &AtomicU64) -> u32 {
     let mut swapped = 0u32;
-    if let Some(mut user) = User::enter(alloc, table) {
-        for turn in 0..MOST_TURNS {
-            if ended.load(SeqCst) == 4 {
-                return swapped;
-            }
-            if user.swap_out(rt, turn % FRAMES) == Ok(true) {
-                swapped = swapped.wrapping_add(1);
-            }
-            reclaim_all(rt, &mut user);
+    for turn in 0..MOST_TURNS {
+        if ended.load(SeqCst) == 4 {
+            return swapped;
         }
+        if user.swap_out(rt, turn % FRAMES) == Ok(true) {
+            swapped = swapped.wrapping_add(1);
+        }
+        reclaim_all(rt, user);
     }
     swapped
 }
@@ -179,30 +189,15 @@ fn two_threads<J: Naming + Send + Sync, R: Threads + Wait + Sync>(
     )
 }
 
-#[test]
-fn threads_know_their_own_keys(rt: HostRuntime) -> Result<(), Fail> {
-    let few = Config {
-        buckets: FRAMES * 4,
-        frames: FRAMES,
-        lanes: 1,
-        ..settings()
-    };
-    five_share::<Brand, _>(&rt, rt.alloc(), opened(rt.alloc(), few)?)
-}
-
-fn five_share<J: Naming + Send + Sync, R: Threads + Wait + Abort + Sync>(
+// How many frames were swapped out, and how many calls of each thread answered what it left.
+fn five_run<J: Naming + Send + Sync, R: Threads + Wait + Sync>(
     rt: &R,
     alloc: Global,
-    opening: Opening<Text, Text, FakeDevice>,
-) -> Result<(), Fail>
-    requires book { opening.row.book ≡ J.book }
-    requires boards { opening.row.names ≡ J.names }
-    requires limits { limits_of (sizes_of opening.config) true ≡ J.limits }
-{
-    let all = opening.named::<J>(alloc)?;
+    table: &Table<J>,
+) -> (u32, ((u32, u32), (u32, u32))) {
     let ended_all = AtomicU64::new(0);
-    let (table, ended) = (&all, &ended_all);
-    let (swapped, (front, back)) = join(
+    let ended = &ended_all;
+    join(
         rt,
         || swap_outs(rt, alloc, table, ended),
         || {
@@ -212,10 +207,32 @@ fn five_share<J: Naming + Send + Sync, R: Threads + Wait + Abort + Sync>(
                 || two_threads(rt, alloc, table, ended, (2, 3)),
             )
         },
-    );
+    )
+}
+
+#[test]
+fn threads_know_their_own_keys(rt: HostRuntime) {
+    let few = Config {
+        buckets: FRAMES * 4,
+        frames: FRAMES,
+        lanes: 1,
+        ..settings()
+    };
+    five_share::<Brand, _>(&rt, rt.alloc(), opened(&rt, few));
+}
+
+fn five_share<J: Naming + Send + Sync, R: Threads + Wait + Abort + Sync>(
+    rt: &R,
+    alloc: Global,
+    opening: Opening<Text, Text, FakeDevice>,
+)
+    requires book { opening.row.book ≡ J.book }
+    requires boards { opening.row.names ≡ J.names }
+    requires limits { limits_of (sizes_of opening.config) true ≡ J.limits }
+{
+    let table = made(rt, opening.named::<J>(alloc));
+    let (swapped, right) = five_run(rt, alloc, &table);
     let each = ROUNDS * u32::from(KEYS);
-    assert_eq!(rt; front, (each, each));
-    assert_eq!(rt; back, (each, each));
-    assert!(rt; swapped > 0);
-    Ok(())
+    equal(rt, right, ((each, each), (each, each)));
+    equal(rt, swapped > 0, true);
 }

@@ -1,25 +1,24 @@
 //! A device that fails one of its calls.
 
 use super::script::{Said, Step, played};
-use super::settings;
+use super::{settings, table_over};
 use far_device::{FakeDevice, FaultyDevice};
 use far_object::Text;
 use hash_table::{BucketState, Opening, ReclaimFault, Refusal};
 use std::alloc::Global;
-use std::test::Fail;
+use std::process::Abort;
 
 type Faulty = FaultyDevice<FakeDevice>;
 
 /// A table over one device whose k-th write, read or removal fails.
-pub fn failing(alloc: Global, k: u64) -> Result<Opening<Text, Text, Faulty>, Fail> {
-    let device = FaultyDevice::new(FakeDevice::new(alloc), k);
-    let devices = Vec::from_array(alloc, [device])?;
-    Ok(Opening::open(alloc, settings(), devices)?)
+pub fn failing<R: Alloc<A = Global> + Abort>(rt: &R, k: u64) -> Opening<Text, Text, Faulty> {
+    let device = FaultyDevice::new(FakeDevice::new(rt.alloc()), k);
+    table_over(rt, settings(), device)
 }
 
 // The name of the swap-out was drawn in vain.
 #[test]
-fn a_swap_out_meets_a_failed_write(rt: HostRuntime) -> Result<(), Fail> {
+fn a_swap_out_meets_a_failed_write(rt: HostRuntime) {
     let script = [
         (Step::Put(b'a', 1), Said::Nothing),
         (Step::SwapOut(0), Said::Refused(Refusal::Device)),
@@ -33,12 +32,12 @@ fn a_swap_out_meets_a_failed_write(rt: HostRuntime) -> Result<(), Fail> {
         (Step::Reclaim, Said::Is(true)),
         (Step::Get(b'a'), Said::Value(1)),
     ];
-    played(&rt, failing(rt.alloc(), 1)?, &script)
+    played(&rt, failing(&rt, 1), &script);
 }
 
 // The next call is not refused any more.
 #[test]
-fn calls_meet_a_failed_read(rt: HostRuntime) -> Result<(), Fail> {
+fn calls_meet_a_failed_read(rt: HostRuntime) {
     for reading in [
         Step::Fetch(b'a'),
         Step::ReadThrough(b'a'),
@@ -58,14 +57,13 @@ fn calls_meet_a_failed_read(rt: HostRuntime) -> Result<(), Fail> {
             (Step::Get(b'a'), Said::Value(1)),
             (Step::State(b'a'), Said::In(BucketState::Local(3))),
         ];
-        played(&rt, failing(rt.alloc(), 2)?, &script)?;
+        played(&rt, failing(&rt, 2), &script);
     }
-    Ok(())
 }
 
 // The spare is handed back, and the next try reclaims it.
 #[test]
-fn a_reclaim_meets_a_failed_removal(rt: HostRuntime) -> Result<(), Fail> {
+fn a_reclaim_meets_a_failed_removal(rt: HostRuntime) {
     let script = [
         (Step::Put(b'a', 1), Said::Nothing),
         (Step::SwapOut(0), Said::Is(true)),
@@ -78,5 +76,5 @@ fn a_reclaim_meets_a_failed_removal(rt: HostRuntime) -> Result<(), Fail> {
         (Step::Reclaim, Said::Nothing),
         (Step::Get(b'a'), Said::Value(1)),
     ];
-    played(&rt, failing(rt.alloc(), 3)?, &script)
+    played(&rt, failing(&rt, 3), &script);
 }

@@ -3,10 +3,9 @@
 use super::script::{Said, Step, played};
 use super::{opened, settings};
 use hash_table::{BucketState, Config, Refusal};
-use std::test::Fail;
 
 #[test]
-fn a_get_brings_its_bucket_in(rt: HostRuntime) -> Result<(), Fail> {
+fn a_get_brings_its_bucket_in(rt: HostRuntime) {
     let one_format = Config {
         format: 1,
         ..settings()
@@ -20,11 +19,11 @@ fn a_get_brings_its_bucket_in(rt: HostRuntime) -> Result<(), Fail> {
         (Step::State(b'a'), Said::In(BucketState::Empty(4))),
         (Step::Get(b'a'), Said::Nothing),
     ];
-    played(&rt, opened(rt.alloc(), one_format)?, &script)
+    played(&rt, opened(&rt, one_format), &script);
 }
 
 #[test]
-fn a_get_without_a_frame_reads_through(rt: HostRuntime) -> Result<(), Fail> {
+fn a_get_without_a_frame_reads_through(rt: HostRuntime) {
     let one = Config {
         frames: 1,
         ..settings()
@@ -42,11 +41,11 @@ fn a_get_without_a_frame_reads_through(rt: HostRuntime) -> Result<(), Fail> {
         (Step::Get(b'a'), Said::Value(1)),
         (Step::State(b'a'), Said::In(BucketState::Far(2))),
     ];
-    played(&rt, opened(rt.alloc(), one)?, &script)
+    played(&rt, opened(&rt, one), &script);
 }
 
 #[test]
-fn one_frame_is_enough_to_put(rt: HostRuntime) -> Result<(), Fail> {
+fn one_frame_is_enough_to_put(rt: HostRuntime) {
     let one = Config {
         frames: 1,
         ..settings()
@@ -60,5 +59,5 @@ fn one_frame_is_enough_to_put(rt: HostRuntime) -> Result<(), Fail> {
         (Step::State(b'a'), Said::In(BucketState::Local(3))),
         (Step::Get(b'a'), Said::Value(2)),
     ];
-    played(&rt, opened(rt.alloc(), one)?, &script)
+    played(&rt, opened(&rt, one), &script);
 }

@@ -5,11 +5,10 @@ use super::{User, opened, settings, text};
 use far_device::Device;
 use hash_table::{ReclaimFault, Refusal};
 use std::sync::Wait;
-use std::test::Fail;
 use version_words::Naming;
 
 #[test]
-fn a_version_stays_under_its_reader(rt: HostRuntime) -> Result<(), Fail> {
+fn a_version_stays_under_its_reader(rt: HostRuntime) {
     let script = [
         (Step::Put(b'a', 1), Said::Nothing),
         (Step::PutUnderReader, Said::Is(true)),
@@ -20,7 +19,7 @@ fn a_version_stays_under_its_reader(rt: HostRuntime) -> Result<(), Fail> {
         (Step::TryGet(b'a'), Said::Value(2)),
         (Step::Free, Said::Count(1)),
     ];
-    played(&rt, opened(rt.alloc(), settings())?, &script)
+    played(&rt, opened(&rt, settings()), &script);
 }
 
 /// Puts 2 at the key a while a scope is open that shows 1, and tries to reclaim what it shows. Whether it shows the same
@@ -43,7 +42,7 @@ pub fn put_under_reader<J: Naming, D: Device, R: Wait>(
 }
 
 #[test]
-fn frames_tell_of_themselves(rt: HostRuntime) -> Result<(), Fail> {
+fn frames_tell_of_themselves(rt: HostRuntime) {
     let script = [
         (Step::Free, Said::Count(2)),
         (Step::Seen(0), Said::Nothing),
@@ -64,5 +63,5 @@ fn frames_tell_of_themselves(rt: HostRuntime) -> Result<(), Fail> {
         (Step::Touched(0), Said::Is(false)),
         (Step::Touched(2), Said::Is(false)),
     ];
-    played(&rt, opened(rt.alloc(), settings())?, &script)
+    played(&rt, opened(&rt, settings()), &script);
 }

@@ -3,10 +3,9 @@
 use super::script::{Said, Step, played};
 use super::{opened, settings};
 use hash_table::{Config, Refusal};
-use std::test::Fail;
 
 #[test]
-fn sixty_four_spares_wait(rt: HostRuntime) -> Result<(), Fail> {
+fn sixty_four_spares_wait(rt: HostRuntime) {
     let many = Config {
         frames: 128,
         ..settings()
@@ -28,11 +27,11 @@ fn sixty_four_spares_wait(rt: HostRuntime) -> Result<(), Fail> {
         (Step::TryPut(b'a', 66), Said::Value(65)),
         (Step::Waiting, Said::Count(64)),
     ];
-    played(&rt, opened(rt.alloc(), many)?, &script)
+    played(&rt, opened(&rt, many), &script);
 }
 
 #[test]
-fn a_full_limbo_takes_no_spare_back(rt: HostRuntime) -> Result<(), Fail> {
+fn a_full_limbo_takes_no_spare_back(rt: HostRuntime) {
     let many = Config {
         frames: 128,
         ..settings()
@@ -46,11 +45,11 @@ fn a_full_limbo_takes_no_spare_back(rt: HostRuntime) -> Result<(), Fail> {
         (Step::Held, Said::Name(1)),
         (Step::Oldest, Said::Name(2)),
     ];
-    played(&rt, opened(rt.alloc(), many)?, &script)
+    played(&rt, opened(&rt, many), &script);
 }
 
 #[test]
-fn spares_come_out_in_turn(rt: HostRuntime) -> Result<(), Fail> {
+fn spares_come_out_in_turn(rt: HostRuntime) {
     let many = Config {
         frames: 128,
         ..settings()
@@ -70,5 +69,5 @@ fn spares_come_out_in_turn(rt: HostRuntime) -> Result<(), Fail> {
         (Step::Reclaim, Said::Is(true)),
         (Step::Reclaim, Said::Nothing),
     ];
-    played(&rt, opened(rt.alloc(), many)?, &script)
+    played(&rt, opened(&rt, many), &script);
 }

@@ -3,11 +3,10 @@
 use super::script::{Said, Step, played};
 use super::{opened, settings};
 use hash_table::{BucketState, Config, Refusal};
-use std::test::Fail;
 
 // The objects would have 10, 16 and 11 bytes.
 #[test]
-fn what_was_there_stands_where_an_object_is_too_long(rt: HostRuntime) -> Result<(), Fail> {
+fn what_was_there_stands_where_an_object_is_too_long(rt: HostRuntime) {
     let short = Config {
         limit: 10,
         ..settings()
@@ -27,11 +26,11 @@ fn what_was_there_stands_where_an_object_is_too_long(rt: HostRuntime) -> Result<
         (Step::Waiting, Said::Count(0)),
         (Step::Free, Said::Count(1)),
     ];
-    played(&rt, opened(rt.alloc(), short)?, &script)
+    played(&rt, opened(&rt, short), &script);
 }
 
 #[test]
-fn names_are_spent(rt: HostRuntime) -> Result<(), Fail> {
+fn names_are_spent(rt: HostRuntime) {
     let two = Config {
         frames: 4,
         names: 2,
@@ -50,12 +49,12 @@ fn names_are_spent(rt: HostRuntime) -> Result<(), Fail> {
         (Step::Waiting, Said::Count(0)),
         (Step::Free, Said::Count(2)),
     ];
-    played(&rt, opened(rt.alloc(), two)?, &script)
+    played(&rt, opened(&rt, two), &script);
 }
 
 // A get does without the swap-in that no name is left for.
 #[test]
-fn the_last_name_may_lie_on_the_device(rt: HostRuntime) -> Result<(), Fail> {
+fn the_last_name_may_lie_on_the_device(rt: HostRuntime) {
     let two = Config {
         names: 2,
         ..settings()
@@ -68,5 +67,5 @@ fn the_last_name_may_lie_on_the_device(rt: HostRuntime) -> Result<(), Fail> {
         (Step::State(b'a'), Said::In(BucketState::Far(2))),
         (Step::Free, Said::Count(1)),
     ];
-    played(&rt, opened(rt.alloc(), two)?, &script)
+    played(&rt, opened(&rt, two), &script);
 }

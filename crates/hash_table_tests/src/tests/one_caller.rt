@@ -3,10 +3,9 @@
 use super::script::{Said, Step, played};
 use super::{opened, settings};
 use hash_table::{BucketState, Config, Refusal};
-use std::test::Fail;
 
 #[test]
-fn out_and_in_again(rt: HostRuntime) -> Result<(), Fail> {
+fn out_and_in_again(rt: HostRuntime) {
     let script = [
         (Step::State(b'a'), Said::In(BucketState::Empty(0))),
         (Step::Put(b'a', 1), Said::Nothing),
@@ -28,11 +27,11 @@ fn out_and_in_again(rt: HostRuntime) -> Result<(), Fail> {
         (Step::Show(b'a'), Said::Shown(1, 3)),
         (Step::Pairs(b'a'), Said::Count(1)),
     ];
-    played(&rt, opened(rt.alloc(), settings())?, &script)
+    played(&rt, opened(&rt, settings()), &script);
 }
 
 #[test]
-fn removed_and_reclaimed(rt: HostRuntime) -> Result<(), Fail> {
+fn removed_and_reclaimed(rt: HostRuntime) {
     let script = [
         (Step::Put(b'a', 1), Said::Nothing),
         (Step::SwapOut(0), Said::Is(true)),
@@ -54,11 +53,11 @@ fn removed_and_reclaimed(rt: HostRuntime) -> Result<(), Fail> {
         (Step::Waiting, Said::Count(0)),
         (Step::Free, Said::Count(2)),
     ];
-    played(&rt, opened(rt.alloc(), settings())?, &script)
+    played(&rt, opened(&rt, settings()), &script);
 }
 
 #[test]
-fn one_frame_is_enough_to_remove(rt: HostRuntime) -> Result<(), Fail> {
+fn one_frame_is_enough_to_remove(rt: HostRuntime) {
     let one = Config {
         frames: 1,
         ..settings()
@@ -69,5 +68,5 @@ fn one_frame_is_enough_to_remove(rt: HostRuntime) -> Result<(), Fail> {
         (Step::Remove(b'a'), Said::Value(1)),
         (Step::State(b'a'), Said::In(BucketState::Empty(3))),
     ];
-    played(&rt, opened(rt.alloc(), one)?, &script)
+    played(&rt, opened(&rt, one), &script);
 }

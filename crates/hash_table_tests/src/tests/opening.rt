@@ -3,30 +3,31 @@ ghost use Rattle.std.specs.Prelude.{◌≡◌, ◌+◌, ◌-◌, ◌^◌, min, t
 ghost use Rattle.version_words.specs.Rows.{limits_of};
 ghost use Rattle.hash_table.specs.Configs.{sizes_of};
 
-use super::{User, settings};
+use super::expect::{equal, made};
+use super::{entered, opened, settings, table_over};
 use far_device::{Device, DeviceFault, FakeDevice};
 use far_object::Text;
-use hash_table::{Config, OpenFault, Opening};
+use hash_table::{Config, FarTable, OpenFault, Opening};
 use std::alloc::Global;
 use std::marker::Brand;
 use std::process::Abort;
-use std::test::Fail;
 use version_words::Naming;
 
 /// What opening with so many devices answers. None where it opens.
-fn fault(alloc: Global, config: Config, devices: usize) -> Result<Option<OpenFault>, Fail> {
-    match Opening::<Text, Text, FakeDevice>::open(alloc, config, fakes(alloc, devices)?) {
-        Ok(_) => Ok(None),
-        Err(fault) => Ok(Some(fault)),
-    }
+fn fault<R: Alloc<A = Global> + Abort>(
+    rt: &R,
+    config: Config,
+    devices: usize,
+) -> Option<OpenFault> {
+    Opening::<Text, Text, FakeDevice>::open(rt.alloc(), config, fakes(rt, devices)).err()
 }
 
-fn fakes(alloc: Global, count: usize) -> Result<Vec<FakeDevice>, Fail> {
-    let mut devices = Vec::new(alloc);
+fn fakes<R: Alloc<A = Global> + Abort>(rt: &R, count: usize) -> Vec<FakeDevice> {
+    let mut devices = Vec::new(rt.alloc());
     for _ in 0..count {
-        devices.push(FakeDevice::new(alloc))?;
+        made(rt, devices.push(FakeDevice::new(rt.alloc())));
     }
-    Ok(devices)
+    devices
 }
 
 /// The settings with one that is outside its limits, and its number.
@@ -94,39 +95,40 @@ fn outside() -> [(Config, u32); 15] {
 }
 
 #[test]
-fn the_first_bad_setting_is_named(rt: HostRuntime) -> Result<(), Fail> {
-    let alloc = rt.alloc();
+fn the_first_bad_setting_is_named(rt: HostRuntime) {
     for (config, field) in outside() {
-        assert_eq!(rt; fault(alloc, config, 1)?, Some(OpenFault::BadConfig(field)));
+        equal(
+            &rt,
+            fault(&rt, config, 1),
+            Some(OpenFault::BadConfig(field)),
+        );
     }
     let none = Config {
         lanes: 0,
         ..settings()
     };
-    assert_eq!(rt; fault(alloc, none, 0)?, Some(OpenFault::BadConfig(6)));
+    equal(&rt, fault(&rt, none, 0), Some(OpenFault::BadConfig(6)));
     let many = Config {
         lanes: 65,
         ..settings()
     };
-    assert_eq!(rt; fault(alloc, many, 65)?, Some(OpenFault::BadConfig(6)));
+    equal(&rt, fault(&rt, many, 65), Some(OpenFault::BadConfig(6)));
     let spares = Config {
         buckets: 0,
         spares: 0,
         ..settings()
     };
-    assert_eq!(rt; fault(alloc, spares, 1)?, Some(OpenFault::BadConfig(1)));
+    equal(&rt, fault(&rt, spares, 1), Some(OpenFault::BadConfig(1)));
     let format = Config {
         buckets: 0,
         format: 0,
         ..settings()
     };
-    assert_eq!(rt; fault(alloc, format, 1)?, Some(OpenFault::BadConfig(1)));
-    Ok(())
+    equal(&rt, fault(&rt, format, 1), Some(OpenFault::BadConfig(1)));
 }
 
 #[test]
-fn the_greatest_settings_open(rt: HostRuntime) -> Result<(), Fail> {
-    let alloc = rt.alloc();
+fn the_greatest_settings_open(rt: HostRuntime) {
     let greatest = Config {
         buckets: 65_536,
         frames: 65_536,
@@ -137,13 +139,12 @@ fn the_greatest_settings_open(rt: HostRuntime) -> Result<(), Fail> {
         spares: 4_096,
         format: 2,
     };
-    let opening = Opening::open(alloc, greatest, fakes(alloc, 64)?)?;
-    enters::<Brand, _>(&rt, alloc, opening, 65_536)
+    let opening = made(&rt, Opening::open(rt.alloc(), greatest, fakes(&rt, 64)));
+    enters::<Brand, _>(&rt, rt.alloc(), opening, 65_536);
 }
 
 #[test]
-fn the_least_settings_open(rt: HostRuntime) -> Result<(), Fail> {
-    let alloc = rt.alloc();
+fn the_least_settings_open(rt: HostRuntime) {
     let least = Config {
         buckets: 1,
         frames: 1,
@@ -154,8 +155,12 @@ fn the_least_settings_open(rt: HostRuntime) -> Result<(), Fail> {
         spares: 1,
         format: 1,
     };
-    let opening = Opening::open(alloc, least, fakes(alloc, 1)?)?;
-    enters::<Brand, _>(&rt, alloc, opening, 1)
+    enters::<Brand, _>(&rt, rt.alloc(), opened(&rt, least), 1);
+}
+
+// Whether a caller can enter.
+fn enters_now<J: Naming>(table: &FarTable<Text, Text, J, FakeDevice>) -> bool {
+    entered(table).is_some()
 }
 
 // A caller enters, and all frames are free.
@@ -164,41 +169,33 @@ fn enters<J: Naming, R: Abort>(
     alloc: Global,
     opening: Opening<Text, Text, FakeDevice>,
     frames: u32,
-) -> Result<(), Fail>
+)
     requires book { opening.row.book ≡ J.book }
     requires boards { opening.row.names ≡ J.names }
     requires limits { limits_of (sizes_of opening.config) true ≡ J.limits }
 {
-    let table = opening.named::<J>(alloc)?;
-    assert!(rt; User::enter(alloc, &table).is_some());
-    assert_eq!(rt; table.free(), frames);
-    Ok(())
+    let table = made(rt, opening.named::<J>(alloc));
+    equal(rt, enters_now(&table), true);
+    equal(rt, table.free(), frames);
 }
 
 #[test]
-fn one_pass_is_for_one_caller(rt: HostRuntime) -> Result<(), Fail> {
-    let alloc = rt.alloc();
+fn one_pass_is_for_one_caller(rt: HostRuntime) {
     let one = Config {
         passes: 1,
         ..settings()
     };
-    let opening = Opening::open(alloc, one, fakes(alloc, 1)?)?;
-    enters_once::<Brand, _>(&rt, alloc, opening)
+    enters_once::<Brand, _>(&rt, rt.alloc(), opened(&rt, one));
 }
 
-fn enters_once<J: Naming, R: Abort>(
-    rt: &R,
-    alloc: Global,
-    opening: Opening<Text, Text, FakeDevice>,
-) -> Result<(), Fail>
+fn enters_once<J: Naming, R: Abort>(rt: &R, alloc: Global, opening: Opening<Text, Text, FakeDevice>)
     requires book { opening.row.book ≡ J.book }
     requires boards { opening.row.names ≡ J.names }
     requires limits { limits_of (sizes_of opening.config) true ≡ J.limits }
 {
-    let table = opening.named::<J>(alloc)?;
-    assert!(rt; User::enter(alloc, &table).is_some());
-    assert!(rt; User::enter(alloc, &table).is_none());
-    Ok(())
+    let table = made(rt, opening.named::<J>(alloc));
+    equal(rt, enters_now(&table), true);
+    equal(rt, enters_now(&table), false);
 }
 
 /// A device that keeps nothing, and fails at each call.
@@ -246,12 +243,9 @@ impl Device for BrokenDevice {
 }
 
 #[test]
-fn a_device_that_fails_at_once_makes_no_table(rt: HostRuntime) -> Result<(), Fail> {
-    let alloc = rt.alloc();
-    let devices = Vec::from_array(alloc, [BrokenDevice { failures: 0 }])?;
-    let opening = Opening::open(alloc, settings(), devices)?;
-    fails::<Brand, _>(&rt, alloc, opening);
-    Ok(())
+fn a_device_that_fails_at_once_makes_no_table(rt: HostRuntime) {
+    let opening = table_over(&rt, settings(), BrokenDevice { failures: 0 });
+    fails::<Brand, _>(&rt, rt.alloc(), opening);
 }
 
 fn fails<J: Naming, R: Abort>(rt: &R, alloc: Global, opening: Opening<Text, Text, BrokenDevice>)
@@ -259,8 +253,5 @@ fn fails<J: Naming, R: Abort>(rt: &R, alloc: Global, opening: Opening<Text, Text
     requires boards { opening.row.names ≡ J.names }
     requires limits { limits_of (sizes_of opening.config) true ≡ J.limits }
 {
-    match opening.named::<J>(alloc) {
-        Ok(_) => assert!(rt; false),
-        Err(fault) => assert_eq!(rt; fault, OpenFault::Device),
-    }
+    equal(rt, opening.named::<J>(alloc).err(), Some(OpenFault::Device));
 }

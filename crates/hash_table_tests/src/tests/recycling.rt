@@ -5,7 +5,6 @@ use super::{Answer, User, opened, settings};
 use far_device::Device;
 use hash_table::{Config, Refusal};
 use std::sync::Wait;
-use std::test::Fail;
 use version_words::Naming;
 
 /// Puts the values from 1 to this one, and reclaims the spare of each. How often the put answered the value before, and the
@@ -48,7 +47,7 @@ fn four_frames() -> Config {
 }
 
 #[test]
-fn two_frames_go_to_and_fro(rt: HostRuntime) -> Result<(), Fail> {
+fn two_frames_go_to_and_fro(rt: HostRuntime) {
     let script = [
         (Step::Recycle, Said::Nothing),
         (Step::PutsAndReclaims(b'a', 1_000), Said::Count(1_000)),
@@ -64,11 +63,11 @@ fn two_frames_go_to_and_fro(rt: HostRuntime) -> Result<(), Fail> {
         (Step::StopRecycling, Said::Nothing),
         (Step::Free, Said::Count(3)),
     ];
-    played(&rt, opened(rt.alloc(), four_frames())?, &script)
+    played(&rt, opened(&rt, four_frames()), &script);
 }
 
 #[test]
-fn one_frame_is_kept_at_most(rt: HostRuntime) -> Result<(), Fail> {
+fn one_frame_is_kept_at_most(rt: HostRuntime) {
     let script = [
         (Step::TryPuts(b'a', 3), Said::Count(3)),
         (Step::Recycle, Said::Nothing),
@@ -80,11 +79,11 @@ fn one_frame_is_kept_at_most(rt: HostRuntime) -> Result<(), Fail> {
         (Step::Seen(0), Said::Frame(1, 4)),
         (Step::Free, Said::Count(2)),
     ];
-    played(&rt, opened(rt.alloc(), four_frames())?, &script)
+    played(&rt, opened(&rt, four_frames()), &script);
 }
 
 #[test]
-fn another_caller_takes_a_kept_frame_last(rt: HostRuntime) -> Result<(), Fail> {
+fn another_caller_takes_a_kept_frame_last(rt: HostRuntime) {
     let script = [
         (Step::Recycle, Said::Nothing),
         (Step::PutsAndReclaims(b'a', 2), Said::Count(2)),
@@ -99,11 +98,11 @@ fn another_caller_takes_a_kept_frame_last(rt: HostRuntime) -> Result<(), Fail> {
         (Step::StopRecycling, Said::Nothing),
         (Step::Free, Said::Count(0)),
     ];
-    played(&rt, opened(rt.alloc(), four_frames())?, &script)
+    played(&rt, opened(&rt, four_frames()), &script);
 }
 
 #[test]
-fn a_put_that_finds_its_frame_gone_takes_another(rt: HostRuntime) -> Result<(), Fail> {
+fn a_put_that_finds_its_frame_gone_takes_another(rt: HostRuntime) {
     let three = Config {
         frames: 3,
         ..settings()
@@ -118,5 +117,5 @@ fn a_put_that_finds_its_frame_gone_takes_another(rt: HostRuntime) -> Result<(), 
         (Step::TryPut(b'a', 3), Said::Value(2)),
         (Step::Seen(2), Said::Frame(0, 6)),
     ];
-    played(&rt, opened(rt.alloc(), three)?, &script)
+    played(&rt, opened(&rt, three), &script);
 }

@@ -3,17 +3,17 @@ ghost use Rattle.std.specs.Prelude.{◌≡◌};
 ghost use Rattle.version_words.specs.Rows.{limits_of};
 ghost use Rattle.hash_table.specs.Configs.{sizes_of};
 
+use super::expect::{equal, made};
 use super::held::put_under_reader;
 use super::recycling::{put_and_reclaim, put_by_another};
-use super::{Answer, User};
+use super::{Answer, User, user_of};
 use far_device::Device;
 use far_object::Text;
-use hash_table::{BucketState, Opening, ReclaimFault, Refusal};
+use hash_table::{BucketState, FarTable, Opening, ReclaimFault, Refusal};
 use std::alloc::Global;
 use std::marker::Brand;
 use std::process::Abort;
 use std::sync::Wait;
-use std::test::Fail;
 use version_words::Naming;
 
 /// A step. Keys are single letters.
@@ -170,12 +170,9 @@ impl Step {
             Step::SwapOut(frame) => Said::done(user.swap_out(rt, frame)),
             Step::PutUnderReader => Said::done(put_under_reader(rt, user)),
             Step::PutByAnother(key, value) => Said::value(put_by_another(user, &[key], value)),
-            Step::PutsAndReclaims(key, most) => Said::Count(put_and_reclaim(
-                rt,
-                user,
-                &[key],
-                most,
-            )),
+            Step::PutsAndReclaims(key, most) => {
+                Said::Count(put_and_reclaim(rt, user, &[key], most))
+            }
             Step::Recycle => {
                 user.caller.recycle();
                 Said::Nothing
@@ -204,17 +201,32 @@ fn play<J: Naming, D: Device, R: Wait + Abort>(
     alloc: Global,
     opening: Opening<Text, Text, D>,
     script: &[(Step, Said)],
-) -> Result<(), Fail>
+)
     requires book { opening.row.book ≡ J.book }
     requires boards { opening.row.names ≡ J.names }
     requires limits { limits_of (sizes_of opening.config) D.HONEST ≡ J.limits }
 {
-    let table = opening.named::<J>(alloc)?;
-    let mut user = User::enter(alloc, &table).ok_or("no caller")?;
+    play_on(rt, alloc, &made(rt, opening.named::<J>(alloc)), script);
+}
+
+fn play_on<J: Naming, D: Device, R: Wait + Abort>(
+    rt: &R,
+    alloc: Global,
+    table: &FarTable<Text, Text, J, D>,
+    script: &[(Step, Said)],
+) {
+    let mut user = user_of(rt, alloc, table);
+    play_all(rt, &mut user, script);
+}
+
+fn play_all<J: Naming, D: Device, R: Wait + Abort>(
+    rt: &R,
+    user: &mut User<'_, J, D>,
+    script: &[(Step, Said)],
+) {
     for (at, (step, wanted)) in script.iter().enumerate() {
-        assert_eq!(rt; step.play(rt, &mut user), *wanted, "at {at}");
+        equal(rt, (at, step.play(rt, user)), (at, *wanted));
     }
-    Ok(())
 }
 
 /// Plays the steps by the first caller of the table that was opened.
@@ -222,6 +234,6 @@ pub fn played<D: Device, R: Alloc<A = Global> + Wait + Abort>(
     rt: &R,
     opening: Opening<Text, Text, D>,
     script: &[(Step, Said)],
-) -> Result<(), Fail> {
-    play::<Brand, D, R>(rt, rt.alloc(), opening, script)
+) {
+    play::<Brand, D, R>(rt, rt.alloc(), opening, script);
 }

@@ -1,44 +1,42 @@
 //! A device that fails, at each of its calls in turn.
-ghost use Rattle.std.specs.Prelude.{◌≡◌, false};
+ghost use Rattle.std.specs.Prelude.{◌≡◌, false, vec_len};
 ghost use Rattle.version_words.specs.Rows.{limits_of};
 
+use super::expect::equal;
 use super::user::{User, stands_behind_nine};
 use super::{Unvouched, one_pair, opened};
-use far_device::{FakeDevice, FaultyDevice, WatchedDevice};
+use far_device::{Device, FakeDevice, FaultyDevice, WatchedDevice};
 use far_object::{Format, Text};
-use lane_store::{LaneFault, LaneStore};
+use lane_store::LaneFault;
 use std::alloc::Global;
 use std::marker::Brand;
 use std::process::Abort;
 use std::sync::atomic::AtomicU64;
 use std::sync::atomic::Ordering::SeqCst;
 use std::sync::{Arc, Wait};
-use std::test::Fail;
 use version_words::{Naming, Opened};
 
 /// The calls of the run's device where none of them fails: two names are written, read and removed, and the second is
 /// read once more in between.
 const CALLS: u64 = 7;
 
-type Watched = WatchedDevice<FaultyDevice<FakeDevice>>;
-
 #[test]
-fn each_call_of_a_device_fails_in_turn(rt: HostRuntime) -> Result<(), Fail> {
+fn each_call_of_a_device_fails_in_turn(rt: HostRuntime) {
     for k in 1..=CALLS {
-        assert_eq!(rt; failures_of_a_run(&rt, rt.alloc(), k)?, 1);
+        equal(&rt, failures_of_a_run(&rt, rt.alloc(), k), 1);
     }
-    assert_eq!(rt; failures_of_a_run(&rt, rt.alloc(), CALLS + 1)?, 0);
-    Ok(())
+    equal(&rt, failures_of_a_run(&rt, rt.alloc(), CALLS + 1), 0);
 }
 
 // How often the device failed where its k-th call is the one that fails.
-fn failures_of_a_run<R: Wait + Abort>(rt: &R, alloc: Global, k: u64) -> Result<u64, Fail> {
-    let writes = Arc::new(alloc, AtomicU64::new(0))?;
-    let failures = Arc::new(alloc, AtomicU64::new(0))?;
+fn failures_of_a_run<R: Wait + Abort>(rt: &R, alloc: Global, k: u64) -> u64 {
+    let writes = Arc::new(alloc, AtomicU64::new(0)).expect(rt, "no count");
+    let failures = Arc::new(alloc, AtomicU64::new(0)).expect(rt, "no count");
     let faulty = FaultyDevice::new(FakeDevice::new(alloc), k);
-    let device = WatchedDevice::new(faulty, writes, failures.clone()?);
-    run::<Brand, _>(rt, alloc, opened(alloc)?, device, &failures)?;
-    Ok(failures.load(SeqCst))
+    let device = WatchedDevice::new(faulty, writes, failures.clone().expect(rt, "no count"));
+    let devices = Vec::from_array(alloc, [device]).expect(rt, "no devices");
+    run::<Brand, _, _>(rt, alloc, opened(rt, alloc), devices, &failures);
+    failures.load(SeqCst)
 }
 
 /// A call of the run.
@@ -54,14 +52,14 @@ enum Call {
 
 impl Call {
     // Whether all is as it should be after the call.
-    fn goes<J: Naming, R: Wait>(
+    fn goes<J: Naming, D: Device, R: Wait + Abort>(
         self,
         rt: &R,
-        user: &mut User<J, Watched>,
+        user: &mut User<J, D>,
         failures: &AtomicU64,
     ) -> bool {
         match self {
-            Call::Draw(name, value) => user.draw(0, value) == Some(name),
+            Call::Draw(name, value) => user.draw(rt, 0, value) == name,
             Call::Write(name) => write(rt, user, failures, name),
             Call::Read(name, value) => read(rt, user, failures, name, value),
             Call::Remove(name) => remove(rt, user, failures, name),
@@ -69,16 +67,17 @@ impl Call {
     }
 }
 
-fn run<J: Naming, R: Wait + Abort>(
+fn run<J: Naming, D: Device, R: Wait + Abort>(
     rt: &R,
     alloc: Global,
     opened: Opened<Text, Text, Unvouched>,
-    device: Watched,
+    devices: Vec<D>,
     failures: &AtomicU64,
-) -> Result<(), Fail>
+)
     requires book { opened.book ≡ J.book }
     requires boards { opened.names ≡ J.names }
     requires limits { limits_of opened.sizes false ≡ J.limits }
+    requires one { vec_len devices ≡ 1 }
 {
     let calls = [
         Call::Draw(1, b'1'),
@@ -91,13 +90,11 @@ fn run<J: Naming, R: Wait + Abort>(
         Call::Read(2, b'2'),
         Call::Remove(2),
     ];
-    let words = opened.named::<J>();
-    let lanes = LaneStore::open(alloc, Vec::from_array(alloc, [device])?)?;
-    let mut user = User::new(alloc, words, lanes)?;
+    let mut user: User<J, D> = User::new(rt, alloc, opened, devices);
     for (at, call) in calls.iter().enumerate() {
-        assert!(rt; call.goes(rt, &mut user, failures), "at {at}");
+        equal(rt, (at, call.goes(rt, &mut user, failures)), (at, true));
     }
-    Ok(())
+    user.end();
 }
 
 // Whether a call failed, where the device counted so many failures meanwhile: a call fails just where it counted one.
@@ -110,21 +107,21 @@ fn failed<T: Copy>(answer: Option<Result<T, LaneFault>>, counted: u64) -> Option
 }
 
 // Whether no receipt stands for the name.
-fn is_absent<J: Naming, R: Wait>(rt: &R, user: &User<J, Watched>, name: u64) -> bool {
+fn is_absent<J: Naming, D: Device, R: Wait>(rt: &R, user: &User<J, D>, name: u64) -> bool {
     let (out, told) = user.read(rt, name);
     told == Ok(None) && stands_behind_nine(&out, &[])
 }
 
 // Whether the name's object is read, which has this value.
-fn is_read<J: Naming, R: Wait>(rt: &R, user: &User<J, Watched>, name: u64, value: u8) -> bool {
+fn is_read<J: Naming, D: Device, R: Wait>(rt: &R, user: &User<J, D>, name: u64, value: u8) -> bool {
     let (out, told) = user.read(rt, name);
     told == Ok(Some((name, 0))) && stands_behind_nine(&out, &one_pair(value))
 }
 
 // After a failed write no receipt stands for the name.
-fn write<J: Naming, R: Wait>(
+fn write<J: Naming, D: Device, R: Wait>(
     rt: &R,
-    user: &User<J, Watched>,
+    user: &User<J, D>,
     failures: &AtomicU64,
     name: u64,
 ) -> bool {
@@ -140,9 +137,9 @@ fn write<J: Naming, R: Wait>(
 }
 
 // After a failed read the vector is as before, and the receipt still stands.
-fn read<J: Naming, R: Wait>(
+fn read<J: Naming, D: Device, R: Wait>(
     rt: &R,
-    user: &User<J, Watched>,
+    user: &User<J, D>,
     failures: &AtomicU64,
     name: u64,
     value: u8,
@@ -157,9 +154,9 @@ fn read<J: Naming, R: Wait>(
 }
 
 // After a failed removal no receipt stands for the name, and the device still has the object.
-fn remove<J: Naming, R: Wait>(
+fn remove<J: Naming, D: Device, R: Wait>(
     rt: &R,
-    user: &mut User<J, Watched>,
+    user: &mut User<J, D>,
     failures: &AtomicU64,
     name: u64,
 ) -> bool {

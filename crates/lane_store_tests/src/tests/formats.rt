@@ -4,12 +4,11 @@ use super::one_pair;
 use super::script::{Said, Step, played};
 use far_device::FakeDevice;
 use far_object::Format;
-use std::test::Fail;
 
 #[test]
-fn each_object_comes_back_in_its_own_format(rt: HostRuntime) -> Result<(), Fail> {
+fn each_object_comes_back_in_its_own_format(rt: HostRuntime) {
     let alloc = rt.alloc();
-    let devices = Vec::from_array(alloc, [FakeDevice::new(alloc)])?;
+    let devices = Vec::from_array(alloc, [FakeDevice::new(alloc)]).expect(&rt, "no devices");
     let (one, two) = (one_pair(b'1'), one_pair(b'2'));
     let with_header = [
         0xff, 0xff, 0xff, 0xff, 0, 0, 0, 1, 0, 0, 0, 0, 0, 0, 0, 2, 0, 0, 0, 1, 0, 1, 0x61, 0, 1,
@@ -32,5 +31,5 @@ fn each_object_comes_back_in_its_own_format(rt: HostRuntime) -> Result<(), Fail>
         (Step::Read(1, &with_other_header), Said::Receipt(1, 0)),
         (Step::Read(2, &two), Said::Receipt(2, 1)),
     ];
-    played(&rt, devices, &script)
+    played(&rt, devices, &script);
 }

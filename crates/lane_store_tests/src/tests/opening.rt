@@ -1,13 +1,13 @@
 //! Lanes whose device can't be made empty.
 ghost use Rattle.std.specs.Prelude.{◌≡◌, ◌+◌, ◌-◌, ◌^◌, min};
 
+use super::expect::equal;
 use far_device::{Device, DeviceFault};
 use far_object::Text;
 use lane_store::{Lane, LaneFault, LaneStore};
 use std::alloc::Global;
 use std::marker::Brand;
 use std::process::Abort;
-use std::test::Fail;
 
 /// A device that keeps nothing: it fails at each call, but where it is made empty only if it is to.
 #[derive(Drop)]
@@ -66,23 +66,24 @@ impl Device for BrokenDevice {
 }
 
 /// What opening two lanes answers, of which the second's device may fail at once.
-fn opened_two(alloc: Global, fails_at_once: bool) -> Result<Result<(), LaneFault>, Fail> {
+fn opened_two<R: Abort>(rt: &R, alloc: Global, fails_at_once: bool) -> Option<LaneFault> {
     let devices = [BrokenDevice::new(false), BrokenDevice::new(fails_at_once)];
-    let devices = Vec::from_array(alloc, devices)?;
-    match LaneStore::<Text, Text, Brand, BrokenDevice>::open(alloc, devices) {
-        Ok(_) => Ok(Ok(())),
-        Err(fault) => Ok(Err(fault)),
-    }
+    let devices = Vec::from_array(alloc, devices).expect(rt, "no devices");
+    LaneStore::<Text, Text, Brand, BrokenDevice>::open(alloc, devices).err()
+}
+
+/// What opening one lane answers, whose device fails at once.
+fn opened_one(alloc: Global) -> Option<LaneFault> {
+    Lane::<Text, Text, Brand, BrokenDevice>::open(alloc, BrokenDevice::new(true)).err()
 }
 
 #[test]
-fn a_device_that_fails_at_once_makes_no_lane(rt: HostRuntime) -> Result<(), Fail> {
-    let lane: Result<Lane<Text, Text, Brand, BrokenDevice>, LaneFault> = Lane::open(
-        rt.alloc(),
-        BrokenDevice::new(true),
+fn a_device_that_fails_at_once_makes_no_lane(rt: HostRuntime) {
+    equal(&rt, opened_one(rt.alloc()), Some(LaneFault::Device));
+    equal(
+        &rt,
+        opened_two(&rt, rt.alloc(), true),
+        Some(LaneFault::Device),
     );
-    assert_eq!(rt; lane.err(), Some(LaneFault::Device));
-    assert_eq!(rt; opened_two(rt.alloc(), true)?, Err(LaneFault::Device));
-    assert_eq!(rt; opened_two(rt.alloc(), false)?, Ok(()));
-    Ok(())
+    equal(&rt, opened_two(&rt, rt.alloc(), false), None);
 }

@@ -2,16 +2,16 @@
 ghost use Rattle.std.specs.Prelude.{◌≡◌, ◌<◌, ◌≤◌, false, vec_len};
 ghost use Rattle.version_words.specs.Rows.{limits_of};
 
+use super::expect::equal;
 use super::user::{User, stands_behind_nine};
 use super::{Told, Unvouched, opened};
 use far_device::Device;
 use far_object::{Format, Text};
-use lane_store::{LaneFault, LaneStore};
+use lane_store::LaneFault;
 use std::alloc::Global;
 use std::marker::Brand;
 use std::process::Abort;
 use std::sync::Wait;
-use std::test::Fail;
 use version_words::{Naming, Opened};
 
 /// A step.
@@ -47,13 +47,6 @@ pub enum Said {
 }
 
 impl Said {
-    fn name(answer: Option<u64>) -> Said {
-        match answer {
-            Some(name) => Said::Name(name),
-            None => Said::Wrong,
-        }
-    }
-
     fn written(answer: Option<Result<(), LaneFault>>) -> Said {
         match answer {
             Some(Ok(())) => Said::Done,
@@ -84,10 +77,10 @@ impl Said {
 }
 
 impl Step<'_> {
-    fn play<J: Naming, D: Device, R: Wait>(self, rt: &R, user: &mut User<J, D>) -> Said {
+    fn play<J: Naming, D: Device, R: Wait + Abort>(self, rt: &R, user: &mut User<J, D>) -> Said {
         match self {
             Step::Count => Said::Count(user.lanes.count()),
-            Step::Draw(bucket, value) => Said::name(user.draw(bucket, value)),
+            Step::Draw(bucket, value) => Said::Name(user.draw(rt, bucket, value)),
             Step::Write(name, format) => Said::written(user.write(rt, name, format)),
             Step::Read(name, bytes) => Said::read(user.read(rt, name), bytes),
             Step::GiveUp(name) => Said::Is(user.give_up(name)),
@@ -102,20 +95,18 @@ fn play<J: Naming, D: Device, R: Wait + Abort>(
     opened: Opened<Text, Text, Unvouched>,
     devices: Vec<D>,
     script: &[(Step<'_>, Said)],
-) -> Result<(), Fail>
+)
     requires book { opened.book ≡ J.book }
     requires boards { opened.names ≡ J.names }
     requires limits { limits_of opened.sizes false ≡ J.limits }
     requires some { 0 < vec_len devices }
     requires most { vec_len devices ≤ 64 }
 {
-    let words = opened.named::<J>();
-    let lanes: LaneStore<Text, Text, J, D> = LaneStore::open(alloc, devices)?;
-    let mut user = User::new(alloc, words, lanes)?;
+    let mut user: User<J, D> = User::new(rt, alloc, opened, devices);
     for (at, (step, wanted)) in script.iter().enumerate() {
-        assert_eq!(rt; step.play(rt, &mut user), *wanted, "at {at}");
+        equal(rt, (at, step.play(rt, &mut user)), (at, *wanted));
     }
-    Ok(())
+    user.end();
 }
 
 /// Plays the steps on a new row of four buckets and a lane for each device, by the first pass.
@@ -123,9 +114,9 @@ pub fn played<D: Device, R: Alloc<A = Global> + Wait + Abort>(
     rt: &R,
     devices: Vec<D>,
     script: &[(Step<'_>, Said)],
-) -> Result<(), Fail>
+)
     requires some { 0 < vec_len devices }
     requires most { vec_len devices ≤ 64 }
 {
-    play::<Brand, D, R>(rt, rt.alloc(), opened(rt.alloc())?, devices, script)
+    play::<Brand, D, R>(rt, rt.alloc(), opened(rt, rt.alloc()), devices, script)
 }

@@ -2,15 +2,15 @@
 ghost use Rattle.std.specs.Prelude.{◌≡◌, false};
 ghost use Rattle.version_words.specs.Rows.{limits_of};
 
-use super::{Unvouched, draw, entered, one_pair, opened, removed, told};
-use far_device::FakeDevice;
+use super::expect::equal;
+use super::{Told, Unvouched, draw, entered, one_pair, opened, removed, told};
+use far_device::{Device, FakeDevice};
 use far_object::{Format, Object, Text};
 use lane_store::LaneStore;
 use std::alloc::Global;
 use std::marker::Brand;
 use std::process::Abort;
 use std::sync::Wait;
-use std::test::Fail;
 use std::thread::{Threads, join};
 use version_words::{Naming, Opened, Pass, Words};
 
@@ -19,20 +19,10 @@ const ROUNDS: u32 = 20_000;
 
 /// What threads share: a row of words whose contents nobody vouches for, and lanes.
 #[derive(Drop)]
-struct Shared<J: Naming> {
+struct Shared<J: Naming, D: Device> {
     words: Words<Text, Text, J>,
-    lanes: LaneStore<Text, Text, J, FakeDevice>,
+    lanes: LaneStore<Text, Text, J, D>,
     ghost unvouched: { J.limits.honest ≡ false },
-}
-
-impl<J: Naming> Shared<J> {
-    fn new(alloc: Global, words: Words<Text, Text, J>) -> Result<Shared<J>, Fail>
-        requires { J.limits.honest ≡ false }
-    {
-        let devices = Vec::from_array(alloc, [FakeDevice::new(alloc), FakeDevice::new(alloc)])?;
-        let lanes = LaneStore::open(alloc, devices)?;
-        Ok(Shared { words, lanes })
-    }
 }
 
 // Whether these bytes are the object of one pair of this value, where they lie under the name and the bucket.
@@ -45,70 +35,87 @@ fn is_object(bytes: Vec<u8>, bucket: u32, name: u64, value: u8) -> bool {
 
 // Whether an object of this value, once kept, is read by its name and then removed. The names of a thread fall into
 // either lane.
-fn one_round<J: Naming, R: Wait>(
+fn one_round<J: Naming, D: Device, R: Wait + Abort>(
     rt: &R,
     alloc: Global,
-    shared: &Shared<J>,
+    shared: &Shared<J, D>,
     pass: &mut Pass<Text, Text, J>,
     bucket: u32,
     value: u8,
-) -> Option<bool> {
-    let drawn = draw(alloc, &shared.words, pass, bucket, value)?;
+) -> bool {
+    let drawn = draw(rt, alloc, &shared.words, pass, bucket, value);
     let number = drawn.name.number();
     let format = if value % 2 == 0 {
         Format::One
     } else {
         Format::Two
     };
-    drawn.write(rt, &shared.lanes, format).ok()?;
-    let mut bytes = Vec::new(alloc);
-    let read = told(shared.lanes.read(rt, number, &mut bytes));
-    let same = is_object(bytes, bucket, number, value);
+    let written = drawn.write(rt, &shared.lanes, format);
+    let (bytes, first) = read(rt, alloc, shared, number);
     let gone = removed(rt, &shared.lanes, &drawn.spare());
-    let mut none = Vec::new(alloc);
-    let later = told(shared.lanes.read(rt, number, &mut none));
-    Some(
-        same && read == Ok(Some((number, bucket)))
-            && gone == Ok(true)
-            && later == Ok(None)
-            && none.is_empty(),
-    )
+    let (none, later) = read(rt, alloc, shared, number);
+    written == Ok(())
+        && is_object(bytes, bucket, number, value)
+        && first == Ok(Some((number, bucket)))
+        && gone == Ok(true)
+        && later == Ok(None)
+        && none.is_empty()
+}
+
+// What a reading of the name gives and answers.
+fn read<J: Naming, D: Device, R: Wait>(
+    rt: &R,
+    alloc: Global,
+    shared: &Shared<J, D>,
+    name: u64,
+) -> (Vec<u8>, Told) {
+    let mut bytes = Vec::new(alloc);
+    let told = told(shared.lanes.read(rt, name, &mut bytes));
+    (bytes, told)
 }
 
 // How many rounds went as they should.
-fn rounds<J: Naming, R: Wait>(rt: &R, alloc: Global, shared: &Shared<J>, bucket: u32) -> u32 {
+fn rounds<J: Naming, D: Device, R: Wait + Abort>(
+    rt: &R,
+    alloc: Global,
+    shared: &Shared<J, D>,
+    bucket: u32,
+) -> u32 {
     let mut done = 0u32;
-    if let Some(mut pass) = entered(&shared.words) {
-        for round in 0..ROUNDS {
-            if one_round(rt, alloc, shared, &mut pass, bucket, (round % 256) as u8) == Some(true) {
-                done = done.wrapping_add(1);
-            }
+    let mut pass = entered(&shared.words).expect(rt, "no pass");
+    for round in 0..ROUNDS {
+        if one_round(rt, alloc, shared, &mut pass, bucket, (round % 256) as u8) {
+            done = done.wrapping_add(1);
         }
     }
     done
 }
 
 #[test]
-fn two_threads_at_two_lanes(rt: HostRuntime) -> Result<(), Fail> {
-    two_share::<Brand, _>(&rt, rt.alloc(), opened(rt.alloc())?)
+fn two_threads_at_two_lanes(rt: HostRuntime) {
+    let row = opened(&rt, rt.alloc());
+    two_share::<Brand, _>(&rt, rt.alloc(), row);
 }
 
 fn two_share<J: Naming + Send + Sync, R: Threads + Wait + Abort + Sync>(
     rt: &R,
     alloc: Global,
     opened: Opened<Text, Text, Unvouched>,
-) -> Result<(), Fail>
+)
     requires book { opened.book ≡ J.book }
     requires boards { opened.names ≡ J.names }
     requires limits { limits_of opened.sizes false ≡ J.limits }
 {
-    let all = Shared::new(alloc, opened.named::<J>())?;
+    let words = opened.named::<J>();
+    let devices = [FakeDevice::new(alloc), FakeDevice::new(alloc)];
+    let devices = Vec::from_array(alloc, devices).expect(rt, "no devices");
+    let lanes = LaneStore::open(alloc, devices).expect(rt, "no lanes");
+    let all = Shared { words, lanes };
     let shared = &all;
     let (one, two) = join(
         rt,
         || rounds(rt, alloc, shared, 0),
         || rounds(rt, alloc, shared, 1),
     );
-    assert_eq!(rt; (one, two), (ROUNDS, ROUNDS));
-    Ok(())
+    equal(rt, (one, two), (ROUNDS, ROUNDS));
 }

@@ -1,14 +1,15 @@
 //! One caller of a row of words and of lanes, who holds the last two names that it drew.
-ghost use Rattle.std.specs.Prelude.{◌≡◌, false};
+ghost use Rattle.std.specs.Prelude.{◌≡◌, ◌<◌, ◌≤◌, false, vec_len};
+ghost use Rattle.version_words.specs.Rows.{limits_of};
 
-use super::{Drawn, Told, draw, entered, removed, told};
+use super::{Drawn, Told, Unvouched, draw, entered, removed, told};
 use far_device::Device;
 use far_object::{Format, Text};
 use lane_store::{LaneFault, LaneStore};
 use std::alloc::Global;
+use std::process::Abort;
 use std::sync::Wait;
-use std::test::Fail;
-use version_words::{Naming, Pass, Spare, Words};
+use version_words::{Naming, Opened, Pass, Spare, Words};
 
 /// A vector that holds 9 already, for a reading that appends. It is empty where memory is refused.
 pub fn nine(alloc: Global) -> Vec<u8> {
@@ -42,15 +43,23 @@ pub struct User<J: Naming, D: Device> {
 }
 
 impl<J: Naming, D: Device> User<J, D> {
-    pub fn new(
+    /// A caller of the row that was opened, and of a lane for each device.
+    pub fn new<R: Abort>(
+        rt: &R,
         alloc: Global,
-        words: Words<Text, Text, J>,
-        lanes: LaneStore<Text, Text, J, D>,
-    ) -> Result<User<J, D>, Fail>
-        requires { J.limits.honest ≡ false }
+        opened: Opened<Text, Text, Unvouched>,
+        devices: Vec<D>,
+    ) -> User<J, D>
+        requires book { opened.book ≡ J.book }
+        requires boards { opened.names ≡ J.names }
+        requires limits { limits_of opened.sizes false ≡ J.limits }
+        requires some { 0 < vec_len devices }
+        requires most { vec_len devices ≤ 64 }
     {
-        let pass = entered(&words).ok_or("no pass")?;
-        Ok(User {
+        let words = opened.named::<J>();
+        let lanes = LaneStore::open(alloc, devices).expect(rt, "no lanes");
+        let pass = entered(&words).expect(rt, "no pass");
+        User {
             alloc,
             words,
             pass,
@@ -58,16 +67,19 @@ impl<J: Naming, D: Device> User<J, D> {
             last: None,
             before: None,
             spare: None,
-        })
+        }
     }
 
+    /// Drops it. A function that does so itself is proved with all that lies in a caller, at each of its calls.
+    pub fn end(self) {}
+
     /// Draws the bucket's next name for an object of this value, and holds it.
-    pub fn draw(&mut self, bucket: u32, value: u8) -> Option<u64> {
-        let drawn = draw(self.alloc, &self.words, &mut self.pass, bucket, value)?;
+    pub fn draw<R: Abort>(&mut self, rt: &R, bucket: u32, value: u8) -> u64 {
+        let drawn = draw(rt, self.alloc, &self.words, &mut self.pass, bucket, value);
         let number = drawn.name.number();
         self.before = self.last.take();
         self.last = Some(drawn);
-        Some(number)
+        number
     }
 
     fn held(&self, name: u64) -> Option<&Drawn<J>> {

@@ -2,18 +2,17 @@
 ghost use Rattle.std.specs.Prelude.{◌≡◌, false};
 ghost use Rattle.version_words.specs.Rows.{limits_of};
 
+use super::expect::equal;
 use super::user::User;
 use super::{Unvouched, opened};
 use far_device::{Device, DeviceFault, FakeDevice};
 use far_object::{Format, Text};
-use lane_store::LaneStore;
 use std::alloc::Global;
 use std::marker::{Brand, Model};
 use std::process::Abort;
 use std::sync::atomic::AtomicU64;
 use std::sync::atomic::Ordering::SeqCst;
 use std::sync::{Arc, Wait};
-use std::test::Fail;
 use std::thread::{Threads, join, yield_now};
 use version_words::{Naming, Opened};
 
@@ -94,45 +93,43 @@ impl<D: Device> Device for GatedDevice<D> {
     }
 }
 
-type Gated<J> = User<J, GatedDevice<FakeDevice>>;
-
 #[test]
-fn a_lane_that_is_held_holds_no_other(rt: HostRuntime) -> Result<(), Fail> {
-    held::<Brand, _>(&rt, rt.alloc(), opened(rt.alloc())?)
+fn a_lane_that_is_held_holds_no_other(rt: HostRuntime) {
+    let row = opened(&rt, rt.alloc());
+    held::<Brand, _>(&rt, rt.alloc(), row);
 }
 
 fn held<J: Naming + Send + Sync, R: Threads + Wait + Abort + Sync>(
     rt: &R,
     alloc: Global,
     opened: Opened<Text, Text, Unvouched>,
-) -> Result<(), Fail>
+)
     requires book { opened.book ≡ J.book }
     requires boards { opened.names ≡ J.names }
     requires limits { limits_of opened.sizes false ≡ J.limits }
 {
-    let shared = Arc::new(alloc, Gate::shut())?;
+    let shared = Arc::new(alloc, Gate::shut()).expect(rt, "no gate");
     let even = GatedDevice {
         inner: FakeDevice::new(alloc),
         gate: None,
     };
     let odd = GatedDevice {
         inner: FakeDevice::new(alloc),
-        gate: Some(shared.clone()?),
+        gate: Some(shared.clone().expect(rt, "no gate")),
     };
-    let words = opened.named::<J>();
-    let lanes = LaneStore::open(alloc, Vec::from_array(alloc, [even, odd])?)?;
-    let mut user: Gated<J> = User::new(alloc, words, lanes)?;
-    let names = (user.draw(0, b'1'), user.draw(0, b'2'));
+    let devices = Vec::from_array(alloc, [even, odd]).expect(rt, "no devices");
+    let mut user: User<J, GatedDevice<FakeDevice>> = User::new(rt, alloc, opened, devices);
+    let names = (user.draw(rt, 0, b'1'), user.draw(rt, 0, b'2'));
     let found = by_three(rt, &user, &shared);
-    assert_eq!(rt; (names, found), ((Some(1), Some(2)), (true, (true, true))));
-    Ok(())
+    equal(rt, (names, found), ((1, 2), (true, (true, true))));
+    user.end();
 }
 
 // A thread writes to the first lane, whose device stays until the gate is open, while one writes to the other and one reads
 // of the first. Whether the first write came back, and what is said of the other two.
-fn by_three<J: Naming + Send + Sync, R: Threads + Wait + Sync>(
+fn by_three<J: Naming + Send + Sync, D: Device + Send, R: Threads + Wait + Sync>(
     rt: &R,
-    user: &Gated<J>,
+    user: &User<J, D>,
     gate: &Gate,
 ) -> (bool, (bool, bool)) {
     join(
@@ -148,12 +145,12 @@ fn by_three<J: Naming + Send + Sync, R: Threads + Wait + Sync>(
     )
 }
 
-fn is_written<J: Naming, R: Wait>(rt: &R, user: &Gated<J>, name: u64) -> bool {
+fn is_written<J: Naming, D: Device, R: Wait>(rt: &R, user: &User<J, D>, name: u64) -> bool {
     user.write(rt, name, Format::One) == Some(Ok(()))
 }
 
 // Whether a write to the other lane comes back while the first device still holds its own. Then the gate is opened.
-fn is_free_beside<J: Naming, R: Wait>(rt: &R, user: &Gated<J>, gate: &Gate) -> bool {
+fn is_free_beside<J: Naming, D: Device, R: Wait>(rt: &R, user: &User<J, D>, gate: &Gate) -> bool {
     let inside = comes(&gate.inside);
     let written = is_written(rt, user, 2);
     let asking = comes(&gate.asking);
@@ -163,7 +160,7 @@ fn is_free_beside<J: Naming, R: Wait>(rt: &R, user: &Gated<J>, gate: &Gate) -> b
 
 // Whether a read of the first lane, asked for while its device holds it, comes back with what was written then, and only
 // after the gate was opened.
-fn is_read_after<J: Naming, R: Wait>(rt: &R, user: &Gated<J>, gate: &Gate) -> bool {
+fn is_read_after<J: Naming, D: Device, R: Wait>(rt: &R, user: &User<J, D>, gate: &Gate) -> bool {
     let inside = comes(&gate.inside);
     gate.asking.store(1, SeqCst);
     let (_, told) = user.read(rt, 1);

@@ -1,16 +1,16 @@
 //! Files that are refused, a reader that fails, writers without room, and the texts of the faults.
 use super::assert_fault;
+use super::expect::{equal, holds, made};
 use crate::{PlainFault, run_file};
 use command_file::FileFault;
 use std::io;
 use std::io::{BufRead, ErrorKind, Read};
-use std::test::Fail;
 
 #[test]
-fn refused_files(rt: HostRuntime) -> Result<(), Fail> {
+fn refused_files(rt: HostRuntime) {
     let mut lines = Vec::new(rt.alloc());
-    lines.resize(65_536, b'\n')?;
-    lines.extend_from_slice(b"put a")?;
+    made(&rt, lines.resize(65_536, b'\n'));
+    made(&rt, lines.extend_from_slice(b"put a"));
     let rows = [
         (b"put a".as_slice(), FileFault::BadLine(1)),
         (b"\nput a 1\nshow a\nput".as_slice(), FileFault::BadLine(3)),
@@ -19,7 +19,6 @@ fn refused_files(rt: HostRuntime) -> Result<(), Fail> {
     for (file, fault) in rows {
         assert_fault(&rt, rt.alloc(), file, PlainFault::File(fault));
     }
-    Ok(())
 }
 
 #[test]
@@ -69,8 +68,8 @@ fn failing_reads(rt: HostRuntime) {
         };
         let mut out = Vec::new(rt.alloc());
         let ended = run_file(rt.alloc(), 4, 4096, &mut file, &mut out);
-        assert_eq!(&rt; ended, Err(PlainFault::File(FileFault::Read)));
-        assert!(&rt; out.is_empty());
+        equal(&rt, ended, Err(PlainFault::File(FileFault::Read)));
+        holds(&rt, out.is_empty());
     }
 }
 
@@ -87,12 +86,12 @@ fn little_room(rt: HostRuntime) {
         } else {
             Err(PlainFault::Write)
         };
-        assert_eq!(&rt; ended, wanted);
+        equal(&rt, ended, wanted);
     }
 }
 
 #[test]
-fn texts(rt: HostRuntime) -> Result<(), Fail> {
+fn texts(rt: HostRuntime) {
     let rows = [
         (
             PlainFault::File(FileFault::BadLine(2)),
@@ -104,8 +103,7 @@ fn texts(rt: HostRuntime) -> Result<(), Fail> {
         (PlainFault::Contents, "contents: memory"),
     ];
     for (fault, wanted) in rows {
-        let text = format!(in rt.alloc(); "{fault}")?;
-        assert_eq!(&rt; text.as_str(), wanted);
+        let text = made(&rt, format!(in rt.alloc(); "{fault}"));
+        equal(&rt, text.as_str(), wanted);
     }
-    Ok(())
 }

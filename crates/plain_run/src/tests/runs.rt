@@ -1,7 +1,7 @@
 //! Files and what their runs write. The keys a, e and i are in one bucket of 4.
 use super::assert_written;
+use super::expect::{equal, holds, made};
 use crate::run_file;
-use std::test::Fail;
 
 #[test]
 fn puts_gets_and_removals(rt: HostRuntime) {
@@ -85,22 +85,21 @@ fn order_of_the_contents(rt: HostRuntime) {
 }
 
 #[test]
-fn keys_of_all_buckets(rt: HostRuntime) -> Result<(), Fail> {
+fn keys_of_all_buckets(rt: HostRuntime) {
     let mut file = Vec::new(rt.alloc());
-    let mut wanted = Vec::from_slice(rt.alloc(), b"file 1\n")?;
+    let mut wanted = made(&rt, Vec::from_slice(rt.alloc(), b"file 1\n"));
     for letter in b"thequickbrownfxjmpsvlazydg" {
-        file.extend_from_slice(b"put ")?;
-        file.push(*letter)?;
-        file.extend_from_slice(b" x\n")?;
-        wanted.extend_from_slice(b"none\n")?;
+        made(&rt, file.extend_from_slice(b"put "));
+        made(&rt, file.push(*letter));
+        made(&rt, file.extend_from_slice(b" x\n"));
+        made(&rt, wanted.extend_from_slice(b"none\n"));
     }
-    wanted.extend_from_slice(b"contents\n")?;
+    made(&rt, wanted.extend_from_slice(b"contents\n"));
     for letter in b'a'..=b'z' {
-        wanted.push(letter)?;
-        wanted.extend_from_slice(b" x\n")?;
+        made(&rt, wanted.push(letter));
+        made(&rt, wanted.extend_from_slice(b" x\n"));
     }
     assert_written(&rt, rt.alloc(), 4096, file.as_slice(), wanted.as_slice());
-    Ok(())
 }
 
 #[test]
@@ -119,16 +118,15 @@ fn files_of_few_lines(rt: HostRuntime) {
 }
 
 #[test]
-fn files_at_their_limits(rt: HostRuntime) -> Result<(), Fail> {
+fn files_at_their_limits(rt: HostRuntime) {
     let mut lines = Vec::new(rt.alloc());
-    lines.resize(65_535, b'\n')?;
-    lines.extend_from_slice(b"get a")?;
-    let mut word = Vec::from_slice(rt.alloc(), b"get ")?;
-    word.resize(4 + 255, b'a')?;
+    made(&rt, lines.resize(65_535, b'\n'));
+    made(&rt, lines.extend_from_slice(b"get a"));
+    let mut word = made(&rt, Vec::from_slice(rt.alloc(), b"get "));
+    made(&rt, word.resize(4 + 255, b'a'));
     for file in [lines.as_slice(), word.as_slice()] {
         assert_written(&rt, rt.alloc(), 4096, file, b"file 1\nnone\ncontents\n");
     }
-    Ok(())
 }
 
 #[test]
@@ -143,7 +141,7 @@ fn tables_at_their_limits(rt: HostRuntime) {
         } else {
             b"file 1\nnone\nnone\ncontents\na 1\n".as_slice()
         };
-        assert_eq!(&rt; ended, Ok(()));
-        assert!(&rt; out.as_slice() == wanted);
+        equal(&rt, ended, Ok(()));
+        holds(&rt, out.as_slice() == wanted);
     }
 }

@@ -4,21 +4,17 @@ use super::{Desk, Rig, Scenario, run};
 use hash_table::Refusal;
 use std::process::Abort;
 use std::sync::Wait;
-use std::test::*;
 use swapper::QueueNaming;
 use version_words::Naming;
 
 #[test]
-fn a_queue_of_one(rt: HostRuntime) -> Result<(), Fail> {
-    run(&rt, rt.alloc(), Scenario::OneSpareFits)
+fn a_queue_of_one(rt: HostRuntime) {
+    run(&rt, rt.alloc(), Scenario::OneSpareFits);
 }
 
 /// The second spare comes back, and the first is taken.
-pub(super) fn one_spare_fits<J: Naming, B: QueueNaming, R: Wait + Abort>(
-    rt: &R,
-    rig: Rig<J, B>,
-) -> Result<(), Fail> {
-    let (mut desk, mut taker) = Desk::new(rig)?;
+pub(super) fn one_spare_fits<J: Naming, B: QueueNaming, R: Wait + Abort>(rt: &R, rig: Rig<J, B>) {
+    let (mut desk, mut taker) = Desk::new(rt, rig);
     desk.settles(rt, 0, 0);
     desk.puts(rt, 1, 1, Ok(None));
     desk.puts(rt, 1, 2, Ok(Some(1)));
@@ -27,7 +23,8 @@ pub(super) fn one_spare_fits<J: Naming, B: QueueNaming, R: Wait + Abort>(
     desk.hands_over(rt, Some(2));
     taker.takes(rt, &desk.queue, Some(1));
     taker.takes(rt, &desk.queue, None);
-    Ok(())
+    desk.end();
+    taker.end();
 }
 
 // Puts until the limbo is full: 64 spares.
@@ -40,37 +37,36 @@ fn fill<J: Naming, B: QueueNaming, R: Abort>(rt: &R, desk: &mut Desk<J, B>) {
 }
 
 #[test]
-fn sixty_four_spares_go(rt: HostRuntime) -> Result<(), Fail> {
-    run(&rt, rt.alloc(), Scenario::LimboGoes)
+fn sixty_four_spares_go(rt: HostRuntime) {
+    run(&rt, rt.alloc(), Scenario::LimboGoes);
 }
 
 /// A caller who was refused goes on once its limbo was handed over.
-pub(super) fn limbo_goes<J: Naming, B: QueueNaming, R: Wait + Abort>(
-    rt: &R,
-    rig: Rig<J, B>,
-) -> Result<(), Fail> {
-    let (mut desk, _taker) = Desk::new(rig)?;
+pub(super) fn limbo_goes<J: Naming, B: QueueNaming, R: Wait + Abort>(rt: &R, rig: Rig<J, B>) {
+    let (mut desk, taker) = Desk::new(rt, rig);
     fill(rt, &mut desk);
     desk.settles(rt, 64, 0);
     desk.puts(rt, 1, 66, Ok(Some(65)));
-    Ok(())
+    desk.end();
+    taker.end();
 }
 
 #[test]
-fn a_full_queue_takes_one_at_a_time(rt: HostRuntime) -> Result<(), Fail> {
-    run(&rt, rt.alloc(), Scenario::LimboGoesByOne)
+fn a_full_queue_takes_one_at_a_time(rt: HostRuntime) {
+    run(&rt, rt.alloc(), Scenario::LimboGoesByOne);
 }
 
 /// The oldest goes, and the others stay.
 pub(super) fn limbo_goes_by_one<J: Naming, B: QueueNaming, R: Wait + Abort>(
     rt: &R,
     rig: Rig<J, B>,
-) -> Result<(), Fail> {
-    let (mut desk, mut taker) = Desk::new(rig)?;
+) {
+    let (mut desk, mut taker) = Desk::new(rt, rig);
     fill(rt, &mut desk);
     desk.settles(rt, 1, 63);
     desk.settles(rt, 0, 63);
     taker.takes(rt, &desk.queue, Some(1));
     desk.settles(rt, 1, 62);
-    Ok(())
+    desk.end();
+    taker.end();
 }

@@ -1,5 +1,6 @@
 //! Three threads at keys of their own, and an evictor's thread that makes room.
 
+use super::expect::equal;
 use super::{Queue, Rig, Scenario, Seat, Table, run};
 use hash_table::{BucketState, Caller, Refusal};
 use std::alloc::Global;
@@ -7,7 +8,6 @@ use std::process::Abort;
 use std::sync::atomic::AtomicU64;
 use std::sync::atomic::Ordering::SeqCst;
 use std::sync::{Mutex, Wait};
-use std::test::*;
 use std::thread;
 use std::thread::{Threads, join};
 use swapper::{Evictor, QueueNaming};
@@ -37,7 +37,7 @@ struct Yard<J: Naming, B: QueueNaming> {
 
 impl<J: Naming, B: QueueNaming> Yard<J, B> {
     // The yard, and the callers' seats.
-    fn new(rig: Rig<J, B>, evicts: bool) -> Result<(Yard<J, B>, Vec<Seat<J, B>>), Fail> {
+    fn new<R: Abort>(rt: &R, rig: Rig<J, B>, evicts: bool) -> (Yard<J, B>, Vec<Seat<J, B>>) {
         let Rig {
             alloc,
             table,
@@ -45,36 +45,36 @@ impl<J: Naming, B: QueueNaming> Yard<J, B> {
             taker,
             others,
         } = rig;
-        let Ok(own) = table.enter() else {
-            return Err("no caller".into());
-        };
-        let Ok(evictor) = Evictor::open(alloc, own, taker.into_seat(), FRAMES, 16) else {
-            return Err("no evictor".into());
-        };
+        let own = table.enter().expect(rt, "no caller");
+        let evictor = Evictor::open(alloc, own, taker.into_seat(), FRAMES, 16).ok();
         let yard = Yard {
             alloc,
             table,
             queue,
-            evictor: Mutex::new(evictor),
+            evictor: Mutex::new(evictor.expect(rt, "no evictor")),
             evicts,
             ended: AtomicU64::new(0),
             handed_over: AtomicU64::new(0),
             reclaimed: AtomicU64::new(0),
         };
-        Ok((yard, others))
+        (yard, others)
     }
 
-    // A turn, or a collecting where no frame is wanted.
-    fn make_room<R: Wait>(&self, rt: &R, wanted: bool) {
-        let mut evictor = self.evictor.lock(rt);
-        let reclaimed = if wanted && self.evicts {
+    // A turn, or a collecting where no frame is wanted: how many spares it reclaims.
+    fn reclaim<R: Wait>(&self, rt: &R, evictor: &mut Evictor<u64, u64, J, B>, wanted: bool) -> u64 {
+        if wanted && self.evicts {
             match evictor.turn(rt, &self.table, &self.queue) {
                 Ok(turn) => turn.reclaimed,
                 Err(_) => 0,
             }
         } else {
             evictor.collect(rt, &self.table, &self.queue).reclaimed
-        };
+        }
+    }
+
+    fn make_room<R: Wait>(&self, rt: &R, wanted: bool) {
+        let mut evictor = self.evictor.lock(rt);
+        let reclaimed = self.reclaim(rt, &mut evictor, wanted);
         self.reclaimed.fetch_add(reclaimed, SeqCst);
     }
 
@@ -100,27 +100,21 @@ impl<J: Naming, B: QueueNaming> Yard<J, B> {
     }
 
     // How many of a thread's calls answered what the thread knows.
-    fn calls<R: Wait>(&self, rt: &R, seat: Option<Seat<J, B>>, number: u64) -> u64 {
-        let right = match (seat, self.enter()) {
-            (Some(seat), Some(caller)) => {
-                let mut worker = Worker {
-                    yard: self,
-                    caller,
-                    seat,
-                };
-                worker.calls(rt, number)
-            }
-            _ => 0,
+    fn calls<R: Wait + Abort>(&self, rt: &R, seat: Seat<J, B>, number: u64) -> u64 {
+        let caller = self.enter().expect(rt, "no caller");
+        let mut worker = Worker {
+            yard: self,
+            caller,
+            seat,
         };
+        let right = worker.calls(rt, number);
         self.ended.fetch_add(1, SeqCst);
         right
     }
 
     // How many buckets lie in frames, and how many frames are free.
-    fn frames(&self, buckets: u64) -> u32 {
-        let Some(mut caller) = self.enter() else {
-            return 0;
-        };
+    fn frames<R: Abort>(&self, rt: &R, buckets: u64) -> u32 {
+        let mut caller = self.enter().expect(rt, "no caller");
         let mut used = self.table.free();
         for key in 0..buckets {
             let bucket = self.table.bucket(&key);
@@ -139,8 +133,14 @@ impl<J: Naming, B: QueueNaming> Yard<J, B> {
     fn rests<R: Wait + Abort>(self, rt: &R, buckets: u64) {
         self.make_room(rt, false);
         self.make_room(rt, false);
-        assert!(rt; self.frames(buckets) == FRAMES);
-        assert!(rt; self.evicts || self.reclaimed.load(SeqCst) == self.handed_over.load(SeqCst));
+        equal(rt, self.frames(rt, buckets), FRAMES);
+        let all = self.reclaimed.load(SeqCst) == self.handed_over.load(SeqCst);
+        equal(rt, self.evicts || all, true);
+        equal(rt, self.left(), 0);
+    }
+
+    // How many spares the evictor's caller has at the end.
+    fn left(self) -> u32 {
         let Yard {
             alloc: _,
             table: _,
@@ -151,7 +151,7 @@ impl<J: Naming, B: QueueNaming> Yard<J, B> {
             handed_over: _,
             reclaimed: _,
         } = self;
-        assert!(rt; evictor.into_inner().into_caller().limbo_len() == 0);
+        evictor.into_inner().into_caller().limbo_len()
     }
 }
 
@@ -231,13 +231,13 @@ impl<'y, J: Naming, B: QueueNaming> Worker<'y, J, B> {
 }
 
 #[test]
-fn four_threads_lose_no_spare(rt: HostRuntime) -> Result<(), Fail> {
-    run(&rt, rt.alloc(), Scenario::Threads)
+fn four_threads_lose_no_spare(rt: HostRuntime) {
+    run(&rt, rt.alloc(), Scenario::Threads);
 }
 
 #[test]
-fn four_threads_evict_and_lose_no_spare(rt: HostRuntime) -> Result<(), Fail> {
-    run(&rt, rt.alloc(), Scenario::ThreadsEvict)
+fn four_threads_evict_and_lose_no_spare(rt: HostRuntime) {
+    run(&rt, rt.alloc(), Scenario::ThreadsEvict);
 }
 
 /// Each call answers what its thread knows, and no spare is lost.
@@ -245,17 +245,18 @@ pub(super) fn threads_share<
     J: Naming + Send + Sync,
     B: QueueNaming + Send + Sync,
     R: Threads + Wait + Abort + Sync,
->(rt: &R, rig: Rig<J, B>, buckets: u64) -> Result<(), Fail> {
+>(rt: &R, rig: Rig<J, B>, buckets: u64) {
     let evicts = buckets > 8;
-    let (all, mut seats) = Yard::new(rig, evicts)?;
+    let (all, mut seats) = Yard::new(rt, rig, evicts);
     let yard = &all;
-    let (one, two, three) = (seats.pop(), seats.pop(), seats.pop());
+    let one = seats.pop().expect(rt, "no seat");
+    let two = seats.pop().expect(rt, "no seat");
+    let three = seats.pop().expect(rt, "no seat");
     let ((first, second), (third, ())) = join(
         rt,
         || join(rt, || yard.calls(rt, one, 1), || yard.calls(rt, two, 2)),
         || join(rt, || yard.calls(rt, three, 3), || yard.evict(rt)),
     );
-    assert!(rt; first == ROUNDS && second == ROUNDS && third == ROUNDS);
+    equal(rt, (first, second, third), (ROUNDS, ROUNDS, ROUNDS));
     all.rests(rt, buckets);
-    Ok(())
 }

@@ -1,10 +1,10 @@
 //! Several files beside the evictor's own thread.
-use super::{Settings, ample, lane, run, run_over};
+use super::expect::{equal, made};
+use super::{Settings, ample, expect_written, lane, run_over};
 use std::sync::Arc;
 use std::sync::atomic::{AtomicU64, Ordering};
-use std::test::Fail;
 use std::thread;
-use threaded_run::{Gate, OpenGate};
+use threaded_run::Gate;
 
 /// How often a held command looks whether it may go on.
 const MOST_LOOKS: u64 = 10_000_000;
@@ -34,27 +34,25 @@ impl Gate for UntilWritten {
 
 /// No command asks for a frame while the gate holds the fifth: the evictor's thread alone empties one then.
 #[test]
-fn the_evictor_has_a_thread(rt: HostRuntime) -> Result<(), Fail> {
+fn the_evictor_has_a_thread(rt: HostRuntime) {
     let files: [&[u8]; 2] = [b"put a 1\nput b 2\nput c 3\nput d 4\nget a\n", b""];
     let wanted = b"file 1\nnone\nnone\nnone\nnone\n1\nfile 2\ncontents\na 1\nb 2\nc 3\nd 4\n";
-    let writes = Arc::new(rt.alloc(), AtomicU64::new(0))?;
+    let writes = made(&rt, Arc::new(rt.alloc(), AtomicU64::new(0)));
     let gate = UntilWritten {
-        writes: writes.clone()?,
+        writes: made(&rt, writes.clone()),
     };
     let settings = Settings {
         frames: 4,
         ..ample()
     };
-    let lane = lane(rt.alloc(), 0, writes)?;
-    let (ended, out) = run_over(&rt, rt.alloc(), settings, lane, &files, &gate)?;
-    assert_eq!(&rt; ended, Ok(()));
-    assert_eq!(&rt; out.as_slice(), wanted.as_slice());
-    Ok(())
+    let (ended, out) = run_over(&rt, settings, lane(&rt, 0, writes), &files, &gate);
+    equal(&rt, ended, Ok(()));
+    equal(&rt, out.as_slice(), wanted.as_slice());
 }
 
 /// Four files at keys of their own, with fewer frames than buckets are used: each reads what it put.
 #[test]
-fn four_files_share_two_frames(rt: HostRuntime) -> Result<(), Fail> {
+fn four_files_share_two_frames(rt: HostRuntime) {
     let files: [&[u8]; 4] = [
         b"put a 1\nget a\nput a 2\nget a\n",
         b"put b 3\nget b\ndel b\nget b\n",
@@ -63,8 +61,5 @@ fn four_files_share_two_frames(rt: HostRuntime) -> Result<(), Fail> {
     ];
     let wanted =
         b"file 1\nnone\n1\n1\n2\nfile 2\nnone\n3\n3\nnone\nfile 3\nnone\n4\n5\n5\nfile 4\nnone\nnone\n7\n7\n7\n7\nreleased\n8\ncontents\na 2\nc 5\nd 8\n";
-    let (ended, out) = run(&rt, rt.alloc(), ample(), &files, &OpenGate)?;
-    assert_eq!(&rt; ended, Ok(()));
-    assert_eq!(&rt; out.as_slice(), wanted.as_slice());
-    Ok(())
+    expect_written(&rt, ample(), &files, wanted);
 }

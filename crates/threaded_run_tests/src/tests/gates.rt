@@ -1,7 +1,6 @@
 //! Files whose commands a gate orders.
-use super::{Settings, ample, run};
+use super::{Settings, ample, expect_run};
 use std::sync::atomic::{AtomicU64, Ordering};
-use std::test::Fail;
 use std::thread;
 use threaded_run::{Gate, ThreadedFault};
 
@@ -41,7 +40,7 @@ impl Gate for Turns {
 
 /// The first worker's first put waits for the second worker's, so the files don't run one after another.
 #[test]
-fn files_run_side_by_side(rt: HostRuntime) -> Result<(), Fail> {
+fn files_run_side_by_side(rt: HostRuntime) {
     let gate = Turns {
         held: 1,
         awaited: 1,
@@ -55,28 +54,22 @@ fn files_run_side_by_side(rt: HostRuntime) -> Result<(), Fail> {
         frames: 8,
         ..ample()
     };
-    let (ended, out) = run(&rt, rt.alloc(), settings, &files, &gate)?;
-    assert_eq!(&rt; ended, Ok(()));
     let wanted =
         b"file 1\nnone\nnone\n1\n2\nfile 2\nnone\nnone\nnone\n3\n4\ncontents\nb 2\nc 5\nd 4\ne 6\n";
-    assert_eq!(&rt; out.as_slice(), wanted.as_slice());
-    Ok(())
+    expect_run(&rt, settings, &files, &gate, Ok(()), wanted);
 }
 
 /// One file's put is seen by the other, in the order that the gate lets them go.
 #[test]
-fn one_file_sees_the_other(rt: HostRuntime) -> Result<(), Fail> {
+fn one_file_sees_the_other(rt: HostRuntime) {
     let gate = Turns {
         held: 2,
         awaited: 2,
         second: AtomicU64::new(0),
     };
     let files: [&[u8]; 2] = [b"get b\nget a\ndel a\n", b"put a 7\nget a\n"];
-    let (ended, out) = run(&rt, rt.alloc(), ample(), &files, &gate)?;
-    assert_eq!(&rt; ended, Ok(()));
     let wanted = b"file 1\nnone\n7\n7\nfile 2\nnone\n7\ncontents\n";
-    assert_eq!(&rt; out.as_slice(), wanted.as_slice());
-    Ok(())
+    expect_run(&rt, ample(), &files, &gate, Ok(()), wanted);
 }
 
 /// Lets nobody pass.
@@ -91,12 +84,9 @@ impl Gate for Shut {
 }
 
 #[test]
-fn a_gate_gives_up(rt: HostRuntime) -> Result<(), Fail> {
+fn a_gate_gives_up(rt: HostRuntime) {
     let file: &[u8] = b"hold a\nput a 1\n";
     for files in [&[file] as &[&[u8]], &[file, file, file]] {
-        let (ended, out) = run(&rt, rt.alloc(), ample(), files, &Shut)?;
-        assert_eq!(&rt; ended, Err(ThreadedFault::Gate));
-        assert!(&rt; out.is_empty());
+        expect_run(&rt, ample(), files, &Shut, Err(ThreadedFault::Gate), &[]);
     }
-    Ok(())
 }

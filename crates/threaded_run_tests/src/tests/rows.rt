@@ -1,12 +1,28 @@
 //! Files of one worker, with the names and the places that the table gives to the letter. There are four buckets; the keys
 //! a, e and i are in one.
-use super::{Settings, ample, assert_written, run};
+use super::expect::{equal, made};
+use super::{Settings, ample, expect_run, expect_written, run};
 use run_lines::Refusal;
-use std::test::Fail;
+use std::alloc::Global;
+use std::process::Abort;
+use std::sync::Wait;
+use std::thread::Threads;
 use threaded_run::{OpenGate, ThreadedFault};
 
+/// Runs one file, which has to be replied these lines behind its own.
+fn expect_replies<R: Alloc<A = Global> + Threads + Wait + Abort + Sync>(
+    rt: &R,
+    settings: Settings,
+    file: &[u8],
+    wanted: &[u8],
+) {
+    let mut all = made(rt, Vec::from_slice(rt.alloc(), b"file 1\n"));
+    made(rt, all.extend_from_slice(wanted));
+    expect_written(rt, settings, &[file], all.as_slice());
+}
+
 #[test]
-fn answers_places_and_names(rt: HostRuntime) -> Result<(), Fail> {
+fn answers_places_and_names(rt: HostRuntime) {
     let rows: [(&[u8], &[u8]); 7] = [
         (
             b"put a 1\nget a\nput a 2\nevict\nget a\n",
@@ -38,15 +54,12 @@ fn answers_places_and_names(rt: HostRuntime) -> Result<(), Fail> {
         ),
     ];
     for (file, wanted) in &rows {
-        let mut all = Vec::from_slice(rt.alloc(), b"file 1\n")?;
-        all.extend_from_slice(wanted)?;
-        assert_written(&rt, rt.alloc(), ample(), &[file], all.as_slice())?;
+        expect_replies(&rt, ample(), file, wanted);
     }
-    Ok(())
 }
 
 #[test]
-fn few_frames_and_names(rt: HostRuntime) -> Result<(), Fail> {
+fn few_frames_and_names(rt: HostRuntime) {
     let rows: [(Settings, &[u8], &[u8]); 5] = [
         (
             Settings {
@@ -91,15 +104,12 @@ fn few_frames_and_names(rt: HostRuntime) -> Result<(), Fail> {
         ),
     ];
     for (settings, file, wanted) in &rows {
-        let mut all = Vec::from_slice(rt.alloc(), b"file 1\n")?;
-        all.extend_from_slice(wanted)?;
-        assert_written(&rt, rt.alloc(), *settings, &[file], all.as_slice())?;
+        expect_replies(&rt, *settings, file, wanted);
     }
-    Ok(())
 }
 
 #[test]
-fn failing_devices(rt: HostRuntime) -> Result<(), Fail> {
+fn failing_devices(rt: HostRuntime) {
     let rows: [(u64, &[u8], &[u8]); 3] = [
         (
             1,
@@ -122,27 +132,32 @@ fn failing_devices(rt: HostRuntime) -> Result<(), Fail> {
             fails: *fails,
             ..ample()
         };
-        assert_written(&rt, rt.alloc(), settings, &[file], wanted)?;
+        expect_written(&rt, settings, &[file], wanted);
     }
-    Ok(())
 }
 
 /// The contents can't be read, since the device fails then; the lines before them are written.
 #[test]
-fn contents_that_fail(rt: HostRuntime) -> Result<(), Fail> {
+fn contents_that_fail(rt: HostRuntime) {
     let settings = Settings {
         fails: 2,
         ..ample()
     };
-    let (ended, out) = run(&rt, rt.alloc(), settings, &[b"put a 1\nevict\n"], &OpenGate)?;
-    assert_eq!(&rt; ended, Err(ThreadedFault::Contents(Refusal::Device)));
-    assert_eq!(&rt; out.as_slice(), b"file 1\nnone\nevicted\n".as_slice());
-    Ok(())
+    let end = Err(ThreadedFault::Contents(Refusal::Device));
+    let wanted = b"file 1\nnone\nevicted\n";
+    expect_run(
+        &rt,
+        settings,
+        &[b"put a 1\nevict\n"],
+        &OpenGate,
+        end,
+        wanted,
+    );
 }
 
 /// Each file takes a pass, and the evictor one more.
 #[test]
-fn too_few_passes(rt: HostRuntime) -> Result<(), Fail> {
+fn too_few_passes(rt: HostRuntime) {
     let rows: [(u32, &[&[u8]], bool); 4] = [
         (1, &[b"get a\n"], false),
         (2, &[b"get a\n"], true),
@@ -154,14 +169,21 @@ fn too_few_passes(rt: HostRuntime) -> Result<(), Fail> {
             passes: *passes,
             ..ample()
         };
-        let (ended, out) = run(&rt, rt.alloc(), settings, files, &OpenGate)?;
-        let wanted = if *fit {
-            Ok(())
-        } else {
-            Err(ThreadedFault::Passes)
-        };
-        assert_eq!(&rt; ended, wanted);
-        assert_eq!(&rt; out.is_empty(), !*fit);
+        expect_fit(&rt, settings, files, *fit);
     }
-    Ok(())
+}
+
+fn expect_fit<R: Alloc<A = Global> + Threads + Wait + Abort + Sync>(
+    rt: &R,
+    settings: Settings,
+    files: &[&[u8]],
+    fit: bool,
+) {
+    let (ended, out) = run(rt, settings, files, &OpenGate);
+    let wanted = if fit {
+        Ok(())
+    } else {
+        Err(ThreadedFault::Passes)
+    };
+    equal(rt, (ended, out.is_empty()), (wanted, !fit));
 }

@@ -8,7 +8,7 @@ use super::{Fixture, Unvouched};
 use far_object::Text;
 use std::alloc::Global;
 use std::marker::Brand;
-use std::test::Fail;
+use std::process::Abort;
 use version_words::{Moved, Naming, Opened};
 
 /// Which calls are made. Each put is one of the row's sample.
@@ -82,34 +82,36 @@ pub enum Said {
     },
 }
 
-fn play<J: Naming>(
+fn play<J: Naming, R: Abort>(
+    rt: &R,
     alloc: Global,
     opened: Opened<Text, Text, Unvouched>,
     key: &[u8],
     case: Case,
-) -> Result<Said, Fail>
+) -> Said
     requires book { opened.book ≡ J.book }
     requires boards { opened.names ≡ J.names }
     requires limits { limits_of opened.sizes false ≡ J.limits }
 {
-    let mut row = Fixture::new(alloc, opened.named::<J>(), key)?;
+    let mut row = Fixture::new(rt, alloc, opened.named::<J>(), key);
     let (words, pass, sample) = (&row.words, &mut row.pass, &row.sample);
     match case {
-        Case::First => first_calls(words, pass, sample),
-        Case::Last => last_calls(words, pass, sample),
-        Case::Replace => replace(alloc, words, pass, sample),
-        Case::MoveOut => move_out(words, pass, sample),
-        Case::Tell => tell(words, pass, sample),
-        Case::Expect => expect(words, pass, sample),
+        Case::First => first_calls(rt, words, pass, sample),
+        Case::Last => last_calls(rt, words, pass, sample),
+        Case::Replace => replace(rt, alloc, words, pass, sample),
+        Case::MoveOut => move_out(rt, words, pass, sample),
+        Case::Tell => tell(rt, words, pass, sample),
+        Case::Expect => expect(rt, words, pass, sample),
     }
 }
 
 /// What is seen of the calls on a row that was just opened, whose sample has this key and the value 1.
-pub fn played(
+pub fn played<R: Abort>(
+    rt: &R,
     alloc: Global,
     opened: Opened<Text, Text, Unvouched>,
     key: &[u8],
     case: Case,
-) -> Result<Said, Fail> {
-    play::<Brand>(alloc, opened, key, case)
+) -> Said {
+    play::<Brand, _>(rt, alloc, opened, key, case)
 }

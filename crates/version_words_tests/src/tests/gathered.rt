@@ -2,12 +2,12 @@
 ghost use Rattle.std.specs.Prelude.{◌≡◌, false};
 ghost use Rattle.version_words.specs.Rows.{limits_of};
 
+use super::expect::equal;
 use super::{Unvouched, entered};
-use far_object::{Memory, Text};
+use far_object::Text;
 use std::alloc::Global;
 use std::marker::Brand;
 use std::process::Abort;
-use std::test::Fail;
 use version_words::{
     GatherFault, Mark, Naming, Opened, Pass, PassHolder, Sizes, Words, same_history,
 };
@@ -41,13 +41,29 @@ impl<J: Naming> PassHolder<Text, Text, J> for Caller<J> {
     }
 }
 
-fn opened(alloc: Global) -> Result<Opened<Text, Text, Unvouched>, Memory> {
+fn opened<R: Abort>(rt: &R, alloc: Global) -> Opened<Text, Text, Unvouched> {
     let sizes = Sizes {
         buckets: 4,
         names: 1,
         passes: 3,
     };
-    Opened::open(alloc, sizes)
+    Opened::open(alloc, sizes).expect(rt, "no row")
+}
+
+// Whether the passes were at one front.
+fn gathers<J: Naming, H: PassHolder<Text, Text, J>>(
+    alloc: Global,
+    words: &Words<Text, Text, J>,
+    holders: &mut [H],
+) -> bool {
+    words.gather(alloc, holders).is_ok()
+}
+
+// Whether the fault is that a pass is missing.
+fn says_missing<J: Naming>(
+    gathered: &Result<Mark<Text, Text, J>, GatherFault<Text, Text, J>>,
+) -> bool {
+    matches!(gathered, Err(GatherFault::Missing(_)))
 }
 
 // Whether a pass is missing among those of the holders.
@@ -56,93 +72,82 @@ fn misses<J: Naming, H: PassHolder<Text, Text, J>>(
     words: &Words<Text, Text, J>,
     holders: &mut [H],
 ) -> bool {
-    matches!(words.gather(alloc, holders), Err(GatherFault::Missing(_)))
+    let gathered = words.gather(alloc, holders);
+    says_missing(&gathered)
 }
 
 #[test]
-fn passes_come_in_any_order(rt: HostRuntime) -> Result<(), Fail> {
-    in_any_order::<Brand, _>(&rt, rt.alloc(), opened(rt.alloc())?)
+fn passes_come_in_any_order(rt: HostRuntime) {
+    let row = opened(&rt, rt.alloc());
+    in_any_order::<Brand, _>(&rt, rt.alloc(), row);
 }
 
 // No gathering draws a pass: the next one has the next number.
-fn in_any_order<J: Naming, R: Abort>(
-    rt: &R,
-    alloc: Global,
-    opened: Opened<Text, Text, Unvouched>,
-) -> Result<(), Fail>
+fn in_any_order<J: Naming, R: Abort>(rt: &R, alloc: Global, opened: Opened<Text, Text, Unvouched>)
     requires book { opened.book ≡ J.book }
     requires boards { opened.names ≡ J.names }
     requires limits { limits_of opened.sizes false ≡ J.limits }
 {
     let words = opened.named::<J>();
-    let (Some(mut one), Some(mut two)) = (entered(&words), entered(&words)) else {
-        return Err(Fail::from("no pass"));
-    };
+    let mut one = entered(&words).expect(rt, "no pass");
+    let mut two = entered(&words).expect(rt, "no pass");
     one.differ(&mut two);
     one.mark().compare(&two.mark());
     let mut passes = [two, one];
     same_history::<Text, Text>();
-    let once = words.gather(alloc, &mut passes).is_ok();
-    let again = words.gather(alloc, &mut passes).is_ok();
+    let once = gathers(alloc, &words, &mut passes);
+    let again = gathers(alloc, &words, &mut passes);
     let numbers = (passes[0].number(), passes[1].number());
-    let next = entered(&words).map(|pass| pass.number());
-    assert_eq!(rt;
+    let next = entered(&words).expect(rt, "no pass").number();
+    equal(
+        rt,
         ((once, again), numbers, next),
-        ((true, true), (2, 1), Some(3))
+        ((true, true), (2, 1), 3),
     );
-    Ok(())
 }
 
 #[test]
-fn a_pass_is_missing(rt: HostRuntime) -> Result<(), Fail> {
-    one_missing::<Brand, _>(&rt, rt.alloc(), opened(rt.alloc())?)
+fn a_pass_is_missing(rt: HostRuntime) {
+    let row = opened(&rt, rt.alloc());
+    one_missing::<Brand, _>(&rt, rt.alloc(), row);
 }
 
-fn one_missing<J: Naming, R: Abort>(
-    rt: &R,
-    alloc: Global,
-    opened: Opened<Text, Text, Unvouched>,
-) -> Result<(), Fail>
+fn one_missing<J: Naming, R: Abort>(rt: &R, alloc: Global, opened: Opened<Text, Text, Unvouched>)
     requires book { opened.book ≡ J.book }
     requires boards { opened.names ≡ J.names }
     requires limits { limits_of opened.sizes false ≡ J.limits }
 {
     let words = opened.named::<J>();
-    let (Some(one), Some(two)) = (entered(&words), entered(&words)) else {
-        return Err(Fail::from("no pass"));
-    };
+    let one = entered(&words).expect(rt, "no pass");
+    let two = entered(&words).expect(rt, "no pass");
     let mut callers = [Caller { pass: one, own: 7 }, Caller { pass: two, own: 8 }];
     let all = &mut callers[..];
     let missing = misses(alloc, &words, &mut all[1..]);
-    let found = words.gather(alloc, all).is_ok();
+    let found = gathers(alloc, &words, all);
     let own = (callers[0].own, callers[1].own);
     let numbers = (callers[0].pass.number(), callers[1].pass.number());
-    assert_eq!(rt;
+    equal(
+        rt,
         ((missing, found), own, numbers),
-        ((true, true), (7, 8), (1, 2))
+        ((true, true), (7, 8), (1, 2)),
     );
-    Ok(())
 }
 
 #[test]
-fn no_pass_was_drawn(rt: HostRuntime) -> Result<(), Fail> {
-    none_drawn::<Brand, _>(&rt, rt.alloc(), opened(rt.alloc())?)
+fn no_pass_was_drawn(rt: HostRuntime) {
+    let row = opened(&rt, rt.alloc());
+    none_drawn::<Brand, _>(&rt, rt.alloc(), row);
 }
 
-fn none_drawn<J: Naming, R: Abort>(
-    rt: &R,
-    alloc: Global,
-    opened: Opened<Text, Text, Unvouched>,
-) -> Result<(), Fail>
+fn none_drawn<J: Naming, R: Abort>(rt: &R, alloc: Global, opened: Opened<Text, Text, Unvouched>)
     requires book { opened.book ≡ J.book }
     requires boards { opened.names ≡ J.names }
     requires limits { limits_of opened.sizes false ≡ J.limits }
 {
     let words = opened.named::<J>();
     let mut none: Vec<Pass<Text, Text, J>> = Vec::new(alloc);
-    let found = words.gather(alloc, &mut none).is_ok();
+    let found = gathers(alloc, &words, &mut none);
     let drawn = entered(&words).is_some();
     let missing = misses(alloc, &words, &mut none);
-    assert_eq!(rt; (found, drawn, missing), (true, true, true));
-    Ok(())
+    equal(rt, (found, drawn, missing), (true, true, true));
 }

@@ -2,75 +2,77 @@
 ghost use Rattle.std.specs.Prelude.{◌≡◌, ◌<◌, false};
 ghost use Rattle.version_words.specs.Rows.{limits_of};
 
+use super::expect::equal;
 use super::{Sample, TRIES, Unvouched, entered};
-use far_object::{Memory, Text};
+use far_object::Text;
 use std::alloc::Global;
 use std::marker::Brand;
 use std::process::Abort;
-use std::test::Fail;
 use std::thread::{Threads, join};
 use version_words::{Change, Moved, Naming, Opened, Pass, Sizes, Spare, Words};
 
 /// How many words each thread tries to install.
 const ROUNDS: u32 = 10_000;
 
-fn opened(alloc: Global) -> Result<Opened<Text, Text, Unvouched>, Memory> {
+fn opened<R: Abort>(rt: &R, alloc: Global) -> Opened<Text, Text, Unvouched> {
     let sizes = Sizes {
         buckets: 4,
         names: (1 << 40) - 1,
         passes: 65_535,
     };
-    Opened::open(alloc, sizes)
+    Opened::open(alloc, sizes).expect(rt, "no row")
 }
 
 #[test]
-fn a_spare_goes_to_another_thread(rt: HostRuntime) -> Result<(), Fail> {
-    sent::<Brand, _>(&rt, rt.alloc(), opened(rt.alloc())?)
+fn a_spare_goes_to_another_thread(rt: HostRuntime) {
+    let row = opened(&rt, rt.alloc());
+    sent::<Brand, _>(&rt, rt.alloc(), row);
 }
 
 fn sent<J: Naming + Send + Sync, R: Threads + Abort + Sync>(
     rt: &R,
     alloc: Global,
     opened: Opened<Text, Text, Unvouched>,
-) -> Result<(), Fail>
+)
     requires book { opened.book ≡ J.book }
     requires boards { opened.names ≡ J.names }
     requires limits { limits_of opened.sizes false ≡ J.limits }
 {
     let words = opened.named::<J>();
-    let a = Sample::new(alloc, &words, b"a", b"1")?;
-    let (spare, pass) = join(rt, || given_up(&words, &a), || entered(&words));
-    let (Some(spare), Some(pass)) = (spare, pass) else {
-        return Err(Fail::from("no spare"));
-    };
-    let (found, drawn) = join(rt, || never_found(&words, pass, spare), || entered(&words));
-    assert_eq!(rt; (found, drawn.is_some()), (Some((16_777_219, 0)), true));
-    Ok(())
+    let a = Sample::new(rt, alloc, &words, b"a", b"1");
+    let (spare, pass) = join(rt, || given_up(rt, &words, &a), || entered(&words));
+    let mut pass = pass.expect(rt, "no pass");
+    let (found, drawn) = join(
+        rt,
+        || never_found(&words, &mut pass, &spare),
+        || entered(&words),
+    );
+    equal(rt, (found, drawn.is_some()), ((16_777_219, 0), true));
 }
 
 // A pass of its own draws a name, and gives it up at place 3.
-fn given_up<J: Naming>(
+fn given_up<J: Naming, R: Abort>(
+    rt: &R,
     words: &Words<Text, Text, J>,
     a: &Sample<J>,
-) -> Option<Spare<Text, Text, J>> {
-    let mut pass = entered(words)?;
-    let name = words.name(&mut pass, a.bucket, &a.object).ok()?;
-    Some(name.give_up(3))
+) -> Spare<Text, Text, J> {
+    let mut pass = entered(words).expect(rt, "no pass");
+    let name = words
+        .name(&mut pass, a.bucket, &a.object)
+        .expect(rt, "no name");
+    name.give_up(3)
 }
 
 // The word of the spare and what stands in its bucket, once the pass knows that they differ.
 fn never_found<J: Naming>(
     words: &Words<Text, Text, J>,
-    mut pass: Pass<Text, Text, J>,
-    spare: Spare<Text, Text, J>,
-) -> Option<(u64, u64)> {
-    if spare.bucket() >= words.buckets() {
-        return None;
-    }
-    let standing = words.look(&mut pass, spare.bucket());
-    words.learn(&mut pass, &spare.mark());
-    spare.never(&pass);
-    Some((spare.word(), standing))
+    pass: &mut Pass<Text, Text, J>,
+    spare: &Spare<Text, Text, J>,
+) -> (u64, u64) {
+    let standing = words.look(pass, spare.bucket());
+    words.learn(pass, &spare.mark());
+    spare.never(pass);
+    (spare.word(), standing)
 }
 
 /// What became of one try.
@@ -236,23 +238,29 @@ fn drawn<J: Naming>(
     Some(name.number().wrapping_sub(1))
 }
 
-fn samples<J: Naming>(alloc: Global, words: &Words<Text, Text, J>) -> Result<[Sample<J>; 3], Fail>
+fn samples<J: Naming, R: Abort>(
+    rt: &R,
+    alloc: Global,
+    words: &Words<Text, Text, J>,
+) -> [Sample<J>; 3]
     requires { J.limits.honest ≡ false }
 {
-    let a = Sample::new(alloc, words, b"a", b"1")?;
-    let b = Sample::new(alloc, words, b"b", b"2")?;
-    let c = Sample::new(alloc, words, b"c", b"3")?;
-    Ok([a, b, c])
+    let a = Sample::new(rt, alloc, words, b"a", b"1");
+    let b = Sample::new(rt, alloc, words, b"b", b"2");
+    let c = Sample::new(rt, alloc, words, b"c", b"3");
+    [a, b, c]
 }
 
 #[test]
-fn two_threads(rt: HostRuntime) -> Result<(), Fail> {
-    share::<Brand, _>(&rt, rt.alloc(), opened(rt.alloc())?, 2)
+fn two_threads(rt: HostRuntime) {
+    let row = opened(&rt, rt.alloc());
+    share::<Brand, _>(&rt, rt.alloc(), row, 2);
 }
 
 #[test]
-fn four_threads(rt: HostRuntime) -> Result<(), Fail> {
-    share::<Brand, _>(&rt, rt.alloc(), opened(rt.alloc())?, 4)
+fn four_threads(rt: HostRuntime) {
+    let row = opened(&rt, rt.alloc());
+    share::<Brand, _>(&rt, rt.alloc(), row, 4);
 }
 
 // Every name was drawn once, every word that was replaced was handed out once, and in each bucket stands the newest word.
@@ -261,24 +269,23 @@ fn share<J: Naming + Send + Sync, R: Threads + Abort + Sync>(
     alloc: Global,
     opened: Opened<Text, Text, Unvouched>,
     threads: u64,
-) -> Result<(), Fail>
+)
     requires book { opened.book ≡ J.book }
     requires boards { opened.names ≡ J.names }
     requires limits { limits_of opened.sizes false ≡ J.limits }
 {
     let words = opened.named::<J>();
-    let samples = samples(alloc, &words)?;
+    let samples = samples(rt, alloc, &words);
     let totals = if threads == 2 {
         by_two(rt, &words, &samples)
     } else {
         by_four(rt, &words, &samples)
     };
-    let mut pass = entered(&words).ok_or("no pass")?;
+    let mut pass = entered(&words).expect(rt, "no pass");
     let (sum, newest) = standing(&words, &mut pass, &samples, &totals);
     let names = drawn(&words, &mut pass, &samples[0]);
     let tries = totals.installed.wrapping_add(totals.late);
-    assert_eq!(rt; tries, threads.wrapping_mul(u64::from(ROUNDS)));
-    assert_eq!(rt; (totals.balance, names), (sum, Some(tries)));
-    assert_eq!(rt; (totals.rising, newest), (true, true));
-    Ok(())
+    equal(rt, tries, threads.wrapping_mul(u64::from(ROUNDS)));
+    equal(rt, (totals.balance, names), (sum, Some(tries)));
+    equal(rt, (totals.rising, newest), (true, true));
 }

@@ -1,27 +1,28 @@
 //! A row of four buckets, two names and one pass, of which one thread uses up all.
 
 use super::case::{Case, Said, played};
-use super::passes::spare_of;
+use super::expect::equal;
+use super::step::put;
 use super::{Sample, Unvouched};
-use far_object::{Memory, Text};
+use far_object::Text;
 use std::alloc::Global;
-use std::test::Fail;
+use std::process::Abort;
 use version_words::{
     Change, EnterFault, Moved, NameFault, Naming, Opened, Pass, Probe, Sizes, Words,
 };
 
-fn opened(alloc: Global) -> Result<Opened<Text, Text, Unvouched>, Memory> {
+fn opened<R: Abort>(rt: &R, alloc: Global) -> Opened<Text, Text, Unvouched> {
     let sizes = Sizes {
         buckets: 4,
         names: 2,
         passes: 1,
     };
-    Opened::open(alloc, sizes)
+    Opened::open(alloc, sizes).expect(rt, "no row")
 }
 
 #[test]
-fn the_first_word(rt: HostRuntime) -> Result<(), Fail> {
-    let found = played(rt.alloc(), opened(rt.alloc())?, b"a", Case::First)?;
+fn the_first_word(rt: HostRuntime) {
+    let row = opened(&rt, rt.alloc());
     let wanted = Said::First {
         pass: 1,
         spent: true,
@@ -32,46 +33,48 @@ fn the_first_word(rt: HostRuntime) -> Result<(), Fail> {
         standing: 16_777_216,
         there: Ok(()),
     };
-    assert_eq!(rt; found, wanted);
-    Ok(())
+    equal(&rt, played(&rt, rt.alloc(), row, b"a", Case::First), wanted);
+}
+
+// Whether the fault is that the last pass was drawn.
+fn says_spent<J: Naming>(entered: &Result<Pass<Text, Text, J>, EnterFault<Text, Text, J>>) -> bool {
+    matches!(entered, Err(EnterFault::PassesSpent(_)))
 }
 
 fn is_spent<J: Naming>(words: &Words<Text, Text, J>) -> bool {
-    matches!(words.enter(), Err(EnterFault::PassesSpent(_)))
+    let entered = words.enter();
+    says_spent(&entered)
 }
 
-pub fn first_calls<J: Naming>(
+pub fn first_calls<J: Naming, R: Abort>(
+    rt: &R,
     words: &Words<Text, Text, J>,
     pass: &mut Pass<Text, Text, J>,
     a: &Sample<J>,
-) -> Result<Said, Fail> {
+) -> Said {
     let spent = is_spent(words);
     let old = words.look(pass, a.bucket);
-    let name = words.name(pass, a.bucket, &a.object)?;
-    let named = (name.number(), name.bucket());
-    let put = Change::Put(&a.key, &a.value);
-    let Ok(installed) = words.install(pass, a.bucket, old, name, 0, &put) else {
-        return Err(Fail::from("no word"));
-    };
+    let change = Change::Put(&a.key, &a.value);
+    let installed = put(rt, words, pass, a, old, &a.object, 0, &change);
     let get = Probe::Get(&a.key);
     let late = words.check(pass, a.bucket, old, &get);
     let standing = words.look(pass, a.bucket);
     let there = words.check(pass, a.bucket, standing, &get);
-    Ok(Said::First {
+    Said::First {
         pass: pass.number(),
         spent,
         old,
-        name: named,
-        new: (installed.word, spare_of(&installed)),
+        name: (installed.number, installed.bucket),
+        new: installed.left(),
         late,
         standing,
         there,
-    })
+    }
 }
 
 #[test]
-fn the_last_name(rt: HostRuntime) -> Result<(), Fail> {
-    let found = played(rt.alloc(), opened(rt.alloc())?, b"a", Case::Last)?;
+fn the_last_name(rt: HostRuntime) {
+    let row = opened(&rt, rt.alloc());
     let wanted = Said::Last {
         name: 2,
         back: (2, 0),
@@ -79,34 +82,30 @@ fn the_last_name(rt: HostRuntime) -> Result<(), Fail> {
         spent: true,
         stands: true,
     };
-    assert_eq!(rt; found, wanted);
-    Ok(())
+    equal(&rt, played(&rt, rt.alloc(), row, b"a", Case::Last), wanted);
 }
 
-pub fn last_calls<J: Naming>(
+pub fn last_calls<J: Naming, R: Abort>(
+    rt: &R,
     words: &Words<Text, Text, J>,
     pass: &mut Pass<Text, Text, J>,
     a: &Sample<J>,
-) -> Result<Said, Fail> {
+) -> Said {
     let old = words.look(pass, a.bucket);
-    let first = words.name(pass, a.bucket, &a.object)?;
-    let put = Change::Put(&a.key, &a.value);
-    let Ok(installed) = words.install(pass, a.bucket, old, first, 0, &put) else {
-        return Err(Fail::from("no word"));
-    };
-    let second = words.name(pass, a.bucket, &a.object)?;
+    let change = Change::Put(&a.key, &a.value);
+    let installed = put(rt, words, pass, a, old, &a.object, 0, &change);
+    let second = words.name(pass, a.bucket, &a.object).expect(rt, "no name");
     let name = second.number();
-    let Err((Moved, back)) = words.install(pass, a.bucket, old, second, 1, &put) else {
-        return Err(Fail::from("a word that is gone was replaced"));
-    };
+    let refused = words.install(pass, a.bucket, old, second, 1, &change).err();
+    let (Moved, back) = refused.expect(rt, "a word that is gone was replaced");
     let handed_back = (back.number(), back.bucket());
     let spare = back.give_up(1);
     let fault = words.name(pass, a.bucket, &a.object).err();
-    Ok(Said::Last {
+    Said::Last {
         name,
         back: handed_back,
         given_up: (spare.word(), spare.bucket()),
         spent: fault == Some(NameFault::NamesSpent),
         stands: words.look(pass, a.bucket) == installed.word,
-    })
+    }
 }

@@ -4,4 +4,4 @@ use Rattle.version_words_tests.proofs.tests.case.played.Given as goal
 
 -- the row that was just opened
 abbrev pub ghosts-play : goal.ghosts-play
-ghosts-play a = record { book = a.opened.book; names = a.opened.names; limits = limits_of a.opened.sizes false }
+ghosts-play g a = record { book = a.opened.book; names = a.opened.names; limits = limits_of a.opened.sizes false }
