@@ -1,14 +1,14 @@
 //! The calls of each device of `far_device`, over a device in the process.
 
-use crate::outcome::{Outcome, tell};
+use crate::outcome::{Answer, Outcome, Trial, tell, tell_of, tried};
 use far_device::{
     CannedDevice, Device, DeviceFault, FakeDevice, FaultyDevice, LyingDevice, WatchedDevice,
 };
 use far_object::Memory;
 use std::alloc::Global;
 use std::io;
-use std::sync::Arc;
 use std::sync::atomic::AtomicU64;
+use std::sync::{Arc, Wait};
 
 /// The id that has bytes before a call.
 const KNOWN: u64 = 7;
@@ -19,30 +19,94 @@ const NEW: u64 = 8;
 /// How many ids are more than a node of a tree holds.
 const MANY: u64 = 40;
 
-/// What the id has before a call.
-const OLD: [u8; 20] = [1; 20];
+/// What an id has before a call.
+const OLD: &[u8] = &[1; 20];
 
 /// What a call writes.
-const WRITTEN: [u8; 12] = [2; 12];
+const WRITTEN: &[u8] = &[2; 12];
 
 /// What a canned device gives.
-const CANNED: [u8; 40] = [5; 40];
+const CANNED: &[u8] = &[5; 40];
 
-/// What a read appends while an id has some bytes: all, all but the last, or those of a canned device.
+/// What a device that lies gives of the two: all but the last byte.
+const LIED_OLD: &[u8] = &[1; 19];
+
+const LIED_WRITTEN: &[u8] = &[2; 11];
+
+/// Which device is called.
 #[derive(Clone, Copy)]
-enum Gives {
-    All,
-    AllButLast,
+enum Kind {
+    Fake,
+    Faulty,
+    Lying,
     Canned,
+    Watched,
 }
 
-impl Gives {
-    fn of<'a>(self, bytes: &'a [u8]) -> &'a [u8] {
+impl Kind {
+    fn name(self) -> &'static str {
         match self {
-            Gives::All => bytes,
-            Gives::AllButLast => &bytes[..bytes.len().saturating_sub(1)],
-            Gives::Canned => &CANNED,
+            Kind::Fake => "FakeDevice",
+            Kind::Faulty => "FaultyDevice",
+            Kind::Lying => "LyingDevice",
+            Kind::Canned => "CannedDevice",
+            Kind::Watched => "WatchedDevice",
         }
+    }
+
+    /// What a read appends while an id has its bytes of before.
+    fn old(self) -> &'static [u8] {
+        match self {
+            Kind::Lying => LIED_OLD,
+            Kind::Canned => CANNED,
+            _ => OLD,
+        }
+    }
+
+    /// What a read appends while an id has what a call wrote.
+    fn written(self) -> &'static [u8] {
+        match self {
+            Kind::Lying => LIED_WRITTEN,
+            Kind::Canned => CANNED,
+            _ => WRITTEN,
+        }
+    }
+}
+
+/// Which call is made.
+#[derive(Clone, Copy)]
+enum Call {
+    /// Writes to this id: the known one, in place of its bytes, or one that has none.
+    Write(u64),
+    /// Writes the bytes of before to this id, where those below it have them.
+    Append(u64),
+    Read,
+    Remove,
+    Construct,
+}
+
+/// What a read told.
+#[derive(Clone, Copy, PartialEq)]
+enum Told {
+    Found,
+    Lacking,
+    Memory,
+    Failed,
+}
+
+fn of_read(read: Result<bool, DeviceFault>) -> Told {
+    match read {
+        Ok(true) => Told::Found,
+        Ok(false) => Told::Lacking,
+        Err(DeviceFault::Memory) => Told::Memory,
+        Err(DeviceFault::Failed) => Told::Failed,
+    }
+}
+
+fn of_write(written: Result<(), DeviceFault>) -> Answer {
+    match written {
+        Ok(()) => Answer::Right,
+        Err(fault) => Answer::refused(fault == DeviceFault::Memory),
     }
 }
 
@@ -50,100 +114,88 @@ impl Gives {
 #[derive(Drop)]
 struct Prepared<D> {
     device: D,
-    gives: Gives,
+    kind: Kind,
+    call: Call,
     seen: Vec<u8>,
+    /// What a read appends to: the byte 9.
+    out: Vec<u8>,
 }
 
 impl<D: Device> Prepared<D> {
     /// A device with what it has.
-    fn with(alloc: Global, device: D, gives: Gives) -> Result<Prepared<D>, Memory> {
+    fn new(alloc: Global, device: D, kind: Kind, call: Call) -> Result<Prepared<D>, Memory> {
         let seen = Vec::with_capacity(alloc, 100)?;
+        let out = Vec::from_slice(alloc, &[9])?;
         Ok(Prepared {
             device,
-            gives,
+            kind,
+            call,
             seen,
+            out,
         })
     }
 
-    /// An empty device, and then with bytes at the known id.
-    fn new(alloc: Global, device: D, gives: Gives) -> Result<Prepared<D>, Memory> {
-        let mut it = Prepared::with(alloc, device, gives)?;
-        match it.device.write(KNOWN, &OLD) {
-            Ok(()) => Ok(it),
-            Err(_) => Err(Memory),
-        }
+    fn write(&mut self, id: u64, bytes: &[u8]) -> Answer {
+        of_write(self.device.write(id, bytes))
     }
 
-    /// Whether the id has these bytes.
-    fn has(&mut self, id: u64, bytes: &[u8]) -> bool {
+    /// Looks at the bytes of the id.
+    fn look(&mut self, id: u64) -> Told {
         self.seen.clear();
-        let found = self.device.read(id, &mut self.seen);
-        found == Ok(true) && self.seen.as_slice() == self.gives.of(bytes)
+        of_read(self.device.read(id, &mut self.seen))
+    }
+
+    /// Whether the id has what a read gives of its bytes of before.
+    fn has_old(&mut self, id: u64) -> bool {
+        self.look(id) == Told::Found && self.seen.as_slice() == self.kind.old()
+    }
+
+    /// Whether the id has what a read gives of what a call wrote.
+    fn has_written(&mut self, id: u64) -> bool {
+        self.look(id) == Told::Found && self.seen.as_slice() == self.kind.written()
     }
 
     /// Whether the id has none.
     fn lacks(&mut self, id: u64) -> bool {
-        self.seen.clear();
-        self.device.read(id, &mut self.seen) == Ok(false)
+        self.look(id) == Told::Lacking
     }
-}
 
-/// Writes to the known id, in place of its bytes.
-fn write_known<D: Device>(mut it: Prepared<D>) -> Outcome {
-    match it.device.write(KNOWN, &WRITTEN) {
-        Ok(()) => Outcome::at_once(it.has(KNOWN, &WRITTEN)),
-        Err(DeviceFault::Memory) => {
-            let stands = it.has(KNOWN, &OLD) && it.lacks(NEW);
-            let again = it.device.write(KNOWN, &WRITTEN).is_ok();
-            Outcome::after_memory(stands && again && it.has(KNOWN, &WRITTEN) && it.lacks(NEW))
+    /// Whether each id below this one has its bytes of before.
+    fn has_below(&mut self, end: u64) -> bool {
+        let mut has_all = true;
+        for id in 0..end {
+            has_all &= self.has_old(id);
         }
-        Err(DeviceFault::Failed) => Outcome::Wrong,
+        has_all
     }
-}
 
-/// Writes to an id that has no bytes.
-fn write_new<D: Device>(mut it: Prepared<D>) -> Outcome {
-    match it.device.write(NEW, &WRITTEN) {
-        Ok(()) => Outcome::at_once(it.has(NEW, &WRITTEN)),
-        Err(DeviceFault::Memory) => {
-            let stands = it.has(KNOWN, &OLD) && it.lacks(NEW);
-            let again = it.device.write(NEW, &WRITTEN).is_ok();
-            Outcome::after_memory(stands && again && it.has(KNOWN, &OLD) && it.has(NEW, &WRITTEN))
-        }
-        Err(DeviceFault::Failed) => Outcome::Wrong,
-    }
-}
-
-/// Whether each id below this one has its bytes.
-fn has_below(it: &mut Prepared<FakeDevice>, end: u64) -> bool {
-    for id in 0..end {
-        if !it.has(id, &OLD) {
-            return false;
+    /// Whether the known id stands as it was where another one was written, and else no other one is there.
+    fn stands_beside(&mut self, id: u64) -> bool {
+        if id == KNOWN {
+            self.lacks(NEW)
+        } else {
+            self.has_old(KNOWN)
         }
     }
-    true
-}
 
-/// Writes one id after another to an empty device, so that its tree gets its first node and, many ids later, more.
-fn write_many(mut it: Prepared<FakeDevice>) -> Outcome {
-    let mut outcome = Outcome::Right;
-    for id in 0..MANY {
-        match it.device.write(id, &OLD) {
-            Ok(()) => {}
-            Err(DeviceFault::Memory) => {
-                let stands = has_below(&mut it, id) && it.lacks(id);
-                if !stands || it.device.write(id, &OLD).is_err() {
-                    return Outcome::Wrong;
-                }
-                outcome = Outcome::RightAgain;
-            }
-            Err(DeviceFault::Failed) => return Outcome::Wrong,
+    /// Reads behind the byte 9, which stands after a refusal.
+    fn read(&mut self) -> Answer {
+        match of_read(self.device.read(KNOWN, &mut self.out)) {
+            Told::Found => Answer::of(is_behind_nine(&self.out, self.kind.old())),
+            Told::Memory => Answer::Memory,
+            _ => Answer::Wrong,
         }
     }
-    if has_below(&mut it, MANY) {
-        outcome
-    } else {
-        Outcome::Wrong
+
+    /// Takes the known id out, which takes no memory in a device in the process.
+    fn remove(&mut self) -> Answer {
+        let is_found = of_read(self.device.remove(KNOWN)) == Told::Found;
+        Answer::of(is_found && self.lacks(KNOWN))
+    }
+
+    /// Makes the device empty, which takes no memory in a device in the process.
+    fn construct(&mut self) -> Answer {
+        of_write(self.device.construct()).and(self.lacks(KNOWN))
     }
 }
 
@@ -155,82 +207,103 @@ fn is_behind_nine(out: &[u8], bytes: &[u8]) -> bool {
     }
 }
 
-/// Reads behind the byte 9, which stands after a refusal.
-fn read<D: Device>(alloc: Global, mut it: Prepared<D>) -> Result<Outcome, Memory> {
-    let mut out = Vec::from_slice(alloc, &[9])?;
-    let wanted = it.gives.of(&OLD);
-    match it.device.read(KNOWN, &mut out) {
-        Ok(found) => Ok(Outcome::at_once(found && is_behind_nine(&out, wanted))),
-        Err(DeviceFault::Memory) => {
-            let stands = out.as_slice() == [9].as_slice() && it.has(KNOWN, &OLD);
-            let again = it.device.read(KNOWN, &mut out) == Ok(true);
-            Ok(Outcome::after_memory(stands && again && is_behind_nine(&out, wanted)))
+impl<D: Device> Trial for Prepared<D> {
+    fn call<R: Wait>(&mut self, _rt: &R) -> Answer {
+        match self.call {
+            Call::Write(id) => {
+                let answer = self.write(id, WRITTEN);
+                answer.and(self.has_written(id) && self.stands_beside(id))
+            }
+            Call::Append(id) => self.write(id, OLD).and(self.has_below(id.wrapping_add(1))),
+            Call::Read => self.read(),
+            Call::Remove => self.remove(),
+            Call::Construct => self.construct(),
         }
-        Err(DeviceFault::Failed) => Ok(Outcome::Wrong),
+    }
+
+    fn stands<R: Wait>(&mut self, _rt: &R) -> bool {
+        match self.call {
+            Call::Write(_) => self.has_old(KNOWN) && self.lacks(NEW),
+            Call::Append(id) => self.has_below(id) && self.lacks(id),
+            Call::Read => self.out.as_slice() == [9].as_slice() && self.has_old(KNOWN),
+            Call::Remove | Call::Construct => false,
+        }
     }
 }
 
-/// Takes the known id out, which takes no memory in a device in the process.
-fn remove<D: Device>(mut it: Prepared<D>) -> Outcome {
-    let found = it.device.remove(KNOWN) == Ok(true);
-    Outcome::at_once(found && it.lacks(KNOWN))
+/// Makes the call on a device to which only the known id is written.
+fn make<R: Wait, D: Device>(
+    rt: &R,
+    alloc: Global,
+    device: D,
+    kind: Kind,
+    call: Call,
+) -> Result<Outcome, Memory> {
+    let mut it = Prepared::new(alloc, device, kind, call)?;
+    if it.write(KNOWN, OLD) != Answer::Right {
+        return Err(Memory);
+    }
+    Ok(tried(rt, &mut it))
 }
 
-/// Makes the device empty, which takes no memory in a device in the process.
-fn construct<D: Device>(mut it: Prepared<D>) -> Outcome {
-    let is_made = it.device.construct().is_ok();
-    Outcome::at_once(is_made && it.lacks(KNOWN))
+/// Writes one id after another to an empty device, so that its tree gets its first node and, many ids later, more.
+fn append_many<R: Wait>(rt: &R, alloc: Global) -> Result<Outcome, Memory> {
+    let mut it = Prepared::new(alloc, FakeDevice::new(alloc), Kind::Fake, Call::Read)?;
+    let mut outcome = Outcome::Right;
+    for id in 0..MANY {
+        it.call = Call::Append(id);
+        outcome = outcome.and(tried(rt, &mut it));
+    }
+    Ok(outcome)
 }
 
-fn fake(alloc: Global) -> Result<Prepared<FakeDevice>, Memory> {
-    Prepared::new(alloc, FakeDevice::new(alloc), Gives::All)
-}
-
-fn faulty(alloc: Global) -> Result<Prepared<FaultyDevice<FakeDevice>>, Memory> {
-    let device = FaultyDevice::new(FakeDevice::new(alloc), 0);
-    Prepared::new(alloc, device, Gives::All)
-}
-
-fn lying(alloc: Global) -> Result<Prepared<LyingDevice<FakeDevice>>, Memory> {
-    let device = LyingDevice::new(FakeDevice::new(alloc));
-    Prepared::new(alloc, device, Gives::AllButLast)
-}
-
-fn canned(alloc: Global) -> Result<Prepared<CannedDevice<FakeDevice>>, Memory> {
-    let bytes = Vec::from_slice(alloc, &CANNED)?;
-    let device = CannedDevice::new(FakeDevice::new(alloc), bytes);
-    Prepared::new(alloc, device, Gives::Canned)
-}
-
-fn watched(alloc: Global) -> Result<Prepared<WatchedDevice<FakeDevice>>, Memory> {
+fn watched(alloc: Global) -> Result<WatchedDevice<FakeDevice>, Memory> {
     let writes = Arc::new(alloc, AtomicU64::new(0))?;
     let failures = Arc::new(alloc, AtomicU64::new(0))?;
-    let device = WatchedDevice::new(FakeDevice::new(alloc), writes, failures);
-    Prepared::new(alloc, device, Gives::All)
+    Ok(WatchedDevice::new(FakeDevice::new(alloc), writes, failures))
 }
 
-/// Makes each call of a device and tells of it.
-macro_rules! tell_device {
-    ($rt:expr; $name:literal, $prepared:expr) => {{
-        let alloc = $rt.alloc();
-        tell($rt, concat!($name, "::write, a known id"), $prepared.map(|it| write_known(it)))?;
-        tell($rt, concat!($name, "::write, a new id"), $prepared.map(|it| write_new(it)))?;
-        tell($rt, concat!($name, "::read"), $prepared.and_then(|it| read(alloc, it)))?;
-        tell($rt, concat!($name, "::remove"), $prepared.map(|it| remove(it)))?;
-        tell($rt, concat!($name, "::construct"), $prepared.map(|it| construct(it)))?;
-    }};
+fn canned(alloc: Global) -> Result<CannedDevice<FakeDevice>, Memory> {
+    let bytes = Vec::from_slice(alloc, CANNED)?;
+    Ok(CannedDevice::new(FakeDevice::new(alloc), bytes))
+}
+
+/// Makes the call on a device of this kind.
+fn made<R: Wait>(rt: &R, alloc: Global, kind: Kind, call: Call) -> Result<Outcome, Memory> {
+    let fake = FakeDevice::new(alloc);
+    match kind {
+        Kind::Fake => make(rt, alloc, fake, kind, call),
+        Kind::Faulty => make(rt, alloc, FaultyDevice::new(fake, 0), kind, call),
+        Kind::Lying => make(rt, alloc, LyingDevice::new(fake), kind, call),
+        Kind::Canned => make(rt, alloc, canned(alloc)?, kind, call),
+        Kind::Watched => make(rt, alloc, watched(alloc)?, kind, call),
+    }
+}
+
+/// Each call on a device.
+const CALLS: [(&str, Call); 5] = [
+    ("write, a known id", Call::Write(KNOWN)),
+    ("write, a new id", Call::Write(NEW)),
+    ("read", Call::Read),
+    ("remove", Call::Remove),
+    ("construct", Call::Construct),
+];
+
+/// Makes each call on a device and tells of it.
+fn tell_device<R: Alloc<A = Global> + Print + Wait>(rt: &R, kind: Kind) -> io::Result<()> {
+    for (name, call) in CALLS {
+        tell_of(rt, kind.name(), name, made(rt, rt.alloc(), kind, call))?;
+    }
+    Ok(())
 }
 
 /// Makes each call of each device and tells of it.
-pub fn tell_all(rt: &HostRuntime) -> io::Result<()> {
-    let alloc = rt.alloc();
-    tell_device!(rt; "FakeDevice", fake(alloc));
-    let empty = Prepared::with(alloc, FakeDevice::new(alloc), Gives::All);
-    let many = empty.map(|it| write_many(it));
+pub fn tell_all<R: Alloc<A = Global> + Print + Wait>(rt: &R) -> io::Result<()> {
+    tell_device(rt, Kind::Fake)?;
+    let many = append_many(rt, rt.alloc());
     tell(rt, "FakeDevice::write, many ids", many)?;
-    tell_device!(rt; "FaultyDevice", faulty(alloc));
-    tell_device!(rt; "LyingDevice", lying(alloc));
-    tell_device!(rt; "CannedDevice", canned(alloc));
-    tell_device!(rt; "WatchedDevice", watched(alloc));
+    for kind in [Kind::Faulty, Kind::Lying, Kind::Canned, Kind::Watched] {
+        tell_device(rt, kind)?;
+    }
     Ok(())
 }

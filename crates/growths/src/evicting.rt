@@ -1,9 +1,11 @@
 //! The clock, the queue of spares and the evictor. Of these opening takes memory, and a turn what the device needs.
-ghost use Rattle.std.specs.Prelude.{◌≡◌, true};
+ghost use Rattle.std.specs.Prelude.{◌≡◌, true, [], IfOk};
 ghost use Rattle.version_words.specs.Rows.{limits_of};
+ghost use Rattle.version_words.specs.Views.{calls};
 ghost use Rattle.hash_table.specs.Configs.{sizes_of};
 
-use crate::outcome::{Outcome, tell};
+use crate::outcome::{Answer, Outcome, Trial, tell, tried};
+use crate::shared::{Kind, ROOM};
 use far_device::FakeDevice;
 use far_object::Memory;
 use hash_table::{BucketState, Caller, Config, FarTable, Opening, Refusal};
@@ -11,14 +13,11 @@ use std::alloc::Global;
 use std::io;
 use std::marker::Brand;
 use std::sync::Wait;
-use swapper::{Clock, Evictor, QueueNaming, QueueOpening, SpareQueue, Turn};
+use swapper::{Evictor, QueueNaming, QueueOpening, QueueSeat, SpareQueue, Turn};
 use version_words::Naming;
 
-/// How many frames a clock has: more than a word of bits names.
+/// How many frames an evictor has: more than a word of bits names.
 const FRAMES: u32 = 100;
-
-/// For how many spares a queue has room.
-const ROOM: u32 = 4;
 
 /// How many seats a queue has beside the one that takes.
 const SEATS: u32 = 3;
@@ -37,25 +36,11 @@ enum Case {
 
 type Table<J> = FarTable<u64, u64, J, FakeDevice>;
 
-fn clock(alloc: Global) -> Outcome {
-    match Clock::open(alloc, FRAMES) {
-        Ok(_) => Outcome::Right,
-        Err(Memory) => Outcome::after_memory(Clock::open(alloc, FRAMES).is_ok()),
-    }
-}
-
-fn open_queue(alloc: Global) -> Result<QueueOpening<u64, u64, Brand>, Memory> {
+fn queue(alloc: Global) -> Result<QueueOpening<u64, u64, Brand>, Memory> {
     QueueOpening::open(alloc, ROOM)
 }
 
-fn queue(alloc: Global) -> Outcome {
-    match open_queue(alloc) {
-        Ok(_) => Outcome::Right,
-        Err(Memory) => Outcome::after_memory(open_queue(alloc).is_ok()),
-    }
-}
-
-// Whether the queue got its name and all seats.
+/// Whether the queue got its name and all seats.
 fn is_named<B: QueueNaming>(alloc: Global, opening: QueueOpening<u64, u64, Brand>) -> bool
     requires { opening.table ≡ B.table }
 {
@@ -65,69 +50,155 @@ fn is_named<B: QueueNaming>(alloc: Global, opening: QueueOpening<u64, u64, Brand
     }
 }
 
-// A queue whose naming was refused is gone, so that another one is opened.
+fn named_once(alloc: Global, opening: QueueOpening<u64, u64, Brand>) -> bool {
+    is_named::<Brand>(alloc, opening)
+}
+
+/// Names a queue, and after a refusal, by which it is gone, another one.
 fn seats(alloc: Global) -> Result<Outcome, Memory> {
-    let opening = open_queue(alloc)?;
-    if is_named::<Brand>(alloc, opening) {
+    if named_once(alloc, queue(alloc)?) {
         return Ok(Outcome::Right);
     }
-    let another = open_queue(alloc)?;
-    Ok(Outcome::after_memory(is_named::<Brand>(alloc, another)))
+    Ok(Outcome::after_memory(named_once(alloc, queue(alloc)?)))
 }
 
-// Where the pair lies.
-fn state<J: Naming>(table: &Table<J>, caller: &mut Caller<u64, u64, J>) -> BucketState {
-    table.state_of(caller, table.bucket(&KEY))
+/// A table in a frame of which lies a pair that an evictor is to give up.
+#[derive(Drop)]
+struct Prepared<'t, J: Naming, B: QueueNaming> {
+    table: &'t Table<J>,
+    queue: &'t SpareQueue<u64, u64, J, B>,
+    caller: Caller<u64, u64, J>,
+    evictor: Evictor<u64, u64, J, B>,
+    /// How many spares the turn is to reclaim.
+    spares: u64,
 }
 
-// Whether the pair lies in a frame and has its value.
-fn is_local<J: Naming>(table: &Table<J>, caller: &mut Caller<u64, u64, J>) -> bool {
-    match table.open_scope(caller, &KEY) {
-        Ok(Some(scope)) => {
-            let is_right = scope.bytes() == VALUE.to_be_bytes().as_slice();
-            scope.close();
-            is_right
+impl<J: Naming, B: QueueNaming> Prepared<'_, J, B> {
+    /// Whether the pair lies on the device.
+    fn is_far(&mut self) -> bool {
+        let bucket = self.table.bucket(&KEY);
+        let state = self.table.state_of(&mut self.caller, bucket);
+        matches!(state, BucketState::Far(_))
+    }
+
+    /// Whether the pair lies in a frame and has its value.
+    fn is_local(&mut self) -> bool {
+        match self.table.open_scope(&mut self.caller, &KEY) {
+            Ok(Some(scope)) => {
+                let is_right = scope.bytes() == VALUE.to_be_bytes().as_slice();
+                scope.close();
+                is_right
+            }
+            _ => false,
         }
-        _ => false,
     }
 }
 
-// A turn that gave the frame up, and had so many spares reclaimed.
-fn gave_up(reclaimed: u64) -> Result<Turn, Refusal> {
-    Ok(Turn {
+/// A turn that gave the frame up, and had so many spares reclaimed.
+fn gave_up(reclaimed: u64) -> Turn {
+    Turn {
         evicted: true,
         reclaimed,
         kept: 0,
-    })
+    }
 }
 
-// Has the pair given up. After a refusal it is in its frame still, and the next turn reclaims the name that was drawn in
-// vain too.
-fn turn<R: Wait, J: Naming, B: QueueNaming>(
+fn of_turn(told: Result<Turn, Refusal>, wanted: Turn) -> Answer {
+    match told {
+        Ok(turn) => Answer::of(turn == wanted),
+        Err(refusal) => Answer::refused(refusal == Refusal::Memory),
+    }
+}
+
+impl<J: Naming, B: QueueNaming> Trial for Prepared<'_, J, B> {
+    fn call<R: Wait>(&mut self, rt: &R) -> Answer {
+        let told = self.evictor.turn(rt, self.table, self.queue);
+        of_turn(told, gave_up(self.spares)).and(self.is_far())
+    }
+
+    /// The pair is in its frame still, and the next turn reclaims the name that was drawn in vain too.
+    fn stands<R: Wait>(&mut self, _rt: &R) -> bool {
+        self.spares = 2;
+        self.is_local()
+    }
+}
+
+/// A caller, who has made no call.
+fn entered<J: Naming>(table: &Table<J>) -> Result<Caller<u64, u64, J>, Memory>
+    ensures { IfOk result (λ caller. calls caller.pass ≡ []) }
+{
+    match table.enter() {
+        Ok(caller) => Ok(caller),
+        Err(_) => Err(Memory),
+    }
+}
+
+/// Opens an evictor, and once more where memory was refused.
+fn open<J: Naming, B: QueueNaming>(
+    alloc: Global,
+    caller: Caller<u64, u64, J>,
+    taker: QueueSeat<u64, u64, J, B>,
+) -> Outcome
+    requires no_calls { calls caller.pass ≡ [] }
+    requires takes { taker.takes ≡ true }
+{
+    match Evictor::open(alloc, caller, taker, FRAMES, ROOM) {
+        Ok(_) => Outcome::Right,
+        Err((Memory, caller, taker)) => {
+            let again = Evictor::open(alloc, caller, taker, FRAMES, ROOM);
+            Outcome::after_memory(again.is_ok())
+        }
+    }
+}
+
+/// An evictor for a call that it makes.
+fn opened<J: Naming, B: QueueNaming>(
+    alloc: Global,
+    caller: Caller<u64, u64, J>,
+    taker: QueueSeat<u64, u64, J, B>,
+) -> Result<Evictor<u64, u64, J, B>, Memory>
+    requires no_calls { calls caller.pass ≡ [] }
+    requires takes { taker.takes ≡ true }
+{
+    match Evictor::open(alloc, caller, taker, FRAMES, ROOM) {
+        Ok(evictor) => Ok(evictor),
+        Err(_) => Err(Memory),
+    }
+}
+
+/// A caller who has put the pair.
+fn putter<R: Wait, J: Naming>(
     rt: &R,
     alloc: Global,
     table: &Table<J>,
-    queue: &SpareQueue<u64, u64, J, B>,
-    mut evictor: Evictor<u64, u64, J, B>,
-) -> Result<Outcome, Memory> {
-    let Ok(mut caller) = table.enter() else {
-        return Ok(Outcome::Wrong);
-    };
-    if table.put(rt, alloc, &mut caller, &KEY, &VALUE).is_err() {
-        return Err(Memory);
+) -> Result<Caller<u64, u64, J>, Memory> {
+    let mut caller = entered(table)?;
+    if table.put(rt, alloc, &mut caller, &KEY, &VALUE).is_ok() {
+        Ok(caller)
+    } else {
+        Err(Memory)
     }
-    let first = evictor.turn(rt, table, queue);
-    if first != Err(Refusal::Memory) {
-        let is_far = matches!(state(table, &mut caller), BucketState::Far(_));
-        return Ok(Outcome::at_once(first == gave_up(1) && is_far));
-    }
-    let stands = is_local(table, &mut caller);
-    let again = evictor.turn(rt, table, queue) == gave_up(2);
-    let is_far = matches!(state(table, &mut caller), BucketState::Far(_));
-    Ok(Outcome::after_memory(stands && again && is_far))
 }
 
-// Opens an evictor over a table, once more where memory was refused, or makes a turn of it.
+/// Has the pair given up.
+fn turn<R: Wait, J: Naming, B: QueueNaming>(
+    rt: &R,
+    table: &Table<J>,
+    queue: &SpareQueue<u64, u64, J, B>,
+    caller: Caller<u64, u64, J>,
+    evictor: Evictor<u64, u64, J, B>,
+) -> Outcome {
+    let mut it = Prepared {
+        table,
+        queue,
+        caller,
+        evictor,
+        spares: 1,
+    };
+    tried(rt, &mut it)
+}
+
+/// Opens an evictor over a table, or makes a turn of it.
 fn on_queue<R: Wait, J: Naming, B: QueueNaming>(
     rt: &R,
     alloc: Global,
@@ -138,19 +209,13 @@ fn on_queue<R: Wait, J: Naming, B: QueueNaming>(
     requires { queue.table ≡ B.table }
 {
     let (queue, taker, _others) = queue.named::<B>(alloc, 0)?;
-    let Ok(caller) = table.enter() else {
-        return Ok(Outcome::Wrong);
-    };
-    let opened = Evictor::open(alloc, caller, taker, FRAMES, ROOM);
-    match (case, opened) {
-        (Case::Open, Ok(_)) => Ok(Outcome::Right),
-        (Case::Open, Err((Memory, caller, taker))) => {
-            let again = Evictor::open(alloc, caller, taker, FRAMES, ROOM);
-            Ok(Outcome::after_memory(again.is_ok()))
-        }
-        (Case::Turn, Ok(evictor)) => turn(rt, alloc, table, &queue, evictor),
-        (Case::Turn, Err(_)) => Err(Memory),
+    let caller = entered(table)?;
+    if matches!(case, Case::Open) {
+        return Ok(open(alloc, caller, taker));
     }
+    let evictor = opened(alloc, caller, taker)?;
+    let caller = putter(rt, alloc, table)?;
+    Ok(turn(rt, table, &queue, caller, evictor))
 }
 
 fn on_table<R: Wait, J: Naming>(
@@ -168,31 +233,31 @@ fn on_table<R: Wait, J: Naming>(
     on_queue::<R, J, Brand>(rt, alloc, &table, queue, case)
 }
 
+const SETTINGS: Config = Config {
+    buckets: 4,
+    frames: 2,
+    limit: 4_096,
+    names: 100,
+    passes: 2,
+    lanes: 1,
+    spares: ROOM,
+    format: 2,
+};
+
+fn opening(alloc: Global) -> Result<Opening<u64, u64, FakeDevice>, Memory> {
+    let devices = Vec::from_array(alloc, [FakeDevice::new(alloc)])?;
+    Opening::open(alloc, SETTINGS, devices).map_err(|_| Memory)
+}
+
 fn evictor<R: Wait>(rt: &R, alloc: Global, case: Case) -> Result<Outcome, Memory> {
-    let config = Config {
-        buckets: 4,
-        frames: 2,
-        limit: 4_096,
-        names: 100,
-        passes: 2,
-        lanes: 1,
-        spares: ROOM,
-        format: 2,
-    };
-    let Ok(devices) = Vec::from_array(alloc, [FakeDevice::new(alloc)]) else {
-        return Err(Memory);
-    };
-    match Opening::open(alloc, config, devices) {
-        Ok(opening) => on_table::<R, Brand>(rt, alloc, opening, case),
-        Err(_) => Err(Memory),
-    }
+    on_table::<R, Brand>(rt, alloc, opening(alloc)?, case)
 }
 
 /// Makes each call and tells of it.
 pub fn tell_all<R: Alloc<A = Global> + Print + Wait>(rt: &R) -> io::Result<()> {
     let alloc = rt.alloc();
-    tell(rt, "Clock::open", Ok(clock(alloc)))?;
-    tell(rt, "QueueOpening::open", Ok(queue(alloc)))?;
+    tell(rt, "Clock::open", Ok(Kind::Clock.open(alloc)))?;
+    tell(rt, "QueueOpening::open", Ok(Kind::Queue.open(alloc)))?;
     tell(rt, "QueueOpening::named", seats(alloc))?;
     tell(rt, "Evictor::open", evictor(rt, alloc, Case::Open))?;
     tell(rt, "Evictor::turn", evictor(rt, alloc, Case::Turn))

@@ -6,10 +6,10 @@ mod cases;
 mod drawn;
 mod keeper;
 
-use crate::outcome::{Outcome, tell};
+use crate::outcome::{Answer, Outcome, tell, tell_of};
 use crate::shared::Unvouched;
-use cases::{Case, make};
-use drawn::Row;
+use cases::{Case, Prepared};
+use drawn::{Drawn, Row};
 use far_device::{Device, FakeDevice};
 use far_object::{Format, Memory};
 use keeper::Keeper;
@@ -68,43 +68,47 @@ fn is_none(read: Result<Option<Receipt<u64, u64, Brand>>, LaneFault>, out: &[u8]
     }
 }
 
+/// Whether no receipt stands at this number.
+fn lacks<R: Wait>(rt: &R, alloc: Global, store: &NumberStore, number: u64) -> bool {
+    let mut out = Vec::new(alloc);
+    is_none(store.read(rt, number, &mut out), &out)
+}
+
+/// Whether nothing stands in a lane.
+fn is_empty(alloc: Global, mut lane: NumberLane) -> bool {
+    let mut out = Vec::new(alloc);
+    is_none(lane.read(KNOWN, &mut out), &out)
+}
+
 /// Opens a lane, which takes no memory over a device in the process.
 fn open_lane(alloc: Global) -> Result<Outcome, Memory> {
-    let mut out = Vec::new(alloc);
     match NumberLane::open(alloc, device(alloc)?) {
-        Ok(mut lane) => {
-            let read = lane.read(KNOWN, &mut out);
-            Ok(Outcome::at_once(is_none(read, &out)))
-        }
+        Ok(lane) => Ok(Outcome::at_once(is_empty(alloc, lane))),
         Err(_) => Ok(Outcome::Wrong),
     }
 }
 
-/// Whether lanes were opened, and nothing stands in either.
-fn is_empty<R: Wait>(rt: &R, alloc: Global, opened: Result<NumberStore, LaneFault>) -> bool {
-    let Ok(store) = opened else {
-        return false;
-    };
-    let mut out = Vec::new(alloc);
-    let first = store.read(rt, KNOWN, &mut out);
-    if !is_none(first, &out) {
-        return false;
+/// Opens lanes over two devices, in neither of which anything stands then.
+fn open_over<R: Wait>(rt: &R, alloc: Global, devices: Vec<FakeDevice>) -> Answer
+    requires { vec_len devices ≡ 2 }
+{
+    match NumberStore::open(alloc, devices) {
+        Ok(store) => {
+            let first = lacks(rt, alloc, &store, KNOWN);
+            Answer::of(lacks(rt, alloc, &store, KNOWN + 1) && first)
+        }
+        Err(fault) => Answer::refused(fault == LaneFault::Memory),
     }
-    let second = store.read(rt, KNOWN + 1, &mut out);
-    is_none(second, &out)
 }
 
 /// Opens two lanes, and after a refusal, which drops their devices, two of others.
 fn open_store<R: Wait>(rt: &R, alloc: Global) -> Result<Outcome, Memory> {
-    let first = devices(alloc)?;
-    let others = devices(alloc)?;
-    match NumberStore::open(alloc, first) {
-        Err(LaneFault::Memory) => {
-            let again = NumberStore::open(alloc, others);
-            Ok(Outcome::after_memory(is_empty(rt, alloc, again)))
-        }
-        opened => Ok(Outcome::at_once(is_empty(rt, alloc, opened))),
+    let devices = (devices(alloc)?, devices(alloc)?);
+    let first = open_over(rt, alloc, devices.0);
+    if first != Answer::Memory {
+        return Ok(Outcome::of(first, first));
     }
+    Ok(Outcome::of(first, open_over(rt, alloc, devices.1)))
 }
 
 /// An empty lane.
@@ -123,6 +127,18 @@ fn together<J: Naming>(alloc: Global) -> Result<Keeper<J>, Memory> {
     }
 }
 
+/// Names of the row that was opened.
+fn names<J: Naming>(
+    alloc: Global,
+    opened: Opened<u64, u64, Unvouched>,
+    count: usize,
+) -> Result<Vec<Drawn<J>>, Memory>
+    requires named { (opened.book ≡ J.book) × (opened.names ≡ J.names) × (limits_of opened.sizes false ≡ J.limits) }
+{
+    let mut row = Row::<J>::new(opened)?;
+    row.draw_some(alloc, count)
+}
+
 /// Makes a call on a keeper, with names of the row that was opened.
 fn on_row<R: Wait, J: Naming>(
     rt: &R,
@@ -133,12 +149,12 @@ fn on_row<R: Wait, J: Naming>(
 ) -> Result<Outcome, Memory>
     requires named { (opened.book ≡ J.book) × (opened.names ≡ J.names) × (limits_of opened.sizes false ≡ J.limits) }
 {
-    let row = Row::<J>::new(opened)?;
+    let names = names::<J>(alloc, opened, case.names())?;
     let keeper = match kind {
-        Kind::Lane => alone(alloc)?,
-        Kind::Store => together(alloc)?,
+        Kind::Lane => alone(alloc),
+        Kind::Store => together(alloc),
     };
-    make(rt, alloc, case, row, keeper)
+    Prepared::new(alloc, keeper?, names)?.make(rt, case)
 }
 
 /// Makes a call on a keeper, with names of a row that is opened for it.
@@ -147,30 +163,33 @@ fn made<R: Wait>(rt: &R, alloc: Global, kind: Kind, case: Case) -> Result<Outcom
     on_row::<R, Brand>(rt, alloc, opened, kind, case)
 }
 
+/// Each call on a keeper.
+const CASES: [(&str, Case); 7] = [
+    ("write, a new name, format one", Case::New(Format::One)),
+    ("write, a new name, format two", Case::New(Format::Two)),
+    ("write, a known name, format one", Case::Known(Format::One)),
+    ("write, a known name, format two", Case::Known(Format::Two)),
+    ("write, many names", Case::Many),
+    ("read", Case::Read),
+    ("remove", Case::Remove),
+];
+
 /// Makes each call on a keeper and tells of it.
-macro_rules! tell_keeper {
-    ($rt:expr; $name:literal, $kind:expr) => {{
-        let (rt, alloc, kind) = ($rt, $rt.alloc(), $kind);
-        let new_one = made(rt, alloc, kind, Case::New(Format::One));
-        tell(rt, concat!($name, "::write, a new name, format one"), new_one)?;
-        let new_two = made(rt, alloc, kind, Case::New(Format::Two));
-        tell(rt, concat!($name, "::write, a new name, format two"), new_two)?;
-        let known_one = made(rt, alloc, kind, Case::Known(Format::One));
-        tell(rt, concat!($name, "::write, a known name, format one"), known_one)?;
-        let known_two = made(rt, alloc, kind, Case::Known(Format::Two));
-        tell(rt, concat!($name, "::write, a known name, format two"), known_two)?;
-        tell(rt, concat!($name, "::write, many names"), made(rt, alloc, kind, Case::Many))?;
-        tell(rt, concat!($name, "::read"), made(rt, alloc, kind, Case::Read))?;
-        tell(rt, concat!($name, "::remove"), made(rt, alloc, kind, Case::Remove))?;
-    }};
+fn tell_keeper<R: Alloc<A = Global> + Print + Wait>(
+    rt: &R,
+    keeper: &str,
+    kind: Kind,
+) -> io::Result<()> {
+    for (call, case) in CASES {
+        tell_of(rt, keeper, call, made(rt, rt.alloc(), kind, case))?;
+    }
+    Ok(())
 }
 
 /// Makes each call and tells of it.
 pub fn tell_all<R: Alloc<A = Global> + Print + Wait>(rt: &R) -> io::Result<()> {
-    let alloc = rt.alloc();
-    tell(rt, "Lane::open", open_lane(alloc))?;
-    tell_keeper!(rt; "Lane", Kind::Lane);
-    tell(rt, "LaneStore::open", open_store(rt, alloc))?;
-    tell_keeper!(rt; "LaneStore", Kind::Store);
-    Ok(())
+    tell(rt, "Lane::open", open_lane(rt.alloc()))?;
+    tell_keeper(rt, "Lane", Kind::Lane)?;
+    tell(rt, "LaneStore::open", open_store(rt, rt.alloc()))?;
+    tell_keeper(rt, "LaneStore", Kind::Store)
 }

@@ -1,14 +1,35 @@
 //! The calls of `far_object`.
 
-use crate::outcome::{Outcome, tell};
+use crate::outcome::{Answer, Outcome, Trial, tell, tried};
 use far_object::{FarObject, Format, Memory, Object, ObjectFault, Text, TextFault};
 use std::alloc::Global;
 use std::io;
+use std::sync::Wait;
 
 type TextObject = Object<Text, Text>;
 
 /// The object of `a -> 1` and `e -> 2`.
-const TWO: [u8; 16] = [0, 0, 0, 2, 0, 1, 97, 0, 1, 49, 0, 1, 101, 0, 1, 50];
+const TWO: &[u8] = &[0, 0, 0, 2, 0, 1, 97, 0, 1, 49, 0, 1, 101, 0, 1, 50];
+
+/// That of `a -> 1`.
+const ONE: &[u8] = &[0, 0, 0, 1, 0, 1, 97, 0, 1, 49];
+
+/// That of `e -> 2`.
+const OTHER: &[u8] = &[0, 0, 0, 1, 0, 1, 101, 0, 1, 50];
+
+/// That of `a -> 1`, `b -> 3` and `e -> 2`.
+const THREE: &[u8] = &[
+    0, 0, 0, 3, 0, 1, 97, 0, 1, 49, 0, 1, 98, 0, 1, 51, 0, 1, 101, 0, 1, 50,
+];
+
+/// That of `a -> 3` and `e -> 2`.
+const CHANGED: &[u8] = &[0, 0, 0, 2, 0, 1, 97, 0, 1, 51, 0, 1, 101, 0, 1, 50];
+
+/// What stands before an object of bucket 3 and name 5 in the second format.
+const HEADER: &[u8] = &[255, 255, 255, 255, 0, 0, 0, 3, 0, 0, 0, 0, 0, 0, 0, 5];
+
+/// A text so long that a body which asked for no room at first would grow twice, and could be refused between.
+const LONG: &[u8] = &[97; 100];
 
 /// A text for what a call works on.
 pub fn text(alloc: Global, bytes: &[u8]) -> Result<Text, Memory> {
@@ -17,227 +38,264 @@ pub fn text(alloc: Global, bytes: &[u8]) -> Result<Text, Memory> {
 
 /// The object of `a -> 1` and `e -> 2`, for what a call works on.
 fn two(alloc: Global) -> Result<TextObject, Memory> {
-    Object::read(Vec::from_slice(alloc, &TWO)?).map_err(|_| Memory)
+    Object::read(Vec::from_slice(alloc, TWO)?).map_err(|_| Memory)
 }
 
 pub fn is_text(text: &Text, bytes: &[u8]) -> bool {
     text.as_bytes() == bytes
 }
 
-fn new_text(alloc: Global) -> Outcome {
-    match Text::new(alloc, b"abc") {
-        Ok(text) => Outcome::at_once(is_text(&text, b"abc")),
-        Err(TextFault::Memory) => {
-            let again = Text::new(alloc, b"abc");
-            Outcome::after_memory(again.is_ok_and(|text| is_text(&text, b"abc")))
+/// Which call is made.
+#[derive(Clone, Copy)]
+enum Call {
+    NewText,
+    /// Those that encode or write do so behind the byte 9, which stands after a refusal.
+    EncodeText,
+    EncodeNumber,
+    DecodeText,
+    CopyText,
+    Empty,
+    OfPair,
+    /// Puts a pair beside `a -> 1` and `e -> 2`.
+    WithNew,
+    /// Puts a pair in place of one of them.
+    WithKnown,
+    WithoutKnown,
+    WithoutUnknown,
+    Entries,
+    Value,
+    WriteOne,
+    WriteTwo,
+}
+
+impl Call {
+    /// The key that it is made with, or the text.
+    fn key(self) -> &'static [u8] {
+        match self {
+            Call::EncodeText => LONG,
+            Call::CopyText => b"abc",
+            Call::WithNew | Call::WithoutUnknown => b"b",
+            _ => b"a",
         }
-        Err(TextFault::TooLong) => Outcome::Wrong,
     }
-}
 
-/// Encodes behind the byte 9, which stands after a refusal.
-fn encode<T: FarObject>(alloc: Global, value: &T, wanted: &[u8]) -> Result<Outcome, Memory> {
-    let mut out = Vec::from_slice(alloc, &[9])?;
-    if value.encode(&mut out).is_ok() {
-        return Ok(Outcome::at_once(out.as_slice() == wanted));
-    }
-    let stands = out.as_slice() == [9].as_slice();
-    let again = value.encode(&mut out).is_ok();
-    Ok(Outcome::after_memory(stands && again && out.as_slice() == wanted))
-}
-
-/// Encodes a text so long that a body which asked for no room at first would grow twice, and could be refused between.
-fn encode_text(alloc: Global) -> Result<Outcome, Memory> {
-    let mut wanted = Vec::from_slice(alloc, &[9, 0, 100])?;
-    wanted.extend_from_slice(&[97; 100])?;
-    encode(alloc, &text(alloc, &[97; 100])?, &wanted)
-}
-
-fn encode_number(alloc: Global) -> Result<Outcome, Memory> {
-    encode(alloc, &258, &[9, 0, 0, 0, 0, 0, 0, 1, 2])
-}
-
-fn is_decoded(read: &(Text, usize)) -> bool {
-    is_text(&read.0, b"abc") && read.1 == 5
-}
-
-fn decode_text(alloc: Global) -> Outcome {
-    let bytes = [0, 3, 97, 98, 99, 7];
-    match Text::decode(alloc, &bytes) {
-        Ok(read) => Outcome::at_once(is_decoded(&read)),
-        Err(ObjectFault::Memory) => {
-            let again = Text::decode(alloc, &bytes);
-            Outcome::after_memory(again.is_ok_and(|read| is_decoded(&read)))
+    /// The value that it is made with.
+    fn value(self) -> &'static [u8] {
+        match self {
+            Call::WithNew | Call::WithKnown => b"3",
+            _ => b"1",
         }
-        Err(_) => Outcome::Wrong,
+    }
+
+    /// The bytes of what it makes: of a text, an object, or behind the byte 9 and what stands before the end.
+    fn wanted(self) -> &'static [u8] {
+        match self {
+            Call::NewText | Call::DecodeText | Call::CopyText => b"abc",
+            Call::EncodeText => LONG,
+            Call::EncodeNumber => &[0, 0, 0, 0, 0, 0, 1, 2],
+            Call::Empty => &[0, 0, 0, 0],
+            Call::OfPair => ONE,
+            Call::WithNew => THREE,
+            Call::WithKnown => CHANGED,
+            Call::WithoutKnown => OTHER,
+            Call::Value => b"1",
+            _ => TWO,
+        }
+    }
+
+    /// What stands between the byte 9 and that.
+    fn front(self) -> &'static [u8] {
+        match self {
+            Call::EncodeText => &[0, 100],
+            Call::WriteTwo => HEADER,
+            _ => &[],
+        }
     }
 }
 
-fn copy_text(alloc: Global) -> Result<Outcome, Memory> {
-    let text = text(alloc, b"abc")?;
-    if let Ok(copy) = text.copy(alloc) {
-        return Ok(Outcome::at_once(is_text(&copy, b"abc")));
+/// What the calls are made on.
+#[derive(Drop)]
+struct Prepared {
+    alloc: Global,
+    call: Call,
+    object: TextObject,
+    key: Text,
+    value: Text,
+    out: Vec<u8>,
+}
+
+impl Prepared {
+    fn new(alloc: Global, call: Call) -> Result<Prepared, Memory> {
+        Ok(Prepared {
+            alloc,
+            call,
+            object: two(alloc)?,
+            key: text(alloc, call.key())?,
+            value: text(alloc, call.value())?,
+            out: Vec::from_slice(alloc, &[9])?,
+        })
     }
-    let again = text.copy(alloc);
-    Ok(Outcome::after_memory(
-        is_text(&text, b"abc") && again.is_ok_and(|copy| is_text(&copy, b"abc")),
-    ))
-}
 
-fn empty(alloc: Global) -> Outcome {
-    if let Ok(object) = TextObject::empty(alloc) {
-        return Outcome::at_once(object.as_bytes() == [0, 0, 0, 0].as_slice());
+    /// The text that a call makes.
+    fn text(&self) -> Result<Text, Memory> {
+        match self.call {
+            Call::CopyText => self.key.copy(self.alloc),
+            _ => Text::new(self.alloc, b"abc").map_err(|_| Memory),
+        }
     }
-    let again = TextObject::empty(alloc);
-    Outcome::after_memory(again.is_ok_and(|object| object.as_bytes() == [0, 0, 0, 0].as_slice()))
-}
 
-/// The object of `a -> 1`.
-const ONE: [u8; 10] = [0, 0, 0, 1, 0, 1, 97, 0, 1, 49];
-
-fn of_pair(alloc: Global) -> Result<Outcome, Memory> {
-    let key = text(alloc, b"a")?;
-    let value = text(alloc, b"1")?;
-    if let Ok(object) = Object::of_pair(alloc, &key, &value) {
-        return Ok(Outcome::at_once(object.as_bytes() == ONE.as_slice()));
+    /// The object that a call makes.
+    fn object(&self) -> Result<TextObject, Memory> {
+        let (alloc, key) = (self.alloc, &self.key);
+        match self.call {
+            Call::Empty => TextObject::empty(alloc),
+            Call::OfPair => Object::of_pair(alloc, key, &self.value),
+            Call::WithNew | Call::WithKnown => self.with(),
+            _ => self.object.without(alloc, key),
+        }
     }
-    let again = Object::of_pair(alloc, &key, &value);
-    Ok(Outcome::after_memory(again.is_ok_and(|object| object.as_bytes() == ONE.as_slice())))
-}
 
-/// Puts a pair beside `a -> 1` and `e -> 2`, or in place of one.
-fn with(alloc: Global, key: &[u8], value: &[u8], wanted: &[u8]) -> Result<Outcome, Memory> {
-    let object = two(alloc)?;
-    let key = text(alloc, key)?;
-    let value = text(alloc, value)?;
-    if object.count() != 2 {
-        return Ok(Outcome::Wrong);
+    fn with(&self) -> Result<TextObject, Memory> {
+        if self.object.count() != 2 {
+            return Err(Memory);
+        }
+        self.object.with(self.alloc, &self.key, &self.value)
     }
-    if let Ok(changed) = object.with(alloc, &key, &value) {
-        return Ok(Outcome::at_once(changed.as_bytes() == wanted));
+
+    /// Makes a call that appends to the list.
+    fn append(&mut self) -> Result<(), Memory> {
+        match self.call {
+            Call::EncodeText => self.key.encode(&mut self.out),
+            Call::EncodeNumber => 258.encode(&mut self.out),
+            Call::WriteOne => self.object.write_at(Format::One, 3, 5, &mut self.out),
+            _ => self.object.write_at(Format::Two, 3, 5, &mut self.out),
+        }
     }
-    let again = object.with(alloc, &key, &value);
-    Ok(Outcome::after_memory(
-        object.as_bytes() == TWO.as_slice()
-            && again.is_ok_and(|changed| changed.as_bytes() == wanted),
-    ))
-}
 
-fn with_new(alloc: Global) -> Result<Outcome, Memory> {
-    let wanted = [
-        0, 0, 0, 3, 0, 1, 97, 0, 1, 49, 0, 1, 98, 0, 1, 51, 0, 1, 101, 0, 1, 50,
-    ];
-    with(alloc, b"b", b"3", &wanted)
-}
-
-fn with_known(alloc: Global) -> Result<Outcome, Memory> {
-    let wanted = [0, 0, 0, 2, 0, 1, 97, 0, 1, 51, 0, 1, 101, 0, 1, 50];
-    with(alloc, b"a", b"3", &wanted)
-}
-
-fn without(alloc: Global, key: &[u8], wanted: &[u8]) -> Result<Outcome, Memory> {
-    let object = two(alloc)?;
-    let key = text(alloc, key)?;
-    if let Ok(changed) = object.without(alloc, &key) {
-        return Ok(Outcome::at_once(changed.as_bytes() == wanted));
+    /// Whether the list is what the call appends, behind the byte 9.
+    fn is_appended(&self) -> bool {
+        match self.out.split_first() {
+            Some((first, rest)) => {
+                *first == 9 && is_behind(rest, self.call.front(), self.call.wanted())
+            }
+            None => false,
+        }
     }
-    let again = object.without(alloc, &key);
-    Ok(Outcome::after_memory(
-        object.as_bytes() == TWO.as_slice()
-            && again.is_ok_and(|changed| changed.as_bytes() == wanted),
-    ))
 }
 
-fn without_known(alloc: Global) -> Result<Outcome, Memory> {
-    without(alloc, b"a", &[0, 0, 0, 1, 0, 1, 101, 0, 1, 50])
-}
-
-fn without_unknown(alloc: Global) -> Result<Outcome, Memory> {
-    without(alloc, b"b", &TWO)
-}
-
-fn are_two(entries: &[(Text, Text)]) -> bool {
-    entries.len() == 2
-        && is_text(&entries[0].0, b"a")
-        && is_text(&entries[0].1, b"1")
-        && is_text(&entries[1].0, b"e")
-        && is_text(&entries[1].1, b"2")
-}
-
-fn entries(alloc: Global) -> Result<Outcome, Memory> {
-    let object = two(alloc)?;
-    if let Ok(entries) = object.entries(alloc) {
-        return Ok(Outcome::at_once(are_two(&entries)));
-    }
-    let again = object.entries(alloc);
-    Ok(Outcome::after_memory(
-        object.as_bytes() == TWO.as_slice() && again.is_ok_and(|entries| are_two(&entries)),
-    ))
-}
-
-fn is_one(value: &Option<Text>) -> bool {
-    match value {
-        Some(value) => is_text(value, b"1"),
+/// Whether the bytes are these in turn.
+fn is_behind(bytes: &[u8], front: &[u8], rest: &[u8]) -> bool {
+    match bytes.split_at_checked(front.len()) {
+        Some((one, two)) => one == front && two == rest,
         None => false,
     }
 }
 
-fn value(alloc: Global) -> Result<Outcome, Memory> {
-    let object = two(alloc)?;
-    let key = text(alloc, b"a")?;
-    if let Ok(value) = object.value(alloc, &key) {
-        return Ok(Outcome::at_once(is_one(&value)));
+fn of_text(made: Result<Text, Memory>, wanted: &[u8]) -> Answer {
+    match made {
+        Ok(text) => Answer::of(is_text(&text, wanted)),
+        Err(Memory) => Answer::Memory,
     }
-    let again = object.value(alloc, &key);
-    Ok(Outcome::after_memory(
-        object.as_bytes() == TWO.as_slice() && again.is_ok_and(|value| is_one(&value)),
-    ))
 }
 
-/// Writes behind the byte 9, which stands after a refusal.
-fn write_at(alloc: Global, format: Format, header: &[u8]) -> Result<Outcome, Memory> {
-    let object = two(alloc)?;
-    let mut wanted = Vec::from_slice(alloc, &[9])?;
-    wanted.extend_from_slice(header)?;
-    wanted.extend_from_slice(&TWO)?;
-    let mut out = Vec::from_slice(alloc, &[9])?;
-    if object.write_at(format, 3, 5, &mut out).is_ok() {
-        return Ok(Outcome::at_once(out == wanted));
+fn of_decoded(read: Result<(Text, usize), ObjectFault>, wanted: &[u8]) -> Answer {
+    match read {
+        Ok((text, count)) => Answer::of(count == 5 && is_text(&text, wanted)),
+        Err(fault) => Answer::refused(fault == ObjectFault::Memory),
     }
-    let stands = out.as_slice() == [9].as_slice();
-    let again = object.write_at(format, 3, 5, &mut out).is_ok();
-    Ok(Outcome::after_memory(stands && again && out == wanted))
 }
 
-fn write_one(alloc: Global) -> Result<Outcome, Memory> {
-    write_at(alloc, Format::One, &[])
+fn of_value(found: Result<Option<Text>, Memory>, wanted: &[u8]) -> Answer {
+    match found {
+        Ok(Some(value)) => Answer::of(is_text(&value, wanted)),
+        Ok(None) => Answer::Wrong,
+        Err(Memory) => Answer::Memory,
+    }
 }
 
-fn write_two(alloc: Global) -> Result<Outcome, Memory> {
-    let header = [255, 255, 255, 255, 0, 0, 0, 3, 0, 0, 0, 0, 0, 0, 0, 5];
-    write_at(alloc, Format::Two, &header)
+fn of_object(made: Result<TextObject, Memory>, wanted: &[u8]) -> Answer {
+    match made {
+        Ok(object) => Answer::of(object.as_bytes() == wanted),
+        Err(Memory) => Answer::Memory,
+    }
 }
+
+fn of_entries(made: Result<Vec<(Text, Text)>, Memory>) -> Answer {
+    match made {
+        Ok(entries) => Answer::of(are_two(&entries)),
+        Err(Memory) => Answer::Memory,
+    }
+}
+
+fn of_append(done: Result<(), Memory>) -> Answer {
+    match done {
+        Ok(()) => Answer::Right,
+        Err(Memory) => Answer::Memory,
+    }
+}
+
+/// Whether the pair is this one.
+pub fn is_pair(pair: &(Text, Text), key: &[u8], value: &[u8]) -> bool {
+    is_text(&pair.0, key) && is_text(&pair.1, value)
+}
+
+fn are_two(entries: &[(Text, Text)]) -> bool {
+    match entries {
+        [one, two] => is_pair(one, b"a", b"1") && is_pair(two, b"e", b"2"),
+        _ => false,
+    }
+}
+
+impl Trial for Prepared {
+    fn call<R: Wait>(&mut self, _rt: &R) -> Answer {
+        let alloc = self.alloc;
+        let wanted = self.call.wanted();
+        match self.call {
+            Call::NewText | Call::CopyText => of_text(self.text(), wanted),
+            Call::DecodeText => of_decoded(Text::decode(alloc, &[0, 3, 97, 98, 99, 7]), wanted),
+            Call::Entries => of_entries(self.object.entries(alloc)),
+            Call::Value => of_value(self.object.value(alloc, &self.key), wanted),
+            Call::EncodeText | Call::EncodeNumber | Call::WriteOne | Call::WriteTwo => {
+                of_append(self.append()).and(self.is_appended())
+            }
+            _ => of_object(self.object(), wanted),
+        }
+    }
+
+    fn stands<R: Wait>(&mut self, _rt: &R) -> bool {
+        self.object.as_bytes() == TWO
+            && self.out.as_slice() == [9].as_slice()
+            && is_text(&self.key, self.call.key())
+    }
+}
+
+fn made<R: Wait>(rt: &R, alloc: Global, call: Call) -> Result<Outcome, Memory> {
+    Ok(tried(rt, &mut Prepared::new(alloc, call)?))
+}
+
+/// Each call.
+const CALLS: [(&str, Call); 15] = [
+    ("Text::new", Call::NewText),
+    ("Text::encode", Call::EncodeText),
+    ("u64::encode", Call::EncodeNumber),
+    ("Text::decode", Call::DecodeText),
+    ("Text::copy", Call::CopyText),
+    ("Object::empty", Call::Empty),
+    ("Object::of_pair", Call::OfPair),
+    ("Object::with, a new key", Call::WithNew),
+    ("Object::with, a known key", Call::WithKnown),
+    ("Object::without, a known key", Call::WithoutKnown),
+    ("Object::without, an unknown key", Call::WithoutUnknown),
+    ("Object::entries", Call::Entries),
+    ("Object::value", Call::Value),
+    ("Object::write_at, format one", Call::WriteOne),
+    ("Object::write_at, format two", Call::WriteTwo),
+];
 
 /// Makes each call and tells of it.
-pub fn tell_all(rt: &HostRuntime) -> io::Result<()> {
-    let alloc = rt.alloc();
-    tell(rt, "Text::new", Ok(new_text(alloc)))?;
-    tell(rt, "Text::encode", encode_text(alloc))?;
-    tell(rt, "u64::encode", encode_number(alloc))?;
-    tell(rt, "Text::decode", Ok(decode_text(alloc)))?;
-    tell(rt, "Text::copy", copy_text(alloc))?;
-    tell(rt, "Object::empty", Ok(empty(alloc)))?;
-    tell(rt, "Object::of_pair", of_pair(alloc))?;
-    tell(rt, "Object::with, a new key", with_new(alloc))?;
-    tell(rt, "Object::with, a known key", with_known(alloc))?;
-    tell(rt, "Object::without, a known key", without_known(alloc))?;
-    tell(
-        rt,
-        "Object::without, an unknown key",
-        without_unknown(alloc),
-    )?;
-    tell(rt, "Object::entries", entries(alloc))?;
-    tell(rt, "Object::value", value(alloc))?;
-    tell(rt, "Object::write_at, format one", write_one(alloc))?;
-    tell(rt, "Object::write_at, format two", write_two(alloc))
+pub fn tell_all<R: Alloc<A = Global> + Print + Wait>(rt: &R) -> io::Result<()> {
+    for (name, call) in CALLS {
+        tell(rt, name, made(rt, rt.alloc(), call))?;
+    }
+    Ok(())
 }

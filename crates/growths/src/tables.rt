@@ -3,17 +3,16 @@ ghost use Rattle.std.specs.Prelude.{◌≡◌, true};
 ghost use Rattle.version_words.specs.Rows.{limits_of};
 ghost use Rattle.hash_table.specs.Configs.{sizes_of};
 
+mod call;
 mod cases;
-mod deeds;
 mod prepared;
 
-use crate::outcome::{Outcome, tell};
+use crate::outcome::{Answer, Outcome, tell};
+use call::{Call, Deed, Place};
 use cases::{Case, make};
-use deeds::Deed;
 use far_device::FakeDevice;
 use far_object::{Memory, Text};
 use hash_table::{Config, OpenFault, Opening};
-use prepared::Place;
 use std::alloc::Global;
 use std::io;
 use std::marker::Brand;
@@ -32,6 +31,102 @@ const SETTINGS: Config = Config {
     format: 2,
 };
 
+/// Each call on a table.
+const CASES: [(&str, Case); 26] = [
+    ("FarTable::enter", Case::Enter),
+    (
+        "FarTable::try_get",
+        Case::Call(Call::Deed(Deed::TryGet), Place::Frame),
+    ),
+    (
+        "FarTable::open_scope",
+        Case::Call(Call::OpenScope, Place::Frame),
+    ),
+    ("TableScope::value", Case::Value),
+    (
+        "FarTable::read_through, a frame",
+        Case::Call(Call::Deed(Deed::ReadThrough), Place::Frame),
+    ),
+    (
+        "FarTable::read_through, the device",
+        Case::Call(Call::Deed(Deed::ReadThrough), Place::Device),
+    ),
+    (
+        "FarTable::get, a frame",
+        Case::Call(Call::Deed(Deed::Get), Place::Frame),
+    ),
+    (
+        "FarTable::get, the device",
+        Case::Call(Call::Deed(Deed::Get), Place::Device),
+    ),
+    (
+        "FarTable::try_put, a new key",
+        Case::Call(Call::Deed(Deed::TryPut), Place::Nowhere),
+    ),
+    (
+        "FarTable::try_put, a known key",
+        Case::Call(Call::Deed(Deed::TryPut), Place::Frame),
+    ),
+    (
+        "FarTable::put, a new key",
+        Case::Call(Call::Deed(Deed::Put), Place::Nowhere),
+    ),
+    (
+        "FarTable::put, a frame",
+        Case::Call(Call::Deed(Deed::Put), Place::Frame),
+    ),
+    (
+        "FarTable::put, the device",
+        Case::Call(Call::Deed(Deed::Put), Place::Device),
+    ),
+    (
+        "FarTable::try_remove",
+        Case::Call(Call::Deed(Deed::TryRemove), Place::Frame),
+    ),
+    (
+        "FarTable::remove, a frame",
+        Case::Call(Call::Deed(Deed::Remove), Place::Frame),
+    ),
+    (
+        "FarTable::remove, the device",
+        Case::Call(Call::Deed(Deed::Remove), Place::Device),
+    ),
+    (
+        "FarTable::try_put_if",
+        Case::Call(Call::Deed(Deed::TryPutIf), Place::Frame),
+    ),
+    (
+        "FarTable::put_if, a frame",
+        Case::Call(Call::Deed(Deed::PutIf), Place::Frame),
+    ),
+    (
+        "FarTable::put_if, the device",
+        Case::Call(Call::Deed(Deed::PutIf), Place::Device),
+    ),
+    ("FarTable::fetch", Case::Call(Call::Fetch, Place::Device)),
+    (
+        "FarTable::swap_out",
+        Case::Call(Call::SwapOut, Place::Frame),
+    ),
+    (
+        "FarTable::reclaim, a frame",
+        Case::Call(Call::Reclaim, Place::Frame),
+    ),
+    (
+        "FarTable::reclaim, the device",
+        Case::Call(Call::Reclaim, Place::Device),
+    ),
+    (
+        "FarTable::pairs_in, a frame",
+        Case::Call(Call::Pairs, Place::Frame),
+    ),
+    (
+        "FarTable::pairs_in, the device",
+        Case::Call(Call::Pairs, Place::Device),
+    ),
+    ("FarTable::close", Case::Close),
+];
+
 type NumberOpening = Opening<u64, Text, FakeDevice>;
 
 /// One device.
@@ -46,18 +141,26 @@ fn opened(alloc: Global) -> Result<NumberOpening, Memory> {
     NumberOpening::open(alloc, SETTINGS, devices(alloc)?).map_err(|_| Memory)
 }
 
+fn of_fault(fault: OpenFault) -> Answer {
+    Answer::refused(fault == OpenFault::Memory)
+}
+
+/// Whether a table is opened over these.
+fn open_over(alloc: Global, devices: Vec<FakeDevice>) -> Answer {
+    match NumberOpening::open(alloc, SETTINGS, devices) {
+        Ok(_) => Answer::Right,
+        Err(fault) => of_fault(fault),
+    }
+}
+
 /// Opens a table, and after a refusal, which drops its device, one over another device.
 fn open(alloc: Global) -> Result<Outcome, Memory> {
-    let first = devices(alloc)?;
-    let other = devices(alloc)?;
-    match NumberOpening::open(alloc, SETTINGS, first) {
-        Ok(_) => Ok(Outcome::Right),
-        Err(OpenFault::Memory) => {
-            let again = NumberOpening::open(alloc, SETTINGS, other);
-            Ok(Outcome::after_memory(again.is_ok()))
-        }
-        Err(_) => Ok(Outcome::Wrong),
+    let devices = (devices(alloc)?, devices(alloc)?);
+    let first = open_over(alloc, devices.0);
+    if first != Answer::Memory {
+        return Ok(Outcome::of(first, first));
     }
+    Ok(Outcome::of(first, open_over(alloc, devices.1)))
 }
 
 /// Names the table that was opened, and looks whether somebody can enter it.
@@ -70,22 +173,21 @@ fn is_named<J: Naming>(alloc: Global, opening: NumberOpening) -> Result<bool, Op
     Ok(table.enter().is_ok())
 }
 
-fn named_once(alloc: Global, opening: NumberOpening) -> Result<bool, OpenFault> {
-    is_named::<Brand>(alloc, opening)
+fn named_once(alloc: Global, opening: NumberOpening) -> Answer {
+    match is_named::<Brand>(alloc, opening) {
+        Ok(is_right) => Answer::of(is_right),
+        Err(fault) => of_fault(fault),
+    }
 }
 
 /// Names a table, and after a refusal, which drops it, another one.
 fn named(alloc: Global) -> Result<Outcome, Memory> {
-    let first = opened(alloc)?;
-    let other = opened(alloc)?;
-    match named_once(alloc, first) {
-        Ok(is_right) => Ok(Outcome::at_once(is_right)),
-        Err(OpenFault::Memory) => {
-            let again = named_once(alloc, other);
-            Ok(Outcome::after_memory(again == Ok(true)))
-        }
-        Err(_) => Ok(Outcome::Wrong),
+    let openings = (opened(alloc)?, opened(alloc)?);
+    let first = named_once(alloc, openings.0);
+    if first != Answer::Memory {
+        return Ok(Outcome::of(first, first));
     }
+    Ok(Outcome::of(first, named_once(alloc, openings.1)))
 }
 
 /// Makes a call on the table that was opened.
@@ -115,82 +217,7 @@ pub fn tell_all<R: Alloc<A = Global> + Print + Wait>(rt: &R) -> io::Result<()> {
     let alloc = rt.alloc();
     tell(rt, "Opening::open", open(alloc))?;
     tell(rt, "Opening::named", named(alloc))?;
-    for (name, case) in [
-        ("FarTable::enter", Case::Enter),
-        ("FarTable::try_get", Case::Deed(Deed::TryGet, Place::Frame)),
-        ("FarTable::open_scope", Case::OpenScope),
-        ("TableScope::value", Case::Value),
-        (
-            "FarTable::read_through, a frame",
-            Case::Deed(Deed::ReadThrough, Place::Frame),
-        ),
-        (
-            "FarTable::read_through, the device",
-            Case::Deed(Deed::ReadThrough, Place::Device),
-        ),
-        (
-            "FarTable::get, a frame",
-            Case::Deed(Deed::Get, Place::Frame),
-        ),
-        (
-            "FarTable::get, the device",
-            Case::Deed(Deed::Get, Place::Device),
-        ),
-        (
-            "FarTable::try_put, a new key",
-            Case::Deed(Deed::TryPut, Place::Nowhere),
-        ),
-        (
-            "FarTable::try_put, a known key",
-            Case::Deed(Deed::TryPut, Place::Frame),
-        ),
-        (
-            "FarTable::put, a new key",
-            Case::Deed(Deed::Put, Place::Nowhere),
-        ),
-        (
-            "FarTable::put, a frame",
-            Case::Deed(Deed::Put, Place::Frame),
-        ),
-        (
-            "FarTable::put, the device",
-            Case::Deed(Deed::Put, Place::Device),
-        ),
-        (
-            "FarTable::try_remove",
-            Case::Deed(Deed::TryRemove, Place::Frame),
-        ),
-        (
-            "FarTable::remove, a frame",
-            Case::Deed(Deed::Remove, Place::Frame),
-        ),
-        (
-            "FarTable::remove, the device",
-            Case::Deed(Deed::Remove, Place::Device),
-        ),
-        (
-            "FarTable::try_put_if",
-            Case::Deed(Deed::TryPutIf, Place::Frame),
-        ),
-        (
-            "FarTable::put_if, a frame",
-            Case::Deed(Deed::PutIf, Place::Frame),
-        ),
-        (
-            "FarTable::put_if, the device",
-            Case::Deed(Deed::PutIf, Place::Device),
-        ),
-        ("FarTable::fetch", Case::Fetch),
-        ("FarTable::swap_out", Case::SwapOut),
-        ("FarTable::reclaim, a frame", Case::Reclaim(Place::Frame)),
-        (
-            "FarTable::reclaim, the device",
-            Case::Reclaim(Place::Device),
-        ),
-        ("FarTable::pairs_in, a frame", Case::Pairs(Place::Frame)),
-        ("FarTable::pairs_in, the device", Case::Pairs(Place::Device)),
-        ("FarTable::close", Case::Close),
-    ] {
+    for (name, case) in CASES {
         tell(rt, name, made(rt, alloc, case))?;
     }
     Ok(())

@@ -1,8 +1,8 @@
 //! The calls on a keeper that was opened.
 
-use super::drawn::{Drawn, Row};
+use super::drawn::Drawn;
 use super::keeper::{Found, Keeper};
-use crate::outcome::Outcome;
+use crate::outcome::{Answer, Outcome, Trial, tried};
 use far_object::{Format, Memory};
 use lane_store::LaneFault;
 use std::alloc::Global;
@@ -10,13 +10,10 @@ use std::sync::Wait;
 use version_words::Naming;
 
 /// How many names are written one after another: the table of receipts grows more than once meanwhile.
-const MANY: u64 = 20;
+const MANY: usize = 20;
 
-/// More bytes than an object has in either format, so that a look at it takes no memory.
+/// How many bytes a list has room for: more than an object has in either format, so that a look at it takes no memory.
 const ROOM: usize = 100;
-
-/// The format in which another name's object is kept.
-const OTHER: Format = Format::One;
 
 /// Which call is made.
 #[derive(Clone, Copy)]
@@ -31,217 +28,39 @@ pub enum Case {
     Remove,
 }
 
-/// Whether the name has its receipt, and under it its object in this format.
-fn has<R: Wait, J: Naming>(
-    rt: &R,
-    keeper: &mut Keeper<J>,
-    seen: &mut Vec<u8>,
-    drawn: &Drawn<J>,
-    format: Format,
-) -> bool {
-    seen.clear();
-    match keeper.read(rt, drawn.name.number(), seen) {
-        Ok(Some(receipt)) => drawn.is_of(&receipt) && drawn.is_spelled(seen, format),
-        _ => false,
+impl Case {
+    /// How many names it takes: that of the call, and one beside it, which is written before.
+    pub fn names(self) -> usize {
+        match self {
+            Case::Many => MANY,
+            _ => 2,
+        }
     }
 }
 
-/// Whether no receipt stands for the name of this number. What is read behind the byte 9 leaves it alone.
-fn lacks<R: Wait, J: Naming>(
-    rt: &R,
-    keeper: &mut Keeper<J>,
-    seen: &mut Vec<u8>,
-    number: u64,
-) -> bool {
-    seen.clear();
-    if seen.push(9).is_err() {
-        return false;
-    }
-    match keeper.read(rt, number, seen) {
-        Ok(None) => seen.as_slice() == [9].as_slice(),
-        _ => false,
-    }
+/// A call with the last name that is told of.
+#[derive(Clone, Copy)]
+enum Call {
+    Write,
+    Read,
+    Remove,
 }
 
-/// A keeper that has the object of another name, and the name that a call is made with.
+/// A keeper with names, of which those before the place `at` are written, and that one may be.
 #[derive(Drop)]
-struct Prepared<J: Naming> {
+pub struct Prepared<J: Naming> {
     keeper: Keeper<J>,
-    other: Drawn<J>,
-    called: Drawn<J>,
+    names: Vec<Drawn<J>>,
+    /// What is looked at.
     seen: Vec<u8>,
-}
-
-impl<J: Naming> Prepared<J> {
-    /// A keeper in which nothing stands for the name that a call is made with.
-    fn without<R: Wait>(
-        rt: &R,
-        alloc: Global,
-        mut row: Row<J>,
-        mut keeper: Keeper<J>,
-    ) -> Result<Prepared<J>, Memory> {
-        let other = row.draw(alloc, 7)?;
-        let called = row.draw(alloc, 8)?;
-        let seen = Vec::with_capacity(alloc, ROOM)?;
-        match keeper.write(rt, &other, OTHER) {
-            Ok(()) => Ok(Prepared {
-                keeper,
-                other,
-                called,
-                seen,
-            }),
-            Err(_) => Err(Memory),
-        }
-    }
-
-    /// A keeper that has the name's object in this format.
-    fn with<R: Wait>(
-        rt: &R,
-        alloc: Global,
-        row: Row<J>,
-        keeper: Keeper<J>,
-        format: Format,
-    ) -> Result<Prepared<J>, Memory> {
-        let mut it = Prepared::without(rt, alloc, row, keeper)?;
-        match it.keeper.write(rt, &it.called, format) {
-            Ok(()) => Ok(it),
-            Err(_) => Err(Memory),
-        }
-    }
-
-    /// Whether the other name's object stands.
-    fn has_other<R: Wait>(&mut self, rt: &R) -> bool {
-        has(rt, &mut self.keeper, &mut self.seen, &self.other, OTHER)
-    }
-
-    /// Whether both names' objects stand, the called one's in this format.
-    fn has_both<R: Wait>(&mut self, rt: &R, format: Format) -> bool {
-        self.has_other(rt) && has(rt, &mut self.keeper, &mut self.seen, &self.called, format)
-    }
-
-    /// Whether the other name's object stands alone.
-    fn has_other_alone<R: Wait>(&mut self, rt: &R) -> bool {
-        let number = self.called.name.number();
-        self.has_other(rt) && lacks(rt, &mut self.keeper, &mut self.seen, number)
-    }
-}
-
-/// Writes the name. No receipt stands for it after a refusal, also where one stood before.
-fn write<R: Wait, J: Naming>(rt: &R, mut it: Prepared<J>, format: Format) -> Outcome {
-    match it.keeper.write(rt, &it.called, format) {
-        Ok(()) => Outcome::at_once(it.has_both(rt, format)),
-        Err(LaneFault::Memory) => {
-            let stands = it.has_other_alone(rt);
-            let again = it.keeper.write(rt, &it.called, format).is_ok();
-            Outcome::after_memory(stands && again && it.has_both(rt, format))
-        }
-        Err(LaneFault::Device) => Outcome::Wrong,
-    }
-}
-
-/// Names with their objects.
-fn draw_many<J: Naming>(alloc: Global, mut row: Row<J>) -> Result<Vec<Drawn<J>>, Memory> {
-    let mut all = Vec::with_capacity(alloc, MANY as usize)?;
-    for key in 0..MANY {
-        all.push(row.draw(alloc, key)?)?;
-    }
-    Ok(all)
-}
-
-/// Whether each of these names has its receipt and its object.
-fn has_all<R: Wait, J: Naming>(
-    rt: &R,
-    keeper: &mut Keeper<J>,
-    seen: &mut Vec<u8>,
-    all: &[Drawn<J>],
-) -> bool {
-    for drawn in all {
-        if !has(rt, keeper, seen, drawn, Format::Two) {
-            return false;
-        }
-    }
-    true
-}
-
-/// Writes the first name to an empty keeper, and then one after another, so that its table of receipts grows while some stand in it.
-fn write_many<R: Wait, J: Naming>(
-    rt: &R,
-    alloc: Global,
-    row: Row<J>,
-    mut keeper: Keeper<J>,
-) -> Result<Outcome, Memory> {
-    let all = draw_many(alloc, row)?;
-    let mut seen = Vec::with_capacity(alloc, ROOM)?;
-    let mut outcome = Outcome::Right;
-    for (at, drawn) in all.iter().enumerate() {
-        match keeper.write(rt, drawn, Format::Two) {
-            Ok(()) => {}
-            Err(LaneFault::Memory) => {
-                let stands = has_all(rt, &mut keeper, &mut seen, &all[..at])
-                    && lacks(rt, &mut keeper, &mut seen, drawn.name.number());
-                if !stands || keeper.write(rt, drawn, Format::Two).is_err() {
-                    return Ok(Outcome::Wrong);
-                }
-                outcome = Outcome::RightAgain;
-            }
-            Err(LaneFault::Device) => return Ok(Outcome::Wrong),
-        }
-    }
-    if has_all(rt, &mut keeper, &mut seen, &all) {
-        Ok(outcome)
-    } else {
-        Ok(Outcome::Wrong)
-    }
-}
-
-/// Whether a read answered the name's receipt, and its object in this format behind the byte 9.
-fn is_found<J: Naming>(drawn: &Drawn<J>, found: Found<J>, out: &[u8], format: Format) -> bool {
-    let Ok(Some(receipt)) = found else {
-        return false;
-    };
-    match out.split_first() {
-        None => false,
-        Some((first, rest)) => {
-            *first == 9 && drawn.is_of(&receipt) && drawn.is_spelled(rest, format)
-        }
-    }
-}
-
-/// Reads behind the byte 9, which stands after a refusal.
-fn read<R: Wait, J: Naming>(
-    rt: &R,
-    alloc: Global,
-    mut it: Prepared<J>,
+    /// What a read appends to: the byte 9.
+    out: Vec<u8>,
+    call: Call,
+    at: usize,
+    /// The format of the name at the place.
     format: Format,
-) -> Result<Outcome, Memory> {
-    let mut out = Vec::from_slice(alloc, &[9])?;
-    let number = it.called.name.number();
-    match it.keeper.read(rt, number, &mut out) {
-        Err(LaneFault::Memory) => {
-            let stands = out.as_slice() == [9].as_slice() && it.has_both(rt, format);
-            let again = it.keeper.read(rt, number, &mut out);
-            let is_right = is_found(&it.called, again, &out, format);
-            Ok(Outcome::after_memory(stands && is_right))
-        }
-        found => Ok(Outcome::at_once(is_found(&it.called, found, &out, format))),
-    }
-}
-
-/// Removes the name's object, which takes no memory in a device in the process.
-fn remove<R: Wait, J: Naming>(rt: &R, it: Prepared<J>) -> Outcome {
-    let Prepared {
-        mut keeper,
-        other,
-        called,
-        mut seen,
-    } = it;
-    let number = called.name.number();
-    let found = keeper.remove(rt, called) == Ok(true);
-    Outcome::at_once(
-        found
-            && lacks(rt, &mut keeper, &mut seen, number)
-            && has(rt, &mut keeper, &mut seen, &other, OTHER),
-    )
+    /// The format of those before it.
+    others: Format,
 }
 
 /// The other format.
@@ -252,31 +71,220 @@ fn other_format(format: Format) -> Format {
     }
 }
 
-/// Makes the call of the case on the keeper.
-pub fn make<R: Wait, J: Naming>(
-    rt: &R,
-    alloc: Global,
-    case: Case,
-    row: Row<J>,
-    keeper: Keeper<J>,
-) -> Result<Outcome, Memory> {
-    match case {
-        Case::New(format) => {
-            let it = Prepared::without(rt, alloc, row, keeper)?;
-            Ok(write(rt, it, format))
+impl<J: Naming> Prepared<J> {
+    /// An empty keeper.
+    pub fn new(alloc: Global, keeper: Keeper<J>, names: Vec<Drawn<J>>) -> Result<Self, Memory> {
+        let seen = Vec::with_capacity(alloc, ROOM)?;
+        let out = Vec::from_slice(alloc, &[9])?;
+        Ok(Prepared {
+            keeper,
+            names,
+            seen,
+            out,
+            call: Call::Write,
+            at: 0,
+            format: Format::One,
+            others: Format::One,
+        })
+    }
+
+    /// The format of the name at this place.
+    fn format_at(&self, at: usize) -> Format {
+        if at == self.at {
+            self.format
+        } else {
+            self.others
         }
-        Case::Known(format) => {
-            let it = Prepared::with(rt, alloc, row, keeper, other_format(format))?;
-            Ok(write(rt, it, format))
+    }
+
+    /// Writes the name at the place in its format.
+    fn write<R: Wait>(&mut self, rt: &R) -> Answer {
+        match self.names.get(self.at) {
+            Some(drawn) => of_written(self.keeper.write(rt, drawn, self.format)),
+            None => Answer::Wrong,
         }
-        Case::Many => write_many(rt, alloc, row, keeper),
-        Case::Read => {
-            let it = Prepared::with(rt, alloc, row, keeper, Format::Two)?;
-            read(rt, alloc, it, Format::Two)
+    }
+
+    /// Whether the name at this place has its receipt, and under it its object in its format.
+    fn has<R: Wait>(&mut self, rt: &R, at: usize) -> bool {
+        let format = self.format_at(at);
+        let Some(drawn) = self.names.get(at) else {
+            return false;
+        };
+        self.seen.clear();
+        let found = self.keeper.read(rt, drawn.name.number(), &mut self.seen);
+        is_found(drawn, found, &self.seen, format)
+    }
+
+    /// Whether each name below this place has.
+    fn has_below<R: Wait>(&mut self, rt: &R, end: usize) -> bool {
+        let mut has_all = true;
+        for at in 0..end {
+            has_all &= self.has(rt, at);
         }
-        Case::Remove => {
-            let it = Prepared::with(rt, alloc, row, keeper, Format::One)?;
-            Ok(remove(rt, it))
+        has_all
+    }
+
+    /// Whether no receipt stands for this name. What is read behind the byte 9 leaves it alone.
+    fn lacks<R: Wait>(&mut self, rt: &R, number: u64) -> bool {
+        self.seen.clear();
+        if self.seen.push(9).is_err() {
+            return false;
         }
+        is_none(self.keeper.read(rt, number, &mut self.seen)) && is_nine(&self.seen)
+    }
+
+    /// The name at the place, and 0 where there is none.
+    fn number(&self) -> u64 {
+        match self.names.get(self.at) {
+            Some(drawn) => drawn.name.number(),
+            None => 0,
+        }
+    }
+
+    /// Reads the name at the place behind the byte 9.
+    fn read<R: Wait>(&mut self, rt: &R) -> Answer {
+        let Some(drawn) = self.names.get(self.at) else {
+            return Answer::Wrong;
+        };
+        match self.keeper.read(rt, drawn.name.number(), &mut self.out) {
+            Err(fault) => of_fault(fault),
+            found => Answer::of(is_found_behind_nine(drawn, found, &self.out, self.format)),
+        }
+    }
+
+    /// Removes the last name's object.
+    fn remove<R: Wait>(&mut self, rt: &R) -> Answer {
+        match self.names.pop() {
+            Some(drawn) => of_removed(self.keeper.remove(rt, drawn)),
+            None => Answer::Wrong,
+        }
+    }
+
+    /// Sets the place and the format, and writes the name there.
+    fn put<R: Wait>(&mut self, rt: &R, at: usize, format: Format) -> Result<(), Memory> {
+        self.at = at;
+        self.format = format;
+        if self.write(rt) == Answer::Right {
+            Ok(())
+        } else {
+            Err(Memory)
+        }
+    }
+
+    /// Prepares the call of the case. The first name is kept in the first format.
+    fn ready<R: Wait>(&mut self, rt: &R, case: Case) -> Result<(), Memory> {
+        self.put(rt, 0, Format::One)?;
+        match case {
+            Case::Known(format) => self.put(rt, 1, other_format(format))?,
+            Case::Read => self.put(rt, 1, Format::Two)?,
+            Case::Remove => self.put(rt, 1, Format::One)?,
+            _ => {}
+        }
+        self.at = 1;
+        Ok(())
+    }
+
+    /// Writes the first name to the empty keeper, and then one after another, so that its table of receipts grows while some
+    /// stand in it.
+    fn write_many<R: Wait>(mut self, rt: &R) -> Outcome {
+        let mut outcome = Outcome::Right;
+        (self.format, self.others) = (Format::Two, Format::Two);
+        for at in 0..MANY {
+            self.at = at;
+            outcome = outcome.and(tried(rt, &mut self));
+        }
+        outcome
+    }
+
+    /// Makes the call of the case.
+    pub fn make<R: Wait>(mut self, rt: &R, case: Case) -> Result<Outcome, Memory> {
+        if matches!(case, Case::Many) {
+            return Ok(self.write_many(rt));
+        }
+        self.ready(rt, case)?;
+        match case {
+            Case::New(format) | Case::Known(format) => self.format = format,
+            Case::Read => self.call = Call::Read,
+            Case::Remove => self.call = Call::Remove,
+            Case::Many => {}
+        }
+        Ok(tried(rt, &mut self))
+    }
+}
+
+impl<J: Naming> Trial for Prepared<J> {
+    fn call<R: Wait>(&mut self, rt: &R) -> Answer {
+        let at = self.at;
+        let number = self.number();
+        match self.call {
+            Call::Write => self.write(rt).and(self.has_below(rt, at.wrapping_add(1))),
+            Call::Read => self.read(rt),
+            Call::Remove => self
+                .remove(rt)
+                .and(self.has_below(rt, at) && self.lacks(rt, number)),
+        }
+    }
+
+    /// No receipt stands for a name whose write was refused, also where one stood before.
+    fn stands<R: Wait>(&mut self, rt: &R) -> bool {
+        let at = self.at;
+        let number = self.number();
+        match self.call {
+            Call::Write => self.has_below(rt, at) && self.lacks(rt, number),
+            Call::Read => is_nine(&self.out) && self.has_below(rt, at.wrapping_add(1)),
+            Call::Remove => false,
+        }
+    }
+}
+
+fn is_nine(bytes: &[u8]) -> bool {
+    bytes == [9].as_slice()
+}
+
+/// Whether a read told that no receipt stands.
+fn is_none<J: Naming>(found: Found<J>) -> bool {
+    match found {
+        Ok(receipt) => receipt.is_none(),
+        Err(_) => false,
+    }
+}
+
+/// Whether a read answered the name's receipt, and its object in this format.
+fn is_found<J: Naming>(drawn: &Drawn<J>, found: Found<J>, bytes: &[u8], format: Format) -> bool {
+    match found {
+        Ok(Some(receipt)) => drawn.is_of(&receipt) && drawn.is_spelled(bytes, format),
+        _ => false,
+    }
+}
+
+/// The same behind the byte 9.
+fn is_found_behind_nine<J: Naming>(
+    drawn: &Drawn<J>,
+    found: Found<J>,
+    out: &[u8],
+    format: Format,
+) -> bool {
+    match out.split_first() {
+        Some((first, rest)) => *first == 9 && is_found(drawn, found, rest, format),
+        None => false,
+    }
+}
+
+fn of_fault(fault: LaneFault) -> Answer {
+    Answer::refused(fault == LaneFault::Memory)
+}
+
+fn of_written(written: Result<(), LaneFault>) -> Answer {
+    match written {
+        Ok(()) => Answer::Right,
+        Err(fault) => of_fault(fault),
+    }
+}
+
+fn of_removed(removed: Result<bool, LaneFault>) -> Answer {
+    match removed {
+        Ok(found) => Answer::of(found),
+        Err(fault) => of_fault(fault),
     }
 }

@@ -17,15 +17,6 @@ const BUCKET: u32 = 3;
 /// How many bytes stand before the object in the second format.
 const HEADER: usize = 16;
 
-/// The object that maps this key to itself. It is made in one growth, since each growth before a call is refused too.
-fn object_of(alloc: Global, key: u64) -> Result<Object<u64, u64>, Memory> {
-    let mut bytes = Vec::with_capacity(alloc, 20)?;
-    bytes.extend_from_slice(&[0, 0, 0, 1])?;
-    bytes.extend_from_slice(&key.to_be_bytes())?;
-    bytes.extend_from_slice(&key.to_be_bytes())?;
-    Object::read(bytes).map_err(|_| Memory)
-}
-
 /// A row of words, with a pass that draws names.
 #[derive(Drop)]
 pub struct Row<J: Naming> {
@@ -46,9 +37,8 @@ impl<J: Naming> Row<J> {
         }
     }
 
-    /// Draws the next name, for the object that maps this key to itself.
-    pub fn draw(&mut self, alloc: Global, key: u64) -> Result<Drawn<J>, Memory> {
-        let object = object_of(alloc, key)?;
+    /// Draws the next name, for this object.
+    fn draw(&mut self, object: Object<u64, u64>) -> Result<Drawn<J>, Memory> {
         if BUCKET >= self.words.buckets() {
             return Err(Memory);
         }
@@ -56,6 +46,16 @@ impl<J: Naming> Row<J> {
             Ok(name) => Ok(Drawn { name, object }),
             Err(_) => Err(Memory),
         }
+    }
+
+    /// Draws so many names, each for the object that maps its place to itself.
+    pub fn draw_some(&mut self, alloc: Global, count: usize) -> Result<Vec<Drawn<J>>, Memory> {
+        let mut all = Vec::with_capacity(alloc, count)?;
+        for key in 0..count {
+            let key = key as u64;
+            all.push(self.draw(Object::of_pair(alloc, &key, &key)?)?)?;
+        }
+        Ok(all)
     }
 }
 
@@ -73,19 +73,27 @@ impl<J: Naming> Drawn<J> {
         receipt.number() == self.name.number() && receipt.bucket() == self.name.bucket()
     }
 
+    /// What stands before the object in the second format.
+    fn header(&self) -> u128 {
+        let bucket = u128::from(self.name.bucket());
+        let number = u128::from(self.name.number());
+        (0xffff_ffff << 96) | (bucket << 64) | number
+    }
+
     /// Whether these bytes are the object in this format.
     pub fn is_spelled(&self, bytes: &[u8], format: Format) -> bool {
         match format {
             Format::One => bytes == self.object.as_bytes(),
-            Format::Two => {
-                let bucket = self.name.bucket().to_be_bytes();
-                let number = self.name.number().to_be_bytes();
-                bytes.len() >= HEADER
-                    && &bytes[..4] == [0xff; 4].as_slice()
-                    && &bytes[4..8] == bucket.as_slice()
-                    && &bytes[8..HEADER] == number.as_slice()
-                    && &bytes[HEADER..] == self.object.as_bytes()
+            Format::Two => self.is_behind_header(bytes),
+        }
+    }
+
+    fn is_behind_header(&self, bytes: &[u8]) -> bool {
+        match bytes.split_first_chunk::<HEADER>() {
+            Some((header, object)) => {
+                u128::from_be_bytes(*header) == self.header() && object == self.object.as_bytes()
             }
+            None => false,
         }
     }
 

@@ -4,4 +4,4 @@ use Rattle.growths.proofs.passes.gathered.Given as goal
 
 -- the row that was just opened
 abbrev pub ghosts-gather : goal.ghosts-gather
-ghosts-gather a = record { book = a.opened.book; names = a.opened.names; limits = limits_of a.opened.sizes false }
+ghosts-gather g a = record { book = a.opened.book; names = a.opened.names; limits = limits_of a.opened.sizes false }
