@@ -1,7 +1,7 @@
 //! What calls are measured against: a compare-exchange and nothing else, on a word without a proof.
 
 use crate::setting::Setting;
-use crate::together::{Lost, Runner, Took, together};
+use crate::together::{Lost, Runner, Took, runners, together};
 use anyhow::Result;
 use std::alloc::{AllocError, Global};
 use std::rt::Clock;
@@ -50,7 +50,7 @@ fn raise(word: &AtomicU64, rounds: u32) -> Lost {
             Ok(_) => seen = next,
             Err(found) => {
                 seen = found;
-                lost.words = lost.words.wrapping_add(1);
+                lost = lost.unless(false);
             }
         }
     }
@@ -64,10 +64,12 @@ pub fn on_plain<R: Clock + Threads + Wait + Sync>(
     plain: &Plain,
     setting: Setting,
 ) -> Result<Took> {
-    let mut runners = Vec::with_capacity(alloc, setting.threads as usize)?;
-    for thread in 0..setting.threads {
-        let place = setting.layout.place(thread);
-        runners.push(Raises { place })?;
-    }
-    together(rt, plain, runners, setting.rounds)
+    let raises = runners(
+        alloc,
+        setting.threads,
+        |thread| Ok(Raises {
+            place: setting.layout.place(thread),
+        }),
+    )?;
+    together(rt, plain, raises, setting.rounds)
 }

@@ -9,7 +9,7 @@ use crate::tenths::Tenths;
 use anyhow::{Result, bail};
 use far_device::FakeDevice;
 use hash_table::{Config, FarTable, Opening};
-use spares::Bench;
+use spares::{collecting, handing, plain, turns};
 use std::alloc::Global;
 use std::marker::Brand;
 use std::rt::Clock;
@@ -41,8 +41,8 @@ enum Work {
     Collecting(u32),
 }
 
-/// The nanoseconds of the work, over a table with so many frames.
-fn time<R: Clock + Wait>(rt: &R, alloc: Global, frames: u32, work: Work) -> Result<u64> {
+/// A table with so many frames that has no name yet.
+fn opened(alloc: Global, frames: u32) -> Result<Opening<u64, u64, FakeDevice>> {
     let config = Config {
         buckets: frames,
         frames,
@@ -53,10 +53,13 @@ fn time<R: Clock + Wait>(rt: &R, alloc: Global, frames: u32, work: Work) -> Resu
         spares: ROOM,
         format: 2,
     };
-    let mut devices = Vec::with_capacity(alloc, 1)?;
-    devices.push(FakeDevice::new(alloc))?;
-    let opening = Opening::<u64, u64, FakeDevice>::open(alloc, config, devices)?;
-    over_table::<R, Brand>(rt, alloc, opening, frames, work)
+    let devices = Vec::from_array(alloc, [FakeDevice::new(alloc)])?;
+    Ok(Opening::open(alloc, config, devices)?)
+}
+
+/// The nanoseconds of the work, over a table with so many frames.
+fn time<R: Clock + Wait>(rt: &R, alloc: Global, frames: u32, work: Work) -> Result<u64> {
+    over_table::<R, Brand>(rt, alloc, opened(alloc, frames)?, frames, work)
 }
 
 fn over_table<R: Clock + Wait, J: Naming>(
@@ -88,25 +91,28 @@ fn over_queue<R: Clock + Wait, J: Naming, B: QueueNaming>(
     let Ok((queue, taker, seats)) = queue.named::<B>(alloc, 1) else {
         bail!("there is no memory for seats");
     };
-    let mut bench = Bench::new(alloc, table, queue, taker, seats)?;
     match work {
-        Work::Turns => bench.turns(rt, frames, TURNS),
-        Work::Handing(rounds) => bench.handing(rt, rounds),
-        Work::Plain(rounds) => bench.plain(rt, ROOM, rounds),
-        Work::Collecting(spares) => bench.collecting(rt, frames, spares),
+        Work::Turns => turns(rt, alloc, &table, &queue, taker, frames, TURNS),
+        Work::Collecting(spares) => {
+            collecting(rt, alloc, &table, &queue, taker, seats, frames, spares)
+        }
+        Work::Handing(rounds) => handing(rt, alloc, &table, queue, taker, seats, rounds),
+        Work::Plain(rounds) => plain(rt, alloc, &table, ROOM, rounds),
     }
 }
 
-/// Prints the nanoseconds of turns, of so many hand-overs with takes, and of collectings.
-///
-/// An error comes where memory, the clock or the output fails, or the table refuses a call.
-pub fn measure<R: Alloc<A = Global> + Clock + Print + Wait>(rt: &R, rounds: u32) -> Result<()> {
-    let alloc = rt.alloc();
+/// Prints the nanoseconds of turns.
+fn print_turns<R: Clock + Print + Wait>(rt: &R, alloc: Global) -> Result<()> {
     println!(rt; "{TURN_HEAD}")?;
     for frames in [1_024, 16_384, 65_536u32] {
         let turn = Tenths::quotient(time(rt, alloc, frames, Work::Turns)?, u64::from(TURNS));
         println!(rt; "{frames:>7}{turn}")?;
     }
+    Ok(())
+}
+
+/// Prints the nanoseconds of so many hand-overs with takes.
+fn print_handing<R: Clock + Print + Wait>(rt: &R, alloc: Global, rounds: u32) -> Result<()> {
     let through = time(rt, alloc, 16, Work::Handing(rounds))?;
     let bare = time(rt, alloc, 16, Work::Plain(rounds))?;
     let part = Tenths::percentage(through, bare);
@@ -114,6 +120,11 @@ pub fn measure<R: Alloc<A = Global> + Clock + Print + Wait>(rt: &R, rounds: u32)
     let plain = Tenths::quotient(bare, u64::from(rounds));
     println!(rt; "{HANDING_HEAD}")?;
     println!(rt; "{through}{plain}{part}")?;
+    Ok(())
+}
+
+/// Prints the nanoseconds of collectings.
+fn print_collecting<R: Clock + Print + Wait>(rt: &R, alloc: Global) -> Result<()> {
     println!(rt; "{COLLECTING_HEAD}")?;
     for spares in [64, 512, 4_096u32] {
         let took = time(rt, alloc, 8_192, Work::Collecting(spares))?;
@@ -121,4 +132,14 @@ pub fn measure<R: Alloc<A = Global> + Clock + Print + Wait>(rt: &R, rounds: u32)
         println!(rt; "{spares:>7}{each}")?;
     }
     Ok(())
+}
+
+/// Prints the nanoseconds of turns, of so many hand-overs with takes, and of collectings.
+///
+/// An error comes where memory, the clock or the output fails, or the table refuses a call.
+pub fn measure<R: Alloc<A = Global> + Clock + Print + Wait>(rt: &R, rounds: u32) -> Result<()> {
+    let alloc = rt.alloc();
+    print_turns(rt, alloc)?;
+    print_handing(rt, alloc, rounds)?;
+    print_collecting(rt, alloc)
 }

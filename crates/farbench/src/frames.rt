@@ -5,12 +5,13 @@ ghost use Rattle.version_words.specs.Rows.{limits_of};
 use crate::bare::{Plain, on_plain};
 use crate::setting::{Layout, MOST_THREADS, Setting};
 use crate::tenths::Tenths;
-use crate::together::{Lost, Runner, Took, together};
+use crate::together::{Lost, Runner, Took, runners, together};
 use crate::unvouched::Unvouched;
 use anyhow::{Result, bail};
 use far_object::Object;
 use frame_cache::{Frames, Missed, NoFrame, Version};
 use std::alloc::Global;
+use std::io;
 use std::marker::Brand;
 use std::rt::Clock;
 use std::sync::Wait;
@@ -33,6 +34,16 @@ const BUCKET: u32 = 0;
 /// two stands how many found no frame, or missed, in percent. All threads enter one frame, or each its own.
 const HEAD: &str =
     " frames threads   where     reserve       none%       enter     missed%    exchange";
+
+/// Threads, and where they are.
+const SETTINGS: [(u32, Layout); 6] = [
+    (1, Layout::One),
+    (1, Layout::Apart),
+    (2, Layout::One),
+    (2, Layout::Apart),
+    (4, Layout::One),
+    (4, Layout::Apart),
+];
 
 /// Reserves a frame and leaves it free.
 #[derive(Drop)]
@@ -83,13 +94,12 @@ fn fill<J: Naming>(
     if BUCKET >= words.buckets() {
         bail!("there is no bucket");
     }
-    let object = Object::empty(alloc)?.with(alloc, &0, &0)?;
+    let object = Object::of_pair(alloc, &0, &0)?;
+    let Ok(name) = words.name(pass, BUCKET, &object) else {
+        bail!("no name is left");
+    };
     let Ok(reserved) = frames.reserve() else {
         bail!("no frame is free");
-    };
-    let Ok(name) = words.name(pass, BUCKET, &object) else {
-        reserved.cancel();
-        bail!("no name is left");
     };
     let version = Version::new(&name, object);
     Ok(Enters {
@@ -105,11 +115,20 @@ fn on_reserves<R: Clock + Threads + Wait + Sync, J: Naming + Send + Sync>(
     frames: &Frames<u64, u64, J>,
     setting: Setting,
 ) -> Result<Took> {
-    let mut runners = Vec::with_capacity(alloc, setting.threads as usize)?;
-    for _ in 0..setting.threads {
-        runners.push(Reserves)?;
+    let reserves = runners(alloc, setting.threads, |_| Ok(Reserves))?;
+    together(rt, frames, reserves, setting.rounds)
+}
+
+/// What this thread enters.
+fn enters_of(filled: &[Enters], setting: Setting, thread: u32) -> Result<Enters> {
+    let own = match setting.layout {
+        Layout::One => 0,
+        Layout::Beside | Layout::Apart => thread as usize,
+    };
+    match filled.get(own) {
+        Some(enters) => Ok(*enters),
+        None => bail!("too few frames are filled"),
     }
-    together(rt, frames, runners, setting.rounds)
 }
 
 /// The time of enters, each with its close.
@@ -117,46 +136,73 @@ fn on_enters<R: Clock + Threads + Wait + Sync, J: Naming + Send + Sync>(
     rt: &R,
     alloc: Global,
     frames: &Frames<u64, u64, J>,
-    filled: &Vec<Enters>,
+    filled: &[Enters],
     setting: Setting,
 ) -> Result<Took> {
-    let mut runners = Vec::with_capacity(alloc, setting.threads as usize)?;
-    for thread in 0..setting.threads {
-        let own = match setting.layout {
-            Layout::One => 0,
-            Layout::Beside | Layout::Apart => thread as usize,
-        };
-        let Some(enters) = filled.get(own) else {
-            bail!("too few frames are filled");
-        };
-        runners.push(*enters)?;
-    }
-    together(rt, frames, runners, setting.rounds)
+    let enters = runners(
+        alloc,
+        setting.threads,
+        |thread| enters_of(filled, setting, thread),
+    )?;
+    together(rt, frames, enters, setting.rounds)
 }
 
-/// Measures one setting, and prints it.
-fn row_of_table<R: Clock + Print + Threads + Wait + Sync, J: Naming + Send + Sync>(
+/// What one setting took.
+#[derive(Clone, Copy)]
+struct Figures {
+    reserves: Took,
+    enters: Took,
+    bare: Took,
+}
+
+/// Measures one setting.
+fn times<R: Clock + Threads + Wait + Sync, J: Naming + Send + Sync>(
     rt: &R,
     alloc: Global,
     frames: &Frames<u64, u64, J>,
-    filled: &Vec<Enters>,
+    filled: &[Enters],
     plain: &Plain,
     setting: Setting,
-) -> Result<()> {
-    let reserves = on_reserves(rt, alloc, frames, setting)?;
-    let enters = on_enters(rt, alloc, frames, filled, setting)?;
-    let bare = on_plain(rt, alloc, plain, setting)?;
+) -> Result<Figures> {
+    Ok(Figures {
+        reserves: on_reserves(rt, alloc, frames, setting)?,
+        enters: on_enters(rt, alloc, frames, filled, setting)?,
+        bare: on_plain(rt, alloc, plain, setting)?,
+    })
+}
+
+/// Prints what one setting took, with so many filled frames.
+fn print_row<R: Print>(rt: &R, times: Figures, filled: usize, setting: Setting) -> io::Result<()> {
     let rounds = u64::from(setting.threads).wrapping_mul(u64::from(setting.rounds));
-    let reserve = Tenths::quotient(reserves.nanoseconds, rounds);
-    let none = Tenths::percentage(reserves.lost.words, rounds);
-    let enter = Tenths::quotient(enters.nanoseconds, rounds);
-    let missed = Tenths::percentage(enters.lost.words, rounds);
-    let exchange = Tenths::quotient(bare.nanoseconds, rounds);
-    let count = filled.len() as u64 + u64::from(FREE);
+    let reserve = Tenths::quotient(times.reserves.nanoseconds, rounds);
+    let none = Tenths::percentage(times.reserves.lost.words, rounds);
+    let enter = Tenths::quotient(times.enters.nanoseconds, rounds);
+    let missed = Tenths::percentage(times.enters.lost.words, rounds);
+    let exchange = Tenths::quotient(times.bare.nanoseconds, rounds);
+    let count = (filled as u64).wrapping_add(u64::from(FREE));
     let threads = setting.threads;
     let layout = setting.layout.name();
-    println!(rt; "{count:>7} {threads:>7} {layout:>7}{reserve}{none}{enter}{missed}{exchange}")?;
-    Ok(())
+    println!(rt; "{count:>7} {threads:>7} {layout:>7}{reserve}{none}{enter}{missed}{exchange}")
+}
+
+/// Fills all of so many frames but the last few.
+fn fill_most<J: Naming>(
+    alloc: Global,
+    opened: Opened<u64, u64, Unvouched>,
+    frames: &Frames<u64, u64, J>,
+    count: u32,
+) -> Result<Vec<Enters>>
+    requires named { (opened.book ≡ J.book) × (opened.names ≡ J.names) × (limits_of opened.sizes false ≡ J.limits) }
+{
+    let mut filled = Vec::with_capacity(alloc, count as usize)?;
+    let words = opened.named::<J>();
+    let Ok(mut pass) = words.enter() else {
+        bail!("no pass is left");
+    };
+    for _ in FREE..count {
+        filled.push(fill(alloc, &words, &mut pass, frames)?)?;
+    }
+    Ok(filled)
 }
 
 /// Fills all frames but the last few, measures each setting, and prints the table.
@@ -170,26 +216,18 @@ fn table<R: Clock + Print + Threads + Wait + Sync, J: Naming + Send + Sync>(
     requires named { (opened.book ≡ J.book) × (opened.names ≡ J.names) × (limits_of opened.sizes false ≡ J.limits) }
     requires few { count ≤ 65536 }
 {
-    let words = opened.named::<J>();
-    let Ok(mut pass) = words.enter() else {
-        bail!("no pass is left");
-    };
     let frames: Frames<u64, u64, J> = Frames::open(alloc, count)?;
-    let mut filled = Vec::with_capacity(alloc, count as usize)?;
-    for _ in FREE..count {
-        filled.push(fill(alloc, &words, &mut pass, &frames)?)?;
-    }
+    let filled = fill_most(alloc, opened, &frames, count)?;
     let plain = Plain::new(alloc, 16 * MOST_THREADS)?;
     println!(rt; "{HEAD}")?;
-    for threads in [1, 2, 4] {
-        for layout in [Layout::One, Layout::Apart] {
-            let setting = Setting {
-                threads,
-                layout,
-                rounds,
-            };
-            row_of_table(rt, alloc, &frames, &filled, &plain, setting)?;
-        }
+    for (threads, layout) in SETTINGS {
+        let setting = Setting {
+            threads,
+            layout,
+            rounds,
+        };
+        let times = times(rt, alloc, &frames, &filled, &plain, setting)?;
+        print_row(rt, times, filled.len(), setting)?;
     }
     Ok(())
 }

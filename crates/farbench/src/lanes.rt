@@ -12,6 +12,7 @@ use far_object::{Format, Object, Text};
 use lane_store::LaneStore;
 use rounds::{Draws, Names, OnDevice, OnLane, Reads, Round};
 use std::alloc::Global;
+use std::io;
 use std::marker::Brand;
 use std::rt::Clock;
 use std::sync::Wait;
@@ -52,6 +53,12 @@ fn time<R: Clock + Wait, N, T: Round<N>>(
     Ok(u64::try_from(elapsed.as_nanos())?)
 }
 
+/// A store of one lane.
+fn one_lane<J: Naming>(alloc: Global) -> Result<LaneStore<u64, Text, J, FakeDevice>> {
+    let devices = Vec::from_array(alloc, [FakeDevice::new(alloc)])?;
+    Ok(LaneStore::open(alloc, devices)?)
+}
+
 /// The nanoseconds of so many rounds through a lane of its own.
 fn on_lane<R: Clock + Wait, J: Naming>(
     rt: &R,
@@ -60,11 +67,68 @@ fn on_lane<R: Clock + Wait, J: Naming>(
     format: Format,
     rounds: u32,
 ) -> Result<u64> {
-    let mut devices = Vec::with_capacity(alloc, 1)?;
-    devices.push(FakeDevice::new(alloc))?;
-    let store = LaneStore::open(alloc, devices)?;
-    let mut round = OnLane { store, format };
-    time(rt, alloc, names, &mut round, rounds)
+    let store = one_lane(alloc)?;
+    time(rt, alloc, names, &mut OnLane { store, format }, rounds)
+}
+
+/// What the rounds took.
+#[derive(Clone, Copy)]
+struct Figures {
+    drawing: u64,
+    bare: u64,
+    in_one: u64,
+    in_two: u64,
+}
+
+impl Figures {
+    /// Prints them, of so many rounds with an object of so many bytes.
+    fn print<R: Print>(self, rt: &R, bytes: usize, rounds: u32) -> io::Result<()> {
+        let count = u64::from(rounds);
+        let draw = Tenths::quotient(self.drawing, count);
+        let device = Tenths::quotient(self.bare, count);
+        let one = Tenths::quotient(self.in_one, count);
+        let two = Tenths::quotient(self.in_two, count);
+        let one_part = Tenths::percentage(self.in_one, self.bare);
+        let two_part = Tenths::percentage(self.in_two, self.bare);
+        println!(rt; "{HEAD}")?;
+        println!(rt; "{bytes:>7}{draw}{device}{one}{two}{one_part}{two_part}")
+    }
+}
+
+/// Measures each kind of round.
+fn times<R: Clock + Wait, J: Naming>(
+    rt: &R,
+    alloc: Global,
+    names: &mut Names<J>,
+    rounds: u32,
+) -> Result<Figures> {
+    let device = FakeDevice::new(alloc);
+    Ok(Figures {
+        drawing: time(rt, alloc, names, &mut Draws, rounds)?,
+        bare: time(rt, alloc, names, &mut OnDevice { device }, rounds)?,
+        in_one: on_lane(rt, alloc, names, Format::One, rounds)?,
+        in_two: on_lane(rt, alloc, names, Format::Two, rounds)?,
+    })
+}
+
+/// Names of the row that was opened, for the object of one pair with a value of so many bytes.
+fn names<J: Naming>(
+    alloc: Global,
+    opened: Opened<u64, Text, Unvouched>,
+    bytes: usize,
+) -> Result<Names<J>>
+    requires { (opened.book ≡ J.book) × (opened.names ≡ J.names) × (limits_of opened.sizes false ≡ J.limits) }
+{
+    let object = object_of(alloc, bytes)?;
+    match Names::<J>::new(opened, object) {
+        Some(names) => Ok(names),
+        None => bail!("no pass is left"),
+    }
+}
+
+fn object_of(alloc: Global, bytes: usize) -> Result<Object<u64, Text>> {
+    let value = Text::new(alloc, Vec::from_elem(alloc, 7, bytes)?.as_slice())?;
+    Ok(Object::of_pair(alloc, &0, &value)?)
 }
 
 /// Measures each kind of round, and prints the table.
@@ -76,46 +140,25 @@ fn table<R: Clock + Print + Wait, J: Naming>(
 ) -> Result<()>
     requires { (opened.book ≡ J.book) × (opened.names ≡ J.names) × (limits_of opened.sizes false ≡ J.limits) }
 {
-    let value = Text::new(alloc, &[7; VALUE])?;
-    let object = Object::empty(alloc)?.with(alloc, &0, &value)?;
-    let Some(mut names) = Names::<J>::new(opened, object) else {
-        bail!("no pass is left");
-    };
-    let device = FakeDevice::new(alloc);
-    let drawing = time(rt, alloc, &mut names, &mut Draws, rounds)?;
-    let bare = time(rt, alloc, &mut names, &mut OnDevice { device }, rounds)?;
-    let in_one = on_lane(rt, alloc, &mut names, Format::One, rounds)?;
-    let in_two = on_lane(rt, alloc, &mut names, Format::Two, rounds)?;
-    let count = u64::from(rounds);
-    let draw = Tenths::quotient(drawing, count);
-    let device = Tenths::quotient(bare, count);
-    let one = Tenths::quotient(in_one, count);
-    let two = Tenths::quotient(in_two, count);
-    let one_part = Tenths::percentage(in_one, bare);
-    let two_part = Tenths::percentage(in_two, bare);
-    let bytes = names.object.as_bytes().len();
-    println!(rt; "{HEAD}")?;
-    println!(rt; "{bytes:>7}{draw}{device}{one}{two}{one_part}{two_part}")?;
+    let mut names = names::<J>(alloc, opened, VALUE)?;
+    let times = times(rt, alloc, &mut names, rounds)?;
+    times.print(rt, names.object.as_bytes().len(), rounds)?;
     Ok(())
 }
 
-/// The nanoseconds of as many reads through a lane as there are objects, each of one pair with this value.
+/// The nanoseconds of as many reads through a lane as there are objects, each of one pair with a value of so many bytes.
 pub fn time_of_reads<R: Clock + Wait, J: Naming>(
     rt: &R,
     alloc: Global,
     opened: Opened<u64, Text, Unvouched>,
-    value: &Text,
-    count: u64,
+    bytes: usize,
+    count: u32,
 ) -> Result<u64>
     requires { (opened.book ≡ J.book) × (opened.names ≡ J.names) × (limits_of opened.sizes false ≡ J.limits) }
 {
-    let object = Object::of_pair(alloc, &0, value)?;
-    let Some(mut names) = Names::<J>::new(opened, object) else {
-        bail!("no pass is left");
-    };
-    let store = LaneStore::open(alloc, Vec::from_array(alloc, [FakeDevice::new(alloc)])?)?;
-    let mut round = Reads::new(rt, &mut names, store, count)?;
-    time(rt, alloc, &mut names, &mut round, u32::try_from(count)?)
+    let mut names = names::<J>(alloc, opened, bytes)?;
+    let mut round = Reads::new(rt, &mut names, one_lane(alloc)?, u64::from(count))?;
+    time(rt, alloc, &mut names, &mut round, count)
 }
 
 /// Prints the nanoseconds of a round on a bare device and through a lane, over so many rounds of each kind.

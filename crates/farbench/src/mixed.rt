@@ -1,19 +1,20 @@
 //! Calls as a user's: keys of 16 bytes, drawn evenly or skewed, gets and puts mixed, with a frame for each bucket or beside an
 //! evictor. `bench/compare.sh` runs it beside other maps, on the same files of keys and draws.
-ghost use Rattle.std.specs.Prelude.{◌≡◌, ◌<◌, true};
+ghost use Rattle.std.specs.Prelude.{◌≡◌, ◌<◌, true, [], IfOk};
 ghost use Rattle.version_words.specs.Rows.{limits_of};
+ghost use Rattle.version_words.specs.Views.{calls};
 ghost use Rattle.hash_table.specs.Configs.{sizes_of};
 
 mod files;
 mod shared;
 mod user;
 
-use crate::together::{Span, race};
+use crate::together::{Span, race, runners};
 use anyhow::{Result, bail};
 use far_device::FakeDevice;
 use far_object::Text;
 use files::{calls_each, draw_at, key_at, resident};
-use hash_table::{Config, FarTable, Opening};
+use hash_table::{Caller, Config, FarTable, Opening};
 use shared::{Shared, evict};
 use std::alloc::Global;
 use std::fs;
@@ -23,7 +24,7 @@ use std::sync::Wait;
 use std::sync::atomic::Ordering;
 use std::thread::{Threads, join};
 use swapper::{Evictor, QueueNaming, QueueOpening, QueueSeat, SpareQueue};
-use user::{User, put};
+use user::{Calls, User, put};
 use version_words::Naming;
 
 /// Buckets of the table.
@@ -59,11 +60,18 @@ fn reserve_of(frames: u32) -> u32 {
 
 /// A value of so many bytes.
 fn value_of(alloc: Global, bytes: u32) -> Result<Text> {
-    let mut value = Vec::with_capacity(alloc, bytes as usize)?;
-    for _ in 0..bytes {
-        value.push(7u8)?;
-    }
+    let value = Vec::from_elem(alloc, 7u8, bytes as usize)?;
     Ok(Text::new(alloc, value.as_slice())?)
+}
+
+/// A caller, whom no other keeps out, and who has made no call.
+fn entered<J: Naming>(table: &FarTable<Text, Text, J, FakeDevice>) -> Result<Caller<Text, Text, J>>
+    ensures { IfOk result (λ caller. calls caller.pass ≡ []) }
+{
+    match table.enter() {
+        Ok(caller) => Ok(caller),
+        Err(_) => bail!("no pass is left"),
+    }
 }
 
 /// Gives each key of the file the value.
@@ -71,50 +79,71 @@ fn fill<R: Wait, J: Naming, B: QueueNaming>(
     rt: &R,
     alloc: Global,
     shared: &Shared<J, B>,
-    keys: &Vec<u8>,
+    keys: &[u8],
     value: &Text,
 ) -> Result<()> {
-    let Ok(mut caller) = shared.table.enter() else {
-        bail!("no pass is left");
-    };
+    let mut caller = entered(&shared.table)?;
     for number in 0..keys.len() / 16 {
         let key = key_at(alloc, keys, number)?;
-        if !put(rt, alloc, shared, &mut caller, &key, value) {
-            bail!("a put was refused");
-        }
+        fill_one(rt, alloc, shared, &mut caller, key, value)?;
     }
     Ok(())
 }
 
-/// A thread with the calls of this part of the draws, of which so many in a hundred are gets.
+fn fill_one<R: Wait, J: Naming, B: QueueNaming>(
+    rt: &R,
+    alloc: Global,
+    shared: &Shared<J, B>,
+    caller: &mut Caller<Text, Text, J>,
+    key: Text,
+    value: &Text,
+) -> Result<()> {
+    if !put(rt, alloc, shared, caller, &key, value) {
+        bail!("a put was refused");
+    }
+    Ok(())
+}
+
+/// What the threads of a run are made of.
+#[derive(Clone, Copy)]
+struct Input<'a> {
+    keys: &'a [u8],
+    draws: &'a [u8],
+    value: &'a Text,
+}
+
+/// The calls of this part of the draws, of which so many in a hundred are gets.
+fn calls_of(alloc: Global, input: Input<'_>, part: u32, gets: u32) -> Result<Calls> {
+    let count = calls_each(input.draws)?;
+    let mut calls = Calls {
+        keys: Vec::with_capacity(alloc, count as usize)?,
+        gets: Vec::with_capacity(alloc, count as usize)?,
+    };
+    let first = (part as usize).wrapping_mul(count as usize);
+    for at in 0..count {
+        let draw = draw_at(input.draws, first.wrapping_add(at as usize))?;
+        let key = key_at(alloc, input.keys, (draw & 0xff_ffff) as usize)?;
+        calls.push(key, (draw >> 24) < gets)?;
+    }
+    Ok(calls)
+}
+
+/// A thread with those calls.
 fn user_of<J: Naming, B: QueueNaming>(
     alloc: Global,
     shared: &Shared<J, B>,
-    keys: &Vec<u8>,
-    draws: &Vec<u8>,
+    input: Input<'_>,
     part: u32,
     gets: u32,
-    value: &Text,
 ) -> Result<User<J>> {
-    let Ok(caller) = shared.table.enter() else {
-        bail!("no pass is left");
-    };
-    let calls = calls_each(draws)?;
-    let mut user = User {
+    let calls = calls_of(alloc, input, part, gets)?;
+    let value = Text::new(alloc, input.value.as_bytes())?;
+    Ok(User {
         alloc,
-        caller,
-        keys: Vec::with_capacity(alloc, calls as usize)?,
-        gets: Vec::with_capacity(alloc, calls as usize)?,
-        value: Text::new(alloc, value.as_bytes())?,
-    };
-    let first = (part as usize).wrapping_mul(calls as usize);
-    for at in 0..calls {
-        let draw = draw_at(draws, first.wrapping_add(at as usize))?;
-        user.keys
-            .push(key_at(alloc, keys, (draw & 0xff_ffff) as usize)?)?;
-        user.gets.push((draw >> 24) < gets)?;
-    }
-    Ok(user)
+        caller: entered(&shared.table)?,
+        calls,
+        value,
+    })
 }
 
 /// The time of the calls of so many threads, beside the evictor's where not each bucket has a frame.
@@ -145,32 +174,72 @@ fn run<R, J, B>(
     rt: &R,
     alloc: Global,
     shared: &Shared<J, B>,
-    keys: &Vec<u8>,
-    draws: &Vec<u8>,
+    input: Input<'_>,
     first: u32,
     threads: u32,
     gets: u32,
-    value: &Text,
 ) -> Result<Span>
 where
     R: Clock + Threads + Wait + Sync,
     J: Naming + Send + Sync,
     B: QueueNaming + Send + Sync,
 {
-    let mut users = Vec::with_capacity(alloc, threads as usize)?;
-    for thread in 0..threads {
-        let part = first.wrapping_add(thread);
-        users.push(user_of(alloc, shared, keys, draws, part, gets, value)?)?;
-    }
-    time(rt, shared, users, calls_each(draws)?)
+    let calls = calls_each(input.draws)?;
+    let users = runners(
+        alloc,
+        threads,
+        |thread| user_of(alloc, shared, input, first.wrapping_add(thread), gets),
+    )?;
+    time(rt, shared, users, calls)
 }
+
+/// How many gets there are in a hundred calls, and how many threads, in each run.
+const RUNS: [(u32, u32); 9] = [
+    (95, 1),
+    (95, 2),
+    (95, 4),
+    (50, 1),
+    (50, 2),
+    (50, 4),
+    (0, 1),
+    (0, 2),
+    (0, 4),
+];
 
 /// Runs the calls of each mix by 1, 2 and 4 threads on these draws, and prints a line for each.
 fn rows<R, J, B>(
     rt: &R,
     alloc: Global,
     shared: &Shared<J, B>,
-    keys: &Vec<u8>,
+    input: Input<'_>,
+    skew: &str,
+) -> Result<()>
+where
+    R: Clock + Print + Threads + Wait + Sync,
+    J: Naming + Send + Sync,
+    B: QueueNaming + Send + Sync,
+{
+    let calls = calls_each(input.draws)?;
+    // What is hot lies in frames then.
+    run(rt, alloc, shared, input, 0, WARMING, 95)?;
+    let mut first = WARMING;
+    for (gets, threads) in RUNS {
+        let span = run(rt, alloc, shared, input, first, threads, gets)?;
+        first = first.wrapping_add(threads);
+        let count = u64::from(calls).wrapping_mul(u64::from(threads));
+        let nanoseconds = span.nanoseconds();
+        let lost = span.lost();
+        println!(rt; "{skew} {gets} {threads} {count} {nanoseconds} {lost}")?;
+    }
+    Ok(())
+}
+
+/// Runs all calls on the draws of this file.
+fn on_file<R, J, B>(
+    rt: &R,
+    alloc: Global,
+    shared: &Shared<J, B>,
+    keys: &[u8],
     skew: &str,
     value: &Text,
 ) -> Result<()>
@@ -180,21 +249,8 @@ where
     B: QueueNaming + Send + Sync,
 {
     let draws = fs::read(rt, skew)?;
-    let calls = calls_each(&draws)?;
-    // What is hot lies in frames then.
-    run(rt, alloc, shared, keys, &draws, 0, WARMING, 95, value)?;
-    let mut first = WARMING;
-    for gets in [95, 50, 0u32] {
-        for threads in [1, 2, 4u32] {
-            let span = run(rt, alloc, shared, keys, &draws, first, threads, gets, value)?;
-            first = first.wrapping_add(threads);
-            let count = u64::from(calls).wrapping_mul(u64::from(threads));
-            let nanoseconds = span.nanoseconds();
-            let lost = span.lost;
-            println!(rt; "{skew} {gets} {threads} {count} {nanoseconds} {lost}")?;
-        }
-    }
-    Ok(())
+    let draws = draws.as_slice();
+    rows(rt, alloc, shared, Input { keys, draws, value }, skew)
 }
 
 /// Fills the table, and prints how many bytes more are resident than before it was opened, empty and filled; then runs
@@ -203,7 +259,7 @@ fn measure_shared<R, J, B>(
     rt: &R,
     alloc: Global,
     shared: &Shared<J, B>,
-    keys: &Vec<u8>,
+    keys: &[u8],
     value: &Text,
     before: u64,
 ) -> Result<()>
@@ -216,8 +272,8 @@ where
     fill(rt, alloc, shared, keys, value)?;
     let filled = resident(rt)?.saturating_sub(before);
     println!(rt; "memory {opened} {filled}")?;
-    rows(rt, alloc, shared, keys, "uniform", value)?;
-    rows(rt, alloc, shared, keys, "zipf", value)
+    on_file(rt, alloc, shared, keys, "uniform", value)?;
+    on_file(rt, alloc, shared, keys, "zipf", value)
 }
 
 /// The table with its queue and its evictor.
@@ -231,13 +287,11 @@ fn share<J: Naming, B: QueueNaming>(
     requires takes { taker.takes ≡ true }
     requires some { 0 < frames }
 {
-    let Ok(own) = table.enter() else {
-        bail!("no pass is left");
-    };
-    let Ok(evictor) = Evictor::open(alloc, own, taker, frames, SPARES) else {
-        bail!("there is no memory for an evictor");
-    };
-    Ok(Shared::new(table, queue, evictor, reserve_of(frames)))
+    let own = entered(&table)?;
+    match Evictor::open(alloc, own, taker, frames, SPARES) {
+        Ok(evictor) => Ok(Shared::new(table, queue, evictor, reserve_of(frames))),
+        Err(_) => bail!("there is no memory for an evictor"),
+    }
 }
 
 fn over_queue<R, J, B>(
@@ -246,8 +300,8 @@ fn over_queue<R, J, B>(
     table: FarTable<Text, Text, J, FakeDevice>,
     queue: QueueOpening<Text, Text, J>,
     frames: u32,
-    value: u32,
-    keys: &Vec<u8>,
+    value: &Text,
+    keys: &[u8],
     before: u64,
 ) -> Result<()>
 where
@@ -261,8 +315,7 @@ where
         bail!("there is no memory for seats");
     };
     let shared = share(alloc, table, queue, taker, frames)?;
-    let value = value_of(alloc, value)?;
-    measure_shared(rt, alloc, &shared, keys, &value, before)
+    measure_shared(rt, alloc, &shared, keys, value, before)
 }
 
 fn over_table<R, J>(
@@ -270,8 +323,8 @@ fn over_table<R, J>(
     alloc: Global,
     opening: Opening<Text, Text, FakeDevice>,
     frames: u32,
-    value: u32,
-    keys: &Vec<u8>,
+    value: &Text,
+    keys: &[u8],
     before: u64,
 ) -> Result<()>
 where
@@ -301,11 +354,14 @@ where
         bail!("there are no frames");
     }
     let keys = fs::read(rt, "keys")?;
+    let value = value_of(alloc, value)?;
     let before = resident(rt)?;
-    let mut devices = Vec::with_capacity(alloc, LANES as usize)?;
-    for _ in 0..LANES {
-        devices.push(FakeDevice::new(alloc))?;
-    }
-    let opening = Opening::open(alloc, settings(frames), devices)?;
-    over_table::<R, Brand>(rt, alloc, opening, frames, value, &keys, before)
+    let opening = opened(alloc, frames)?;
+    over_table::<R, Brand>(rt, alloc, opening, frames, &value, &keys, before)
+}
+
+/// A table of so many frames that has no name yet.
+fn opened(alloc: Global, frames: u32) -> Result<Opening<Text, Text, FakeDevice>> {
+    let devices = runners(alloc, LANES, |_| Ok(FakeDevice::new(alloc)))?;
+    Ok(Opening::open(alloc, settings(frames), devices)?)
 }

@@ -10,17 +10,19 @@ mod steps;
 
 use crate::setting::MOST_THREADS;
 use crate::tenths::Tenths;
-use crate::together::{Took, together};
+use crate::together::{Took, runners, together};
 use crate::unvouched::Unvouched;
 use anyhow::{Result, bail};
 use calls::{Call, Own};
 use far_device::FakeDevice;
 use far_object::Text;
 use frame_cache::Frames;
-use hash_table::{Config, FarTable, Opening};
+use hash_table::{Caller, Config, FarTable, Opening};
 use maps::{MapUser, Maps};
 use std::alloc::Global;
+use std::io;
 use std::marker::Brand;
+use std::mem::replace;
 use std::rt::Clock;
 use std::sync::Wait;
 use std::thread::Threads;
@@ -73,17 +75,20 @@ impl Load {
 }
 
 /// The keys of a thread: spread over all of them, each its own.
-fn own_keys(alloc: Global, keys: &Vec<u64>, thread: u32) -> Result<Vec<u64>> {
-    let mut own = Vec::with_capacity(alloc, OWN_KEYS as usize)?;
+fn own_keys(alloc: Global, keys: &[u64], thread: u32) -> Result<Vec<u64>> {
+    runners(alloc, OWN_KEYS, |at| own_key(keys, thread, at))
+}
+
+/// The thread's key of this number.
+fn own_key(keys: &[u64], thread: u32, at: u32) -> Result<u64> {
     let apart = keys.len() / (OWN_KEYS * MOST_THREADS) as usize;
-    for at in 0..OWN_KEYS {
-        let place = (at * MOST_THREADS + thread % MOST_THREADS) as usize;
-        let Some(key) = keys.get(place.wrapping_mul(apart)).copied() else {
-            bail!("too few keys");
-        };
-        own.push(key)?;
+    let place = at
+        .wrapping_mul(MOST_THREADS)
+        .wrapping_add(thread % MOST_THREADS);
+    match keys.get((place as usize).wrapping_mul(apart)) {
+        Some(key) => Ok(*key),
+        None => bail!("too few keys"),
     }
-    Ok(own)
 }
 
 fn value(alloc: Global) -> Result<Text> {
@@ -104,6 +109,39 @@ fn settings(count: u32) -> Config {
     }
 }
 
+/// A caller, whom no other keeps out.
+fn entered<J: Naming>(table: &FarTable<u64, Text, J, FakeDevice>) -> Result<Caller<u64, Text, J>> {
+    match table.enter() {
+        Ok(caller) => Ok(caller),
+        Err(_) => bail!("no pass is left"),
+    }
+}
+
+/// Keys, each of a bucket of its own, but of none of the last few that are met.
+fn keys_of<J: Naming>(
+    alloc: Global,
+    table: &FarTable<u64, Text, J, FakeDevice>,
+    count: u32,
+) -> Result<Vec<u64>> {
+    let mut has_key = Vec::from_elem(alloc, false, count as usize)?;
+    let mut keys = Vec::with_capacity(alloc, count as usize)?;
+    let most = (count - count.min(FREE)) as usize;
+    for key in 0..64 * u64::from(MOST) {
+        if keys.len() < most && is_first(&mut has_key, table.bucket(&key)) {
+            keys.push(key)?;
+        }
+    }
+    Ok(keys)
+}
+
+/// Whether this bucket is met for the first time.
+fn is_first(met: &mut Vec<bool>, bucket: u32) -> bool {
+    match met.get_mut(bucket as usize) {
+        Some(is_met) => !replace(is_met, true),
+        None => false,
+    }
+}
+
 /// Gives a value to a key of each bucket but the last few that are met, and answers the keys.
 fn fill<R: Wait, J: Naming>(
     rt: &R,
@@ -111,24 +149,10 @@ fn fill<R: Wait, J: Naming>(
     table: &FarTable<u64, Text, J, FakeDevice>,
     count: u32,
 ) -> Result<Vec<u64>> {
-    let Ok(mut caller) = table.enter() else {
-        bail!("no pass is left");
-    };
-    let mut has_key = Vec::with_capacity(alloc, count as usize)?;
-    for _ in 0..count {
-        has_key.push(false)?;
-    }
-    let mut keys = Vec::with_capacity(alloc, count as usize)?;
-    let value = value(alloc)?;
-    for key in 0..64 * u64::from(MOST) {
-        let Some(met) = has_key.get_mut(table.bucket(&key) as usize) else {
-            bail!("there are more buckets");
-        };
-        if !*met && keys.len() < (count - count.min(FREE)) as usize {
-            *met = true;
-            table.put(rt, alloc, &mut caller, &key, &value)?;
-            keys.push(key)?;
-        }
+    let keys = keys_of(alloc, table, count)?;
+    let mut own = Own::new(alloc, table, Vec::new(alloc), Call::Get)?;
+    for key in &keys {
+        own.put(rt, table, *key)?;
     }
     Ok(keys)
 }
@@ -138,24 +162,16 @@ fn on_table<R: Clock + Threads + Wait + Sync, J: Naming + Send + Sync>(
     rt: &R,
     alloc: Global,
     table: &FarTable<u64, Text, J, FakeDevice>,
-    keys: &Vec<u64>,
+    keys: &[u64],
     load: Load,
     call: Call,
 ) -> Result<Took> {
-    let mut runners = Vec::with_capacity(alloc, load.threads as usize)?;
-    for thread in 0..load.threads {
-        let Ok(caller) = table.enter() else {
-            bail!("no pass is left");
-        };
-        runners.push(Own {
-            alloc,
-            caller,
-            keys: own_keys(alloc, keys, thread)?,
-            value: value(alloc)?,
-            call,
-        })?;
-    }
-    together(rt, table, runners, load.rounds)
+    let callers = runners(
+        alloc,
+        load.threads,
+        |thread| Own::new(alloc, table, own_keys(alloc, keys, thread)?, call),
+    )?;
+    together(rt, table, callers, load.rounds)
 }
 
 /// The time of steps of this kind.
@@ -163,19 +179,16 @@ fn on_layers<R: Clock + Threads + Wait + Sync, J: Naming + Send + Sync>(
     rt: &R,
     alloc: Global,
     layers: &Layers<J>,
-    keys: &Vec<u64>,
+    keys: &[u64],
     load: Load,
     step: Step,
 ) -> Result<Took> {
-    let mut runners = Vec::with_capacity(alloc, load.threads as usize)?;
-    for thread in 0..load.threads {
-        let own = own_keys(alloc, keys, thread)?;
-        let Some(stepper) = Stepper::enter(alloc, layers, &own, value(alloc)?, step)? else {
-            bail!("no pass, name or frame is left");
-        };
-        runners.push(stepper)?;
-    }
-    together(rt, layers, runners, load.rounds)
+    let steppers = runners(
+        alloc,
+        load.threads,
+        |thread| Stepper::enter(alloc, layers, &own_keys(alloc, keys, thread)?, step),
+    )?;
+    together(rt, layers, steppers, load.rounds)
 }
 
 /// The time of gets or puts on so many maps.
@@ -183,17 +196,133 @@ fn on_maps<R: Clock + Threads + Wait + Sync>(
     rt: &R,
     alloc: Global,
     count: u32,
-    keys: &Vec<u64>,
+    keys: &[u64],
     load: Load,
     puts: bool,
-) -> Result<Tenths> {
+) -> Result<Took> {
     let maps = Maps::new(alloc, count)?;
-    let mut runners = Vec::with_capacity(alloc, load.threads as usize)?;
-    for thread in 0..load.threads {
-        let own = own_keys(alloc, keys, thread)?;
-        runners.push(MapUser::new(rt, alloc, &maps, own, value(alloc)?, puts))?;
-    }
-    Ok(load.each(&together(rt, &maps, runners, load.rounds)?))
+    let users = runners(
+        alloc,
+        load.threads,
+        |thread| user_of(rt, alloc, &maps, keys, thread, puts),
+    )?;
+    together(rt, &maps, users, load.rounds)
+}
+
+/// Who calls the maps on this thread.
+fn user_of<R: Wait>(
+    rt: &R,
+    alloc: Global,
+    maps: &Maps,
+    keys: &[u64],
+    thread: u32,
+    puts: bool,
+) -> Result<MapUser> {
+    let own = own_keys(alloc, keys, thread)?;
+    Ok(MapUser::new(rt, alloc, maps, own, value(alloc)?, puts))
+}
+
+/// What calls of the table took.
+#[derive(Clone, Copy)]
+struct Called {
+    got: Took,
+    scoped: Took,
+    put: Took,
+    recycled: Took,
+}
+
+fn times_on_table<R: Clock + Threads + Wait + Sync, J: Naming + Send + Sync>(
+    rt: &R,
+    alloc: Global,
+    table: &FarTable<u64, Text, J, FakeDevice>,
+    keys: &[u64],
+    load: Load,
+) -> Result<Called> {
+    Ok(Called {
+        got: on_table(rt, alloc, table, keys, load, Call::Get)?,
+        scoped: on_table(rt, alloc, table, keys, load, Call::Scope)?,
+        put: on_table(rt, alloc, table, keys, load, Call::Put)?,
+        recycled: on_table(rt, alloc, table, keys, load, Call::Recycle)?,
+    })
+}
+
+/// What the steps of a get and of a put took.
+#[derive(Clone, Copy)]
+struct Stepped {
+    get: Took,
+    put: Took,
+}
+
+fn times_on_layers<R: Clock + Threads + Wait + Sync, J: Naming + Send + Sync>(
+    rt: &R,
+    alloc: Global,
+    layers: &Layers<J>,
+    keys: &[u64],
+    load: Load,
+) -> Result<Stepped> {
+    let seen = on_layers(rt, alloc, layers, keys, load, Step::LookAndCheck)?;
+    let entered = on_layers(rt, alloc, layers, keys, load, Step::Enter)?;
+    let copied = on_layers(rt, alloc, layers, keys, load, Step::Value)?;
+    let published = on_layers(rt, alloc, layers, keys, load, Step::Publish)?;
+    Ok(Stepped {
+        get: seen.and(entered).and(copied),
+        put: published.and(entered),
+    })
+}
+
+/// What gets and puts of one map took, and of 64.
+#[derive(Clone, Copy)]
+struct Mapped {
+    one_get: Took,
+    one_put: Took,
+    get_in_64: Took,
+    put_in_64: Took,
+}
+
+fn times_on_maps<R: Clock + Threads + Wait + Sync>(
+    rt: &R,
+    alloc: Global,
+    keys: &[u64],
+    load: Load,
+) -> Result<Mapped> {
+    Ok(Mapped {
+        one_get: on_maps(rt, alloc, 1, keys, load, false)?,
+        one_put: on_maps(rt, alloc, 1, keys, load, true)?,
+        get_in_64: on_maps(rt, alloc, 64, keys, load, false)?,
+        put_in_64: on_maps(rt, alloc, 64, keys, load, true)?,
+    })
+}
+
+/// Prints what one load took.
+fn print_row<R: Print>(
+    rt: &R,
+    load: Load,
+    called: Called,
+    stepped: Stepped,
+    mapped: Mapped,
+) -> io::Result<()> {
+    let Load {
+        buckets,
+        threads,
+        rounds: _,
+    } = load;
+    let get = load.each(&called.got);
+    let steps = load.each(&stepped.get);
+    let part = Tenths::percentage(called.got.nanoseconds, stepped.get.nanoseconds);
+    let scope = load.each(&called.scoped);
+    print!(rt; "{buckets:>7} {threads:>7}{get}{steps}{part}{scope}")?;
+    let puts = load.each(&called.put);
+    let publish = load.each(&stepped.put);
+    let put_part = Tenths::percentage(called.put.nanoseconds, stepped.put.nanoseconds);
+    let lost = Tenths::percentage(called.put.lost.words, load.count());
+    let recycle = load.each(&called.recycled);
+    let recycled_lost = Tenths::percentage(called.recycled.lost.words, load.count());
+    print!(rt; "{puts}{publish}{put_part}{lost}{recycle}{recycled_lost}")?;
+    let one_get = load.each(&mapped.one_get);
+    let one_put = load.each(&mapped.one_put);
+    let get_in_64 = load.each(&mapped.get_in_64);
+    let put_in_64 = load.each(&mapped.put_in_64);
+    println!(rt; "{one_get}{one_put}{get_in_64}{put_in_64}")
 }
 
 /// Measures one load, and prints it.
@@ -206,41 +335,13 @@ fn row_of_table<
     alloc: Global,
     table: &FarTable<u64, Text, J, FakeDevice>,
     layers: &Layers<L>,
-    keys: &Vec<u64>,
+    keys: &[u64],
     load: Load,
 ) -> Result<()> {
-    let got = on_table(rt, alloc, table, keys, load, Call::Get)?;
-    let seen = on_layers(rt, alloc, layers, keys, load, Step::LookAndCheck)?;
-    let entered = on_layers(rt, alloc, layers, keys, load, Step::Enter)?;
-    let copied = on_layers(rt, alloc, layers, keys, load, Step::Value)?;
-    let scoped = on_table(rt, alloc, table, keys, load, Call::Scope)?;
-    let put = on_table(rt, alloc, table, keys, load, Call::Put)?;
-    let recycled = on_table(rt, alloc, table, keys, load, Call::Recycle)?;
-    let published = on_layers(rt, alloc, layers, keys, load, Step::Publish)?;
-    let get_steps = seen.and(entered).and(copied);
-    let put_steps = published.and(entered);
-    let get = load.each(&got);
-    let steps = load.each(&get_steps);
-    let part = Tenths::percentage(got.nanoseconds, get_steps.nanoseconds);
-    let scope = load.each(&scoped);
-    let puts = load.each(&put);
-    let publish = load.each(&put_steps);
-    let put_part = Tenths::percentage(put.nanoseconds, put_steps.nanoseconds);
-    let lost = Tenths::percentage(put.lost.words, load.count());
-    let recycle = load.each(&recycled);
-    let recycled_lost = Tenths::percentage(recycled.lost.words, load.count());
-    let one_get = on_maps(rt, alloc, 1, keys, load, false)?;
-    let one_put = on_maps(rt, alloc, 1, keys, load, true)?;
-    let get_in_64 = on_maps(rt, alloc, 64, keys, load, false)?;
-    let put_in_64 = on_maps(rt, alloc, 64, keys, load, true)?;
-    let Load {
-        buckets,
-        threads,
-        rounds: _,
-    } = load;
-    println!(rt;
-        "{buckets:>7} {threads:>7}{get}{steps}{part}{scope}{puts}{publish}{put_part}{lost}{recycle}{recycled_lost}{one_get}{one_put}{get_in_64}{put_in_64}"
-    )?;
+    let called = times_on_table(rt, alloc, table, keys, load)?;
+    let stepped = times_on_layers(rt, alloc, layers, keys, load)?;
+    let mapped = times_on_maps(rt, alloc, keys, load)?;
+    print_row(rt, load, called, stepped, mapped)?;
     Ok(())
 }
 
@@ -263,9 +364,7 @@ fn table<
     let table = opening.named::<J>(alloc)?;
     let keys = fill(rt, alloc, &table, load.buckets)?;
     let layers = Layers::<L>::new(opened, Frames::open(alloc, load.buckets)?);
-    let Some(_) = Stepper::enter(alloc, &layers, &keys, value(alloc)?, Step::Enter)? else {
-        bail!("no pass, name or frame is left");
-    };
+    Stepper::enter(alloc, &layers, &keys, Step::Enter)?;
     println!(rt; "{HEAD}")?;
     for threads in [1, 2, 4] {
         let load = Load { threads, ..load };

@@ -1,12 +1,12 @@
 //! Several threads at the same kind of call, from about the same moment on.
 
 use anyhow::{Result, bail};
+use std::alloc::Global;
 use std::hint::spin_loop;
 use std::rt::Clock;
 use std::sync::Wait;
 use std::sync::atomic::{AtomicU64, Ordering};
 use std::thread::{Threads, map_vec};
-use std::time::Instant;
 
 /// How often a thread looks whether the others are there before it begins without them.
 const LONGEST_WAIT: u32 = 1_000_000_000;
@@ -20,6 +20,21 @@ pub struct Lost {
 
 impl Lost {
     pub const NONE: Lost = Lost { names: 0, words: 0 };
+
+    fn and(self, other: Lost) -> Lost {
+        Lost {
+            names: self.names.wrapping_add(other.names),
+            words: self.words.wrapping_add(other.words),
+        }
+    }
+
+    /// With one more round that was lost at the word, where it was not done.
+    pub fn unless(mut self, done: bool) -> Lost {
+        if !done {
+            self.words = self.words.wrapping_add(1);
+        }
+        self
+    }
 }
 
 /// What a thread does with what all threads share.
@@ -45,10 +60,7 @@ impl Took {
     pub fn and(self, other: Took) -> Took {
         Took {
             nanoseconds: self.nanoseconds.wrapping_add(other.nanoseconds),
-            lost: Lost {
-                names: self.lost.names.wrapping_add(other.lost.names),
-                words: self.lost.words.wrapping_add(other.lost.words),
-            },
+            lost: self.lost.and(other.lost),
         }
     }
 }
@@ -73,48 +85,38 @@ impl Gate {
     }
 }
 
-/// The rounds of one thread, with the clock read right before and right after them.
-fn timed<R: Clock + Wait, S, T: Runner<S> + Drop>(
-    rt: &R,
-    gate: &Gate,
-    shared: &S,
-    mut runner: T,
-    rounds: u32,
-) -> Option<Took> {
-    gate.pass();
-    let start = Instant::now(rt).ok()?;
-    let lost = runner.run(rt, shared, rounds);
-    let elapsed = start.elapsed(rt).ok()?;
-    let nanoseconds = u64::try_from(elapsed.as_nanos()).ok()?;
-    Some(Took { nanoseconds, lost })
-}
-
-/// When calls began and ended, in nanoseconds of one clock, and how many were not done.
+/// When calls began and ended, in nanoseconds of one clock, and what of them was lost.
 #[derive(Clone, Copy)]
 pub struct Span {
     began: u64,
     ended: u64,
-    pub lost: u64,
+    lost: Lost,
 }
 
 impl Span {
-    const NOTHING: Span = Span {
-        began: u64::MAX,
-        ended: 0,
-        lost: 0,
-    };
-
     // From the earlier beginning to the later end.
     fn and(self, other: Span) -> Span {
         Span {
             began: self.began.min(other.began),
             ended: self.ended.max(other.ended),
-            lost: self.lost.wrapping_add(other.lost),
+            lost: self.lost.and(other.lost),
         }
+    }
+
+    /// How many calls were not done.
+    pub fn lost(self) -> u64 {
+        self.lost.words
     }
 
     pub fn nanoseconds(self) -> u64 {
         self.ended.saturating_sub(self.began)
+    }
+
+    fn took(self) -> Took {
+        Took {
+            nanoseconds: self.nanoseconds(),
+            lost: self.lost,
+        }
     }
 }
 
@@ -122,8 +124,8 @@ fn nanoseconds_now<R: Clock>(rt: &R) -> Option<u64> {
     u64::try_from(rt.monotonic().ok()?.as_nanos()).ok()
 }
 
-/// The rounds of one thread, with when they began and ended.
-fn spanned<R: Clock + Wait, S, T: Runner<S> + Drop>(
+/// The rounds of one thread, with the clock read right before and right after them.
+fn timed<R: Clock + Wait, S, T: Runner<S> + Drop>(
     rt: &R,
     gate: &Gate,
     shared: &S,
@@ -134,11 +136,56 @@ fn spanned<R: Clock + Wait, S, T: Runner<S> + Drop>(
     let began = nanoseconds_now(rt)?;
     let lost = runner.run(rt, shared, rounds);
     let ended = nanoseconds_now(rt)?;
-    Some(Span {
-        began,
-        ended,
-        lost: lost.words,
-    })
+    Some(Span { began, ended, lost })
+}
+
+/// Runs each in a thread of its own. What is said of a thread is lacking where the clock could not be read.
+fn each<R: Clock + Threads + Wait + Sync, S: Sync, T: Runner<S> + Send + Drop>(
+    rt: &R,
+    shared: &S,
+    runners: Vec<T>,
+    rounds: u32,
+) -> Result<Vec<Option<Span>>> {
+    let gate = Gate {
+        threads: runners.len() as u64,
+        arrived: AtomicU64::new(0),
+    };
+    let gate = &gate;
+    let spans = map_vec(
+        rt,
+        runners,
+        &|runner| timed(rt, gate, shared, runner, rounds),
+    )?;
+    Ok(spans)
+}
+
+// From the first beginning to the last end.
+fn from_first(spans: &[Option<Span>]) -> Option<Span> {
+    let mut all = Span {
+        began: u64::MAX,
+        ended: 0,
+        lost: Lost::NONE,
+    };
+    for span in spans {
+        all = all.and((*span)?);
+    }
+    Some(all)
+}
+
+fn added_up(spans: &[Option<Span>]) -> Option<Took> {
+    let mut all = Took::NOTHING;
+    for span in spans {
+        all = all.and((*span)?.took());
+    }
+    Some(all)
+}
+
+// What the clock told.
+fn told<T>(said: Option<T>) -> Result<T> {
+    match said {
+        Some(it) => Ok(it),
+        None => bail!("the clock can't be read"),
+    }
 }
 
 /// Runs each in a thread of its own, and answers the span from the first beginning to the last end. What threads took each
@@ -149,24 +196,7 @@ pub fn race<R: Clock + Threads + Wait + Sync, S: Sync, T: Runner<S> + Send + Dro
     runners: Vec<T>,
     rounds: u32,
 ) -> Result<Span> {
-    let gate = Gate {
-        threads: runners.len() as u64,
-        arrived: AtomicU64::new(0),
-    };
-    let gate = &gate;
-    let each = map_vec(
-        rt,
-        runners,
-        &|runner| spanned(rt, gate, shared, runner, rounds),
-    )?;
-    let mut all = Span::NOTHING;
-    for span in &each {
-        let Some(span) = span else {
-            bail!("the clock can't be read");
-        };
-        all = all.and(*span);
-    }
-    Ok(all)
+    told(from_first(&each(rt, shared, runners, rounds)?))
 }
 
 /// Runs each in a thread of its own.
@@ -176,22 +206,20 @@ pub fn together<R: Clock + Threads + Wait + Sync, S: Sync, T: Runner<S> + Send +
     runners: Vec<T>,
     rounds: u32,
 ) -> Result<Took> {
-    let gate = Gate {
-        threads: runners.len() as u64,
-        arrived: AtomicU64::new(0),
-    };
-    let gate = &gate;
-    let each = map_vec(
-        rt,
-        runners,
-        &|runner| timed(rt, gate, shared, runner, rounds),
-    )?;
-    let mut all = Took::NOTHING;
-    for took in &each {
-        let Some(took) = took else {
-            bail!("the clock can't be read");
-        };
-        all = all.and(*took);
+    told(added_up(&each(rt, shared, runners, rounds)?))
+}
+
+/// As many runners as there are threads, each made for its thread.
+pub fn runners<T: Drop, F: Fn(u32) -> Result<T>>(
+    alloc: Global,
+    threads: u32,
+    make: F,
+) -> Result<Vec<T>>
+    requires { F.IsAlwaysCallable make }
+{
+    let mut all = Vec::with_capacity(alloc, threads as usize)?;
+    for thread in 0..threads {
+        all.push(make(thread)?)?;
     }
     Ok(all)
 }

@@ -7,12 +7,13 @@ mod caller;
 use crate::bare::{Plain, on_plain};
 use crate::setting::{Layout, Setting};
 use crate::tenths::Tenths;
-use crate::together::{Runner, Took, together};
+use crate::together::{Runner, Took, runners, together};
 use crate::unvouched::Unvouched;
 use anyhow::{Result, bail};
 use caller::{Caller, Checks, Looks, Puts, Row};
 use far_object::Object;
 use std::alloc::Global;
+use std::io;
 use std::marker::Brand;
 use std::rt::Clock;
 use std::sync::Wait;
@@ -32,49 +33,100 @@ const PASSES: u32 = 65_535;
 const HEAD: &str =
     "threads   words        look       check         put  lost-name%  lost-inst%    exchange       lost%";
 
+/// What this thread runs.
+fn entered<J: Naming, T: From<Caller<J>>>(
+    row: &Row<J>,
+    setting: Setting,
+    thread: u32,
+) -> Result<T> {
+    match Caller::enter(row, u64::from(setting.layout.place(thread))) {
+        Some(caller) => Ok(T::from(caller)),
+        None => bail!("no pass is left"),
+    }
+}
+
 /// The time of calls of this kind on the row.
 fn on_row<
     R: Clock + Threads + Wait + Sync,
     J: Naming + Send + Sync,
     T: Runner<Row<J>> + From<Caller<J>> + Send + Drop,
 >(rt: &R, alloc: Global, row: &Row<J>, setting: Setting) -> Result<Took> {
-    let mut runners = Vec::with_capacity(alloc, setting.threads as usize)?;
-    for thread in 0..setting.threads {
-        let key = u64::from(setting.layout.place(thread));
-        let Some(caller) = Caller::enter(row, key) else {
-            bail!("no pass is left");
-        };
-        runners.push(T::from(caller))?;
-    }
-    together(rt, row, runners, setting.rounds)
+    let callers = runners(
+        alloc,
+        setting.threads,
+        |thread| entered::<J, T>(row, setting, thread),
+    )?;
+    together(rt, row, callers, setting.rounds)
 }
 
-/// Measures one setting, and prints it.
-fn row_of_table<R: Clock + Print + Threads + Wait + Sync, J: Naming + Send + Sync>(
+/// What one setting took.
+#[derive(Clone, Copy)]
+struct Figures {
+    looks: Took,
+    checks: Took,
+    puts: Took,
+    bare: Took,
+}
+
+/// Measures one setting.
+fn times<R: Clock + Threads + Wait + Sync, J: Naming + Send + Sync>(
     rt: &R,
     alloc: Global,
     row: &Row<J>,
     plain: &Plain,
     setting: Setting,
-) -> Result<()> {
-    let looks = on_row::<R, J, Looks<J>>(rt, alloc, row, setting)?;
-    let checks = on_row::<R, J, Checks<J>>(rt, alloc, row, setting)?;
-    let puts = on_row::<R, J, Puts<J>>(rt, alloc, row, setting)?;
-    let bare = on_plain(rt, alloc, plain, setting)?;
+) -> Result<Figures> {
+    Ok(Figures {
+        looks: on_row::<R, J, Looks<J>>(rt, alloc, row, setting)?,
+        checks: on_row::<R, J, Checks<J>>(rt, alloc, row, setting)?,
+        puts: on_row::<R, J, Puts<J>>(rt, alloc, row, setting)?,
+        bare: on_plain(rt, alloc, plain, setting)?,
+    })
+}
+
+/// Prints what one setting took.
+fn print_row<R: Print>(rt: &R, times: Figures, setting: Setting) -> io::Result<()> {
     let count = u64::from(setting.threads).wrapping_mul(u64::from(setting.rounds));
-    let look = Tenths::quotient(looks.nanoseconds, count);
-    let check = Tenths::quotient(checks.nanoseconds, count);
-    let put = Tenths::quotient(puts.nanoseconds, count);
-    let lost_names = Tenths::percentage(puts.lost.names, count);
-    let lost_installs = Tenths::percentage(puts.lost.words, count);
-    let exchange = Tenths::quotient(bare.nanoseconds, count);
-    let lost_exchanges = Tenths::percentage(bare.lost.words, count);
+    let look = Tenths::quotient(times.looks.nanoseconds, count);
+    let check = Tenths::quotient(times.checks.nanoseconds, count);
+    let put = Tenths::quotient(times.puts.nanoseconds, count);
+    let lost_names = Tenths::percentage(times.puts.lost.names, count);
+    let lost_installs = Tenths::percentage(times.puts.lost.words, count);
+    let exchange = Tenths::quotient(times.bare.nanoseconds, count);
+    let lost_exchanges = Tenths::percentage(times.bare.lost.words, count);
     let threads = setting.threads;
     let layout = setting.layout.name();
     println!(rt;
         "{threads:>7} {layout:>7}{look}{check}{put}{lost_names}{lost_installs}{exchange}{lost_exchanges}"
-    )?;
+    )
+}
+
+/// Measures each layout by so many threads, and prints it.
+fn rows<R: Clock + Print + Threads + Wait + Sync, J: Naming + Send + Sync>(
+    rt: &R,
+    alloc: Global,
+    row: &Row<J>,
+    plain: &Plain,
+    threads: u32,
+    rounds: u32,
+) -> Result<()> {
+    for layout in [Layout::One, Layout::Beside, Layout::Apart] {
+        let setting = Setting {
+            threads,
+            layout,
+            rounds,
+        };
+        print_row(rt, times(rt, alloc, row, plain, setting)?, setting)?;
+    }
     Ok(())
+}
+
+/// The row that was opened, with the object for all of its names.
+fn named<J: Naming>(alloc: Global, opened: Opened<u64, u64, Unvouched>) -> Result<Row<J>>
+    requires { (opened.book ≡ J.book) × (opened.names ≡ J.names) × (limits_of opened.sizes false ≡ J.limits) }
+{
+    let object = Object::of_pair(alloc, &0, &0)?;
+    Ok(Row::<J>::new(opened, object))
 }
 
 /// Measures each setting up to so many threads, and prints the table.
@@ -87,20 +139,12 @@ fn table<R: Clock + Print + Threads + Wait + Sync, J: Naming + Send + Sync>(
 ) -> Result<()>
     requires { (opened.book ≡ J.book) × (opened.names ≡ J.names) × (limits_of opened.sizes false ≡ J.limits) }
 {
-    let object = Object::empty(alloc)?.with(alloc, &0, &0)?;
-    let row = Row::<J>::new(opened, object);
+    let row = named::<J>(alloc, opened)?;
     let plain = Plain::new(alloc, BUCKETS)?;
     println!(rt; "{HEAD}")?;
     for threads in [1, 2, 4] {
         if threads <= most {
-            for layout in [Layout::One, Layout::Beside, Layout::Apart] {
-                let setting = Setting {
-                    threads,
-                    layout,
-                    rounds,
-                };
-                row_of_table(rt, alloc, &row, &plain, setting)?;
-            }
+            rows(rt, alloc, &row, &plain, threads, rounds)?;
         }
     }
     Ok(())

@@ -1,5 +1,6 @@
-//! A table with a caller, its queue and an evictor.
-ghost use Rattle.std.specs.Prelude.{◌≡◌, true};
+//! What is timed of an evictor and its queue.
+ghost use Rattle.std.specs.Prelude.{◌≡◌, true, [], IfOk};
+ghost use Rattle.version_words.specs.Views.{calls};
 
 use anyhow::{Result, bail};
 use crossbeam_queue::ArrayQueue;
@@ -12,17 +13,11 @@ use std::time::Instant;
 use swapper::{Evictor, QueueNaming, QueueSeat, SpareQueue};
 use version_words::{Naming, Spare};
 
-/// All that one measurement works on.
-#[derive(Drop)]
-pub struct Bench<J: Naming, B: QueueNaming> {
-    alloc: Global,
-    table: FarTable<u64, u64, J, FakeDevice>,
-    queue: SpareQueue<u64, u64, J, B>,
-    taker: QueueSeat<u64, u64, J, B>,
-    seat: QueueSeat<u64, u64, J, B>,
-    caller: Caller<u64, u64, J>,
-    ghost takes: { taker.takes ≡ true },
-}
+type Table<J> = FarTable<u64, u64, J, FakeDevice>;
+
+type Queue<J, B> = SpareQueue<u64, u64, J, B>;
+
+type Seat<J, B> = QueueSeat<u64, u64, J, B>;
 
 type Queued<J> = Spare<u64, u64, J>;
 
@@ -35,43 +30,36 @@ fn since<R: Clock>(rt: &R, start: Instant) -> Result<u64> {
     Ok(u64::try_from(start.elapsed(rt)?.as_nanos())?)
 }
 
-// Pushes the spare and pops it: `Bench::through` on the kit's queue.
-fn through_plain<R: Wait, J: Naming>(
-    rt: &R,
-    queue: &ArrayQueue<Queued<J>>,
-    spare: Queued<J>,
-) -> Result<Queued<J>> {
-    let Ok(()) = queue.push(rt, spare) else {
-        bail!("the queue is full");
-    };
-    match queue.pop(rt) {
-        Some(taken) => Ok(taken),
-        None => bail!("the queue is empty"),
+fn found<T>(it: Option<T>) -> Result<T> {
+    match it {
+        Some(it) => Ok(it),
+        None => bail!("no spare, or no seat, is there"),
     }
 }
 
-impl<J: Naming, B: QueueNaming> Bench<J, B> {
-    pub fn new(
-        alloc: Global,
-        table: FarTable<u64, u64, J, FakeDevice>,
-        queue: SpareQueue<u64, u64, J, B>,
-        taker: QueueSeat<u64, u64, J, B>,
-        mut seats: Vec<QueueSeat<u64, u64, J, B>>,
-    ) -> Result<Bench<J, B>>
-        requires { taker.takes ≡ true }
-    {
-        let Some(seat) = seats.pop() else {
-            bail!("there is no seat");
-        };
-        let Ok(caller) = table.enter() else {
-            bail!("no pass is left");
-        };
-        Ok(Bench {
+fn entered<J: Naming>(table: &Table<J>) -> Result<Caller<u64, u64, J>>
+    ensures { IfOk result (λ caller. calls caller.pass ≡ []) }
+{
+    match table.enter() {
+        Ok(caller) => Ok(caller),
+        Err(_) => bail!("no pass is left"),
+    }
+}
+
+/// A caller of a table.
+#[derive(Drop)]
+struct User<'t, J: Naming> {
+    alloc: Global,
+    table: &'t Table<J>,
+    caller: Caller<u64, u64, J>,
+}
+
+impl<'t, J: Naming> User<'t, J> {
+    fn new(alloc: Global, table: &'t Table<J>) -> Result<User<'t, J>> {
+        let caller = entered(table)?;
+        Ok(User {
             alloc,
             table,
-            queue,
-            taker,
-            seat,
             caller,
         })
     }
@@ -83,6 +71,13 @@ impl<J: Naming, B: QueueNaming> Bench<J, B> {
         }
     }
 
+    // Whether the key's bucket has no pair.
+    fn is_empty(&mut self, key: u64) -> bool {
+        let bucket = self.table.bucket(&key);
+        let state = self.table.state_of(&mut self.caller, bucket);
+        matches!(state, BucketState::Empty(_))
+    }
+
     // Fills all frames: each of as many buckets gets one pair.
     fn fill(&mut self, frames: u32) -> Result<()> {
         let mut filled = 0u32;
@@ -91,8 +86,7 @@ impl<J: Naming, B: QueueNaming> Bench<J, B> {
                 return Ok(());
             }
             let key = key_of(number);
-            let bucket = self.table.bucket(&key);
-            if let BucketState::Empty(_) = self.table.state_of(&mut self.caller, bucket) {
+            if self.is_empty(key) {
                 self.put(key)?;
                 filled = filled.wrapping_add(1);
             }
@@ -104,16 +98,128 @@ impl<J: Naming, B: QueueNaming> Bench<J, B> {
     fn spare(&mut self) -> Result<Queued<J>> {
         self.put(0)?;
         self.put(0)?;
-        match self.caller.take_spare() {
-            Some(spare) => Ok(spare),
-            None => bail!("a put left no spare"),
+        found(self.caller.take_spare())
+    }
+
+    // Leaves so many spares in the queue.
+    fn leave<R: Wait, B: QueueNaming>(
+        &mut self,
+        rt: &R,
+        queue: &Queue<J, B>,
+        seat: &mut Seat<J, B>,
+        spares: u32,
+    ) -> Result<()> {
+        self.put(0)?;
+        for _ in 0..spares {
+            self.put(0)?;
+            queue.settle(rt, seat, &mut self.caller);
         }
+        Ok(())
     }
+}
 
-    fn settle<R: Wait>(&mut self, rt: &R) {
-        self.queue.settle(rt, &mut self.seat, &mut self.caller);
+/// An evictor for so many frames.
+fn evictor<J: Naming, B: QueueNaming>(
+    alloc: Global,
+    table: &Table<J>,
+    taker: Seat<J, B>,
+    frames: u32,
+) -> Result<Evictor<u64, u64, J, B>>
+    requires { taker.takes ≡ true }
+{
+    if frames == 0 {
+        bail!("there are no frames");
     }
+    match Evictor::open(alloc, entered(table)?, taker, frames, 4_096) {
+        Ok(evictor) => Ok(evictor),
+        Err(_) => bail!("there is no memory for an evictor"),
+    }
+}
 
+fn turn<R: Wait, J: Naming, B: QueueNaming>(
+    rt: &R,
+    table: &Table<J>,
+    queue: &Queue<J, B>,
+    evictor: &mut Evictor<u64, u64, J, B>,
+) -> Result<()> {
+    match evictor.turn(rt, table, queue) {
+        Ok(turn) if turn.evicted => Ok(()),
+        Ok(_) => bail!("a turn evicted nothing"),
+        Err(refusal) => bail!("a turn was refused: {refusal}"),
+    }
+}
+
+fn fill<J: Naming>(alloc: Global, table: &Table<J>, frames: u32) -> Result<()> {
+    User::new(alloc, table)?.fill(frames)
+}
+
+/// The nanoseconds of so many turns over filled frames.
+pub fn turns<R: Clock + Wait, J: Naming, B: QueueNaming>(
+    rt: &R,
+    alloc: Global,
+    table: &Table<J>,
+    queue: &Queue<J, B>,
+    taker: Seat<J, B>,
+    frames: u32,
+    turns: u32,
+) -> Result<u64>
+    requires { taker.takes ≡ true }
+{
+    fill(alloc, table, frames)?;
+    let mut evictor = evictor(alloc, table, taker, frames)?;
+    let start = Instant::now(rt)?;
+    for _ in 0..turns {
+        turn(rt, table, queue, &mut evictor)?;
+    }
+    since(rt, start)
+}
+
+fn leave<R: Wait, J: Naming, B: QueueNaming>(
+    rt: &R,
+    alloc: Global,
+    table: &Table<J>,
+    queue: &Queue<J, B>,
+    mut seats: Vec<Seat<J, B>>,
+    spares: u32,
+) -> Result<()> {
+    let mut seat = found(seats.pop())?;
+    User::new(alloc, table)?.leave(rt, queue, &mut seat, spares)
+}
+
+/// The nanoseconds of a collecting of so many spares.
+pub fn collecting<R: Clock + Wait, J: Naming, B: QueueNaming>(
+    rt: &R,
+    alloc: Global,
+    table: &Table<J>,
+    queue: &Queue<J, B>,
+    taker: Seat<J, B>,
+    seats: Vec<Seat<J, B>>,
+    frames: u32,
+    spares: u32,
+) -> Result<u64>
+    requires { taker.takes ≡ true }
+{
+    leave(rt, alloc, table, queue, seats, spares)?;
+    let mut evictor = evictor(alloc, table, taker, frames)?;
+    let start = Instant::now(rt)?;
+    let told = evictor.collect(rt, table, queue);
+    let took = since(rt, start);
+    if told.reclaimed != u64::from(spares) {
+        bail!("not all spares were reclaimed");
+    }
+    took
+}
+
+/// A queue with the seats of one who hands over and of one who takes.
+#[derive(Drop)]
+struct Seats<J: Naming, B: QueueNaming> {
+    queue: Queue<J, B>,
+    taker: Seat<J, B>,
+    seat: Seat<J, B>,
+    ghost takes: { taker.takes ≡ true },
+}
+
+impl<J: Naming, B: QueueNaming> Seats<J, B> {
     // Hands the spare over and takes it.
     fn through<R: Wait>(&mut self, rt: &R, spare: Queued<J>) -> Result<Queued<J>> {
         let Ok(()) = self.queue.hand_over(rt, &mut self.seat, spare) else {
@@ -124,119 +230,62 @@ impl<J: Naming, B: QueueNaming> Bench<J, B> {
             None => bail!("the queue is empty"),
         }
     }
-
-    /// The nanoseconds of so many turns over filled frames.
-    pub fn turns<R: Clock + Wait>(mut self, rt: &R, frames: u32, turns: u32) -> Result<u64> {
-        self.fill(frames)?;
-        let mut bench = self.evicting(frames)?;
-        bench.turns(rt, turns)
-    }
-
-    // Leaves so many spares in the queue.
-    fn leave<R: Wait>(&mut self, rt: &R, spares: u32) -> Result<()> {
-        self.put(0)?;
-        for _ in 0..spares {
-            self.put(0)?;
-            self.settle(rt);
-        }
-        Ok(())
-    }
-
-    /// The nanoseconds of a collecting of so many spares.
-    pub fn collecting<R: Clock + Wait>(mut self, rt: &R, frames: u32, spares: u32) -> Result<u64> {
-        self.leave(rt, spares)?;
-        let mut bench = self.evicting(frames)?;
-        bench.collecting(rt, spares)
-    }
-
-    /// The nanoseconds of so many hand-overs, each with a take.
-    pub fn handing<R: Clock + Wait>(&mut self, rt: &R, rounds: u32) -> Result<u64> {
-        let mut spare = self.spare()?;
-        let start = Instant::now(rt)?;
-        for _ in 0..rounds {
-            spare = self.through(rt, spare)?;
-        }
-        since(rt, start)
-    }
-
-    /// The same on the kit's plain queue.
-    pub fn plain<R: Clock + Wait>(&mut self, rt: &R, room: u32, rounds: u32) -> Result<u64> {
-        let mut spare = self.spare()?;
-        if room == 0 {
-            bail!("the queue has no room");
-        }
-        let queue = ArrayQueue::new(self.alloc, room as usize)?;
-        let start = Instant::now(rt)?;
-        for _ in 0..rounds {
-            spare = through_plain(rt, &queue, spare)?;
-        }
-        since(rt, start)
-    }
-
-    fn evicting(self, frames: u32) -> Result<Evicting<J, B>> {
-        let Bench {
-            alloc,
-            table,
-            queue,
-            taker,
-            seat: _,
-            caller: _,
-        } = self;
-        let Ok(own) = table.enter() else {
-            bail!("no pass is left");
-        };
-        if frames == 0 {
-            bail!("there are no frames");
-        }
-        match Evictor::open(alloc, own, taker, frames, 4_096) {
-            Ok(evictor) => Ok(Evicting {
-                table,
-                queue,
-                evictor,
-            }),
-            Err(_) => bail!("there is no memory for an evictor"),
-        }
-    }
 }
 
-/// A table, its queue and its evictor.
-#[derive(Drop)]
-struct Evicting<J: Naming, B: QueueNaming> {
-    table: FarTable<u64, u64, J, FakeDevice>,
-    queue: SpareQueue<u64, u64, J, B>,
-    evictor: Evictor<u64, u64, J, B>,
+fn spare<J: Naming>(alloc: Global, table: &Table<J>) -> Result<Queued<J>> {
+    User::new(alloc, table)?.spare()
 }
 
-impl<J: Naming, B: QueueNaming> Evicting<J, B> {
-    fn turn<R: Wait>(&mut self, rt: &R) -> Result<()> {
-        match self.evictor.turn(rt, &self.table, &self.queue) {
-            Ok(turn) => {
-                if !turn.evicted {
-                    bail!("a turn evicted nothing");
-                }
-                Ok(())
-            }
-            Err(refusal) => bail!("a turn was refused: {refusal}"),
-        }
+/// The nanoseconds of so many hand-overs, each with a take.
+pub fn handing<R: Clock + Wait, J: Naming, B: QueueNaming>(
+    rt: &R,
+    alloc: Global,
+    table: &Table<J>,
+    queue: Queue<J, B>,
+    taker: Seat<J, B>,
+    mut seats: Vec<Seat<J, B>>,
+    rounds: u32,
+) -> Result<u64>
+    requires { taker.takes ≡ true }
+{
+    let seat = found(seats.pop())?;
+    let mut seats = Seats { queue, taker, seat };
+    let mut spare = spare(alloc, table)?;
+    let start = Instant::now(rt)?;
+    for _ in 0..rounds {
+        spare = seats.through(rt, spare)?;
     }
+    since(rt, start)
+}
 
-    // The nanoseconds of so many turns.
-    fn turns<R: Clock + Wait>(&mut self, rt: &R, turns: u32) -> Result<u64> {
-        let start = Instant::now(rt)?;
-        for _ in 0..turns {
-            self.turn(rt)?;
-        }
-        since(rt, start)
-    }
+// Pushes the spare and pops it: `through` on the kit's queue.
+fn through_plain<R: Wait, J: Naming>(
+    rt: &R,
+    queue: &ArrayQueue<Queued<J>>,
+    spare: Queued<J>,
+) -> Result<Queued<J>> {
+    let Ok(()) = queue.push(rt, spare) else {
+        bail!("the queue is full");
+    };
+    found(queue.pop(rt))
+}
 
-    // The nanoseconds of a collecting of so many spares.
-    fn collecting<R: Clock + Wait>(&mut self, rt: &R, spares: u32) -> Result<u64> {
-        let start = Instant::now(rt)?;
-        let told = self.evictor.collect(rt, &self.table, &self.queue);
-        let took = since(rt, start)?;
-        if told.reclaimed != u64::from(spares) {
-            bail!("not all spares were reclaimed");
-        }
-        Ok(took)
+/// The same on the kit's plain queue.
+pub fn plain<R: Clock + Wait, J: Naming>(
+    rt: &R,
+    alloc: Global,
+    table: &Table<J>,
+    room: u32,
+    rounds: u32,
+) -> Result<u64> {
+    let mut spare = spare(alloc, table)?;
+    if room == 0 {
+        bail!("the queue has no room");
     }
+    let queue = ArrayQueue::new(alloc, room as usize)?;
+    let start = Instant::now(rt)?;
+    for _ in 0..rounds {
+        spare = through_plain(rt, &queue, spare)?;
+    }
+    since(rt, start)
 }

@@ -7,7 +7,8 @@ use crate::unvouched::Unvouched;
 use anyhow::{Result, bail};
 use far_device::{Device, FakeDevice};
 use far_object::{Format, Object, Text};
-use lane_store::LaneStore;
+use lane_store::{LaneFault, LaneStore, Receipt};
+use std::result;
 use std::sync::Wait;
 use table_core::word::{FAR_PLACE, name_of};
 use version_words::{Name, Naming, Opened, Pass, Words};
@@ -47,6 +48,18 @@ impl<J: Naming> Names<J> {
     {
         Ok(self.words.name(&mut self.pass, BUCKET, &self.object)?)
     }
+
+    // Writes the object under the next name.
+    fn write_next<R: Wait>(
+        &mut self,
+        rt: &R,
+        store: &LaneStore<u64, Text, J, FakeDevice>,
+    ) -> Result<()> {
+        let name = self.draw()?;
+        let written = store.write(rt, &name, &self.object, Format::Two);
+        let _spare = name.give_up(FAR_PLACE);
+        kept(written.is_ok(), true)
+    }
 }
 
 /// A kind of round, with names from `N`. Each draws a name, and gives it up as one whose object is on a device.
@@ -55,6 +68,21 @@ pub trait Round<N> {
     ///
     /// An error comes where no name is left, a call or a growth of memory is refused, or the object isn't found.
     fn make<R: Wait>(&mut self, rt: &R, names: &mut N, out: &mut Vec<u8>) -> Result<()>;
+}
+
+fn is_found<J: Naming>(read: result::Result<Option<Receipt<u64, Text, J>>, LaneFault>) -> bool {
+    match read {
+        Ok(receipt) => receipt.is_some(),
+        Err(_) => false,
+    }
+}
+
+/// An error where the object was not found, or not removed.
+fn kept(is_read: bool, is_removed: bool) -> Result<()> {
+    if !is_read || !is_removed {
+        bail!("the object was not written, or is lost");
+    }
+    Ok(())
 }
 
 /// Draws the name and gives it up, and nothing else.
@@ -75,17 +103,21 @@ pub struct OnDevice {
     pub device: FakeDevice,
 }
 
+impl OnDevice {
+    fn write_and_read(&mut self, number: u64, bytes: &[u8], out: &mut Vec<u8>) -> bool {
+        let is_written = self.device.write(number, bytes).is_ok();
+        is_written && self.device.read(number, out) == Ok(true)
+    }
+}
+
 impl<J: Naming> Round<Names<J>> for OnDevice {
     fn make<R: Wait>(&mut self, _rt: &R, names: &mut Names<J>, out: &mut Vec<u8>) -> Result<()> {
         let name = names.draw()?;
-        self.device.write(name.number(), names.object.as_bytes())?;
-        let is_read = self.device.read(name.number(), out)?;
+        let number = name.number();
+        let is_read = self.write_and_read(number, names.object.as_bytes(), out);
         let spare = name.give_up(FAR_PLACE);
-        let is_removed = self.device.remove(name_of(spare.word()))?;
-        if !is_read || !is_removed {
-            bail!("the device has lost the object");
-        }
-        Ok(())
+        let is_removed = self.device.remove(name_of(spare.word()));
+        kept(is_read, is_removed == Ok(true))
     }
 }
 
@@ -99,14 +131,12 @@ pub struct OnLane<J: Naming> {
 impl<J: Naming> Round<Names<J>> for OnLane<J> {
     fn make<R: Wait>(&mut self, rt: &R, names: &mut Names<J>, out: &mut Vec<u8>) -> Result<()> {
         let name = names.draw()?;
-        self.store.write(rt, &name, &names.object, self.format)?;
-        let receipt = self.store.read(rt, name.number(), out)?;
+        let number = name.number();
+        let is_written = self.store.write(rt, &name, &names.object, self.format);
+        let is_read = is_found(self.store.read(rt, number, out));
         let spare = name.give_up(FAR_PLACE);
-        let is_removed = self.store.remove(rt, &spare)?;
-        if receipt.is_none() || !is_removed {
-            bail!("the lane has lost the object");
-        }
-        Ok(())
+        let is_removed = self.store.remove(rt, &spare);
+        kept(is_written.is_ok() && is_read, is_removed == Ok(true))
     }
 }
 
@@ -129,9 +159,7 @@ impl<J: Naming> Reads<J> {
         count: u64,
     ) -> Result<Reads<J>> {
         for _ in 0..count {
-            let name = names.draw()?;
-            store.write(rt, &name, &names.object, Format::Two)?;
-            let _spare = name.give_up(FAR_PLACE);
+            names.write_next(rt, &store)?;
         }
         Ok(Reads {
             store,
@@ -148,9 +176,6 @@ impl<J: Naming> Round<Names<J>> for Reads<J> {
         } else {
             1
         };
-        if self.store.read(rt, self.last, out)?.is_none() {
-            bail!("the lane has lost the object");
-        }
-        Ok(())
+        kept(is_found(self.store.read(rt, self.last, out)), true)
     }
 }

@@ -16,7 +16,7 @@ const DRAW: usize = 4;
 const KEY: usize = 16;
 
 /// The key of this number.
-pub fn key_at(alloc: Global, keys: &Vec<u8>, number: usize) -> Result<Text> {
+pub fn key_at(alloc: Global, keys: &[u8], number: usize) -> Result<Text> {
     let from = number.wrapping_mul(KEY);
     match keys.get(from..from.wrapping_add(KEY)) {
         Some(bytes) => Ok(Text::new(alloc, bytes)?),
@@ -25,19 +25,19 @@ pub fn key_at(alloc: Global, keys: &Vec<u8>, number: usize) -> Result<Text> {
 }
 
 /// The draw of this number.
-pub fn draw_at(draws: &Vec<u8>, number: usize) -> Result<u32> {
+pub fn draw_at(draws: &[u8], number: usize) -> Result<u32> {
     let from = number.wrapping_mul(DRAW);
-    let Some(bytes) = draws.get(from..from.wrapping_add(DRAW)) else {
-        bail!("too few draws");
-    };
-    match bytes.split_first_chunk::<DRAW>() {
-        Some((bytes, _)) => Ok(u32::from_le_bytes(*bytes)),
+    match draws
+        .get(from..)
+        .and_then(|rest| rest.first_chunk::<DRAW>())
+    {
+        Some(bytes) => Ok(u32::from_le_bytes(*bytes)),
         None => bail!("too few draws"),
     }
 }
 
 /// How many calls a thread makes in a run.
-pub fn calls_each(draws: &Vec<u8>) -> Result<u32> {
+pub fn calls_each(draws: &[u8]) -> Result<u32> {
     Ok(u32::try_from(draws.len() / (DRAW * PARTS as usize))?)
 }
 

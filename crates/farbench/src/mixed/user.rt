@@ -4,7 +4,7 @@ use super::shared::Shared;
 use crate::together::{Lost, Runner};
 use far_object::Text;
 use hash_table::{Caller, Refusal};
-use std::alloc::Global;
+use std::alloc::{AllocError, Global};
 use std::sync::Wait;
 use swapper::QueueNaming;
 use version_words::Naming;
@@ -15,14 +15,27 @@ const MOST_TRIES: u32 = 1_000_000;
 /// The most spares that wait in a caller.
 const MOST_SPARES: u32 = 64;
 
-/// A caller, the keys in the order of its calls, so that each is in the cache when it is called, and whether each call is a
-/// get.
+/// The keys in the order of calls, so that each is in the cache when it is called, and whether each call is a get.
+#[derive(Drop)]
+pub struct Calls {
+    pub keys: Vec<Text>,
+    pub gets: Vec<bool>,
+}
+
+impl Calls {
+    pub fn push(&mut self, key: Text, is_get: bool) -> Result<(), AllocError> {
+        self.keys.push(key)?;
+        self.gets.push(is_get)?;
+        Ok(())
+    }
+}
+
+/// A caller with its calls.
 #[derive(Drop)]
 pub struct User<J: Naming> {
     pub alloc: Global,
     pub caller: Caller<Text, Text, J>,
-    pub keys: Vec<Text>,
-    pub gets: Vec<bool>,
+    pub calls: Calls,
     pub value: Text,
 }
 
@@ -88,7 +101,7 @@ fn make<R: Wait, J: Naming, B: QueueNaming>(
     user: &mut User<J>,
     at: usize,
 ) -> bool {
-    let (Some(key), Some(is_get)) = (user.keys.get(at), user.gets.get(at)) else {
+    let (Some(key), Some(is_get)) = (user.calls.keys.get(at), user.calls.gets.get(at)) else {
         return false;
     };
     if *is_get {
@@ -106,9 +119,7 @@ impl<J: Naming, B: QueueNaming> Runner<Shared<J, B>> for User<J> {
             self.caller.recycle();
         }
         for at in 0..rounds {
-            if !make(rt, shared, self, at as usize) {
-                lost.words = lost.words.wrapping_add(1);
-            }
+            lost = lost.unless(make(rt, shared, self, at as usize));
         }
         // A reader may still be in the frame of a spare: what is dropped with the caller stays taken.
         for _ in 0..MOST_TRIES {

@@ -1,10 +1,13 @@
 //! One thread's calls on a table.
 
+use super::{entered, value};
 use crate::together::{Lost, Runner};
+use anyhow::{Result, bail};
 use far_device::FakeDevice;
 use far_object::Text;
 use hash_table::{Caller, FarTable, Refusal};
 use std::alloc::Global;
+use std::result;
 use std::sync::Wait;
 use version_words::Naming;
 
@@ -27,9 +30,22 @@ pub enum Call {
     Fetch,
 }
 
-fn is_done(moved: Result<bool, Refusal>) -> bool {
-    match moved {
-        Ok(done) => done,
+impl Call {
+    // Whether it may leave a spare, which is then reclaimed.
+    fn leaves_spare(self) -> bool {
+        !matches!(&self, Call::Get | Call::Scope | Call::ReadThrough)
+    }
+}
+
+type Table<J> = FarTable<u64, Text, J, FakeDevice>;
+
+fn is_done(moved: result::Result<bool, Refusal>) -> bool {
+    moved == Ok(true)
+}
+
+fn is_found(found: result::Result<Option<Text>, Refusal>) -> bool {
+    match found {
+        Ok(found) => found.is_some(),
         Err(_) => false,
     }
 }
@@ -37,22 +53,38 @@ fn is_done(moved: Result<bool, Refusal>) -> bool {
 /// A caller with keys of its own.
 #[derive(Drop)]
 pub struct Own<J: Naming> {
-    pub alloc: Global,
-    pub caller: Caller<u64, Text, J>,
-    pub keys: Vec<u64>,
-    pub value: Text,
-    pub call: Call,
+    alloc: Global,
+    caller: Caller<u64, Text, J>,
+    keys: Vec<u64>,
+    value: Text,
+    call: Call,
 }
 
 impl<J: Naming> Own<J> {
-    fn get(&mut self, table: &FarTable<u64, Text, J, FakeDevice>, key: u64) -> bool {
-        match table.try_get(self.alloc, &mut self.caller, &key) {
-            Ok(found) => found.is_some(),
-            Err(_) => false,
+    pub fn new(alloc: Global, table: &Table<J>, keys: Vec<u64>, call: Call) -> Result<Own<J>> {
+        let value = value(alloc)?;
+        Ok(Own {
+            alloc,
+            caller: entered(table)?,
+            keys,
+            value,
+            call,
+        })
+    }
+
+    /// Gives the key the value.
+    pub fn put<R: Wait>(&mut self, rt: &R, table: &Table<J>, key: u64) -> Result<()> {
+        match table.put(rt, self.alloc, &mut self.caller, &key, &self.value) {
+            Ok(_) => Ok(()),
+            Err(refusal) => bail!("a put was refused: {refusal}"),
         }
     }
 
-    fn scope(&mut self, table: &FarTable<u64, Text, J, FakeDevice>, key: u64) -> bool {
+    fn get(&mut self, table: &Table<J>, key: u64) -> bool {
+        is_found(table.try_get(self.alloc, &mut self.caller, &key))
+    }
+
+    fn scope(&mut self, table: &Table<J>, key: u64) -> bool {
         match table.open_scope(&mut self.caller, &key) {
             Ok(Some(scope)) => {
                 let some = !scope.bytes().is_empty();
@@ -63,66 +95,56 @@ impl<J: Naming> Own<J> {
         }
     }
 
-    fn read_through<R: Wait>(
-        &mut self,
-        rt: &R,
-        table: &FarTable<u64, Text, J, FakeDevice>,
-        key: u64,
-    ) -> bool {
-        match table.read_through(rt, self.alloc, &mut self.caller, &key) {
-            Ok(found) => found.is_some(),
-            Err(_) => false,
-        }
+    fn try_put(&mut self, table: &Table<J>, key: u64) -> bool {
+        table
+            .try_put(self.alloc, &mut self.caller, &key, &self.value)
+            .is_ok()
     }
 
-    fn swap_out<R: Wait>(
-        &mut self,
-        rt: &R,
-        table: &FarTable<u64, Text, J, FakeDevice>,
-        key: u64,
-    ) -> bool {
-        match u32::try_from(key) {
-            Ok(frame) => is_done(table.swap_out(rt, &mut self.caller, frame)),
-            Err(_) => false,
-        }
+    fn read_through<R: Wait>(&mut self, rt: &R, table: &Table<J>, key: u64) -> bool {
+        is_found(table.read_through(rt, self.alloc, &mut self.caller, &key))
+    }
+
+    fn swap_out<R: Wait>(&mut self, rt: &R, table: &Table<J>, key: u64) -> bool {
+        let frame = u32::try_from(key).unwrap_or(u32::MAX);
+        is_done(table.swap_out(rt, &mut self.caller, frame))
+    }
+
+    fn fetch<R: Wait>(&mut self, rt: &R, table: &Table<J>, key: u64) -> bool {
+        is_done(table.fetch(rt, self.alloc, &mut self.caller, &key))
     }
 
     // Reclaims the oldest spare, if one waits.
-    fn reclaim<R: Wait>(&mut self, rt: &R, table: &FarTable<u64, Text, J, FakeDevice>) {
+    fn reclaim<R: Wait>(&mut self, rt: &R, table: &Table<J>) {
         if let Some(spare) = self.caller.take_spare() {
             let _ = table.reclaim(rt, &mut self.caller, spare);
         }
     }
 
-    /// Makes the call once, and says whether it was done.
-    pub fn make<R: Wait>(
-        &mut self,
-        rt: &R,
-        table: &FarTable<u64, Text, J, FakeDevice>,
-        key: u64,
-    ) -> bool {
-        let done = match self.call {
-            Call::Get => return self.get(table, key),
-            Call::Scope => return self.scope(table, key),
-            Call::ReadThrough => return self.read_through(rt, table, key),
-            Call::Put | Call::Recycle => table
-                .try_put(self.alloc, &mut self.caller, &key, &self.value)
-                .is_ok(),
+    // Makes the call, and says whether it was done.
+    fn call<R: Wait>(&mut self, rt: &R, table: &Table<J>, key: u64) -> bool {
+        match self.call {
+            Call::Get => self.get(table, key),
+            Call::Scope => self.scope(table, key),
+            Call::ReadThrough => self.read_through(rt, table, key),
+            Call::Put | Call::Recycle => self.try_put(table, key),
             Call::SwapOut => self.swap_out(rt, table, key),
-            Call::Fetch => is_done(table.fetch(rt, self.alloc, &mut self.caller, &key)),
-        };
-        self.reclaim(rt, table);
+            Call::Fetch => self.fetch(rt, table, key),
+        }
+    }
+
+    // Makes the call once, with what is to be removed after it.
+    fn make<R: Wait>(&mut self, rt: &R, table: &Table<J>, key: u64) -> bool {
+        let done = self.call(rt, table, key);
+        if self.call.leaves_spare() {
+            self.reclaim(rt, table);
+        }
         done
     }
 }
 
-impl<J: Naming> Runner<FarTable<u64, Text, J, FakeDevice>> for Own<J> {
-    fn run<R: Wait>(
-        &mut self,
-        rt: &R,
-        table: &FarTable<u64, Text, J, FakeDevice>,
-        rounds: u32,
-    ) -> Lost {
+impl<J: Naming> Runner<Table<J>> for Own<J> {
+    fn run<R: Wait>(&mut self, rt: &R, table: &Table<J>, rounds: u32) -> Lost {
         let mut lost = Lost::NONE;
         let mut at = 0usize;
         if matches!(&self.call, Call::Recycle) {
@@ -132,9 +154,7 @@ impl<J: Naming> Runner<FarTable<u64, Text, J, FakeDevice>> for Own<J> {
             let Some(key) = self.keys.get(at).copied() else {
                 return lost;
             };
-            if !self.make(rt, table, key) {
-                lost.words = lost.words.wrapping_add(1);
-            }
+            lost = lost.unless(self.make(rt, table, key));
             at = if at + 1 < self.keys.len() { at + 1 } else { 0 };
         }
         table.stop_recycling(&mut self.caller);

@@ -4,16 +4,17 @@ ghost use Rattle.version_words.specs.Rows.{limits_of};
 ghost use Rattle.hash_table.specs.Configs.{sizes_of};
 
 use super::calls::{Call, Own};
-use super::{fill, openings, value};
+use super::{VALUE, fill, openings};
 use crate::lanes::time_of_reads;
 use crate::tenths::Tenths;
-use crate::together::{Took, together};
+use crate::together::{Took, runners, together};
 use crate::unvouched::Unvouched;
 use anyhow::{Result, bail};
 use far_device::FakeDevice;
 use far_object::Text;
 use hash_table::{FarTable, Opening};
 use std::alloc::Global;
+use std::io;
 use std::marker::Brand;
 use std::rt::Clock;
 use std::sync::Wait;
@@ -29,25 +30,70 @@ fn on_all<R: Clock + Threads + Wait + Sync, J: Naming + Send + Sync>(
     rt: &R,
     alloc: Global,
     table: &FarTable<u64, Text, J, FakeDevice>,
-    keys: &Vec<u64>,
+    keys: &[u64],
     call: Call,
 ) -> Result<Took> {
-    let Ok(caller) = table.enter() else {
-        bail!("no pass is left");
-    };
-    let mut runners = Vec::with_capacity(alloc, 1)?;
-    runners.push(Own {
+    let rounds = u32::try_from(keys.len())?;
+    let callers = runners(
         alloc,
-        caller,
-        keys: Vec::from_slice(alloc, keys)?,
-        value: value(alloc)?,
-        call,
-    })?;
-    let took = together(rt, table, runners, u32::try_from(keys.len())?)?;
+        1,
+        |_| Own::new(alloc, table, Vec::from_slice(alloc, keys)?, call),
+    )?;
+    let took = together(rt, table, callers, rounds)?;
     if took.lost.words != 0 {
         bail!("a call was not done");
     }
     Ok(took)
+}
+
+/// What the moves and the reads took.
+#[derive(Clone, Copy)]
+struct Figures {
+    out: u64,
+    read: u64,
+    lane: u64,
+    fetched: u64,
+}
+
+impl Figures {
+    /// Prints them, of so many keys.
+    fn print<R: Print>(self, rt: &R, buckets: u32, count: u64) -> io::Result<()> {
+        let swap_out = Tenths::quotient(self.out, count);
+        let through = Tenths::quotient(self.read, count);
+        let bare = Tenths::quotient(self.lane, count);
+        let part = Tenths::percentage(self.read, self.lane);
+        let fetch = Tenths::quotient(self.fetched, count);
+        println!(rt; "{HEAD}")?;
+        println!(rt; "{buckets:>7}{swap_out}{through}{bare}{part}{fetch}")
+    }
+}
+
+/// The numbers of the frames in which so many keys lie.
+fn frames(alloc: Global, count: u32) -> Result<Vec<u64>> {
+    runners(alloc, count, |frame| Ok(u64::from(frame)))
+}
+
+/// Measures each kind of call.
+fn times<R: Clock + Threads + Wait + Sync, J: Naming + Send + Sync, L: Naming>(
+    rt: &R,
+    alloc: Global,
+    table: &FarTable<u64, Text, J, FakeDevice>,
+    keys: &[u64],
+    opened: Opened<u64, Text, Unvouched>,
+) -> Result<Figures>
+    requires lane { (opened.book ≡ L.book) × (opened.names ≡ L.names) × (limits_of opened.sizes false ≡ L.limits) }
+{
+    let count = u32::try_from(keys.len())?;
+    let out = on_all(rt, alloc, table, &frames(alloc, count)?, Call::SwapOut)?;
+    let read = on_all(rt, alloc, table, keys, Call::ReadThrough)?;
+    let lane = time_of_reads::<R, L>(rt, alloc, opened, VALUE, count)?;
+    let fetched = on_all(rt, alloc, table, keys, Call::Fetch)?;
+    Ok(Figures {
+        out: out.nanoseconds,
+        read: read.nanoseconds,
+        lane,
+        fetched: fetched.nanoseconds,
+    })
 }
 
 /// Measures each kind of call, and prints the table.
@@ -63,22 +109,8 @@ fn table<R: Clock + Print + Threads + Wait + Sync, J: Naming + Send + Sync, L: N
 {
     let table = opening.named::<J>(alloc)?;
     let keys = fill(rt, alloc, &table, buckets)?;
-    let count = keys.len() as u64;
-    let mut frames = Vec::with_capacity(alloc, keys.len())?;
-    for frame in 0..count {
-        frames.push(frame)?;
-    }
-    let out = on_all(rt, alloc, &table, &frames, Call::SwapOut)?;
-    let read = on_all(rt, alloc, &table, &keys, Call::ReadThrough)?;
-    let lane = time_of_reads::<R, L>(rt, alloc, opened, &value(alloc)?, count)?;
-    let fetched = on_all(rt, alloc, &table, &keys, Call::Fetch)?;
-    let swap_out = Tenths::quotient(out.nanoseconds, count);
-    let through = Tenths::quotient(read.nanoseconds, count);
-    let bare = Tenths::quotient(lane, count);
-    let part = Tenths::percentage(read.nanoseconds, lane);
-    let fetch = Tenths::quotient(fetched.nanoseconds, count);
-    println!(rt; "{HEAD}")?;
-    println!(rt; "{buckets:>7}{swap_out}{through}{bare}{part}{fetch}")?;
+    let times = times::<R, J, L>(rt, alloc, &table, &keys, opened)?;
+    times.print(rt, buckets, keys.len() as u64)?;
     Ok(())
 }
 

@@ -98,9 +98,7 @@ impl Runner<Maps> for MapUser {
             } else {
                 maps.get(rt, self.alloc, key)
             };
-            if !done {
-                lost.words = lost.words.wrapping_add(1);
-            }
+            lost = lost.unless(done);
             at = if at + 1 < self.keys.len() { at + 1 } else { 0 };
         }
         lost

@@ -2,8 +2,10 @@
 ghost use Rattle.std.specs.Prelude.{◌≡◌, false};
 ghost use Rattle.version_words.specs.Rows.{limits_of};
 
+use super::value;
 use crate::together::{Lost, Runner};
 use crate::unvouched::Unvouched;
+use anyhow::{Result, bail};
 use far_object::{MOST_PAIRS, Memory, Object, Text, bucket_of};
 use frame_cache::{Frames, Version};
 use std::alloc::Global;
@@ -26,6 +28,25 @@ impl<J: Naming> Layers<J> {
         Layers {
             words: opened.named::<J>(),
             frames,
+        }
+    }
+
+    // Enters and touches the frame of the spot.
+    fn enter(&self, spot: &Spot) -> bool {
+        match self.frames.enter(spot.frame, spot.name) {
+            Ok(scope) => {
+                self.frames.touch(spot.frame);
+                scope.close();
+                true
+            }
+            Err(_) => false,
+        }
+    }
+
+    fn reclaim_any(&self, spare: Option<Spare<u64, Text, J>>) -> bool {
+        match spare {
+            Some(spare) => self.reclaim(spare),
+            None => true,
         }
     }
 
@@ -72,41 +93,56 @@ pub struct Stepper<J: Naming> {
 }
 
 impl<J: Naming> Stepper<J> {
-    /// A pass at these keys, whose versions are put into frames. None where a name, a frame or a pass is lacking.
+    fn new(alloc: Global, layers: &Layers<J>, count: usize, step: Step) -> Result<Stepper<J>> {
+        let spots = Vec::with_capacity(alloc, count)?;
+        let value = value(alloc)?;
+        match layers.words.enter() {
+            Ok(pass) => Ok(Stepper {
+                alloc,
+                pass,
+                value,
+                spots,
+                step,
+            }),
+            Err(_) => bail!("no pass is left"),
+        }
+    }
+
+    /// A pass at these keys, whose versions are put into frames.
     pub fn enter(
         alloc: Global,
         layers: &Layers<J>,
-        keys: &Vec<u64>,
-        value: Text,
+        keys: &[u64],
         step: Step,
-    ) -> Result<Option<Stepper<J>>, Memory> {
-        let Ok(pass) = layers.words.enter() else {
-            return Ok(None);
-        };
-        let spots = Vec::with_capacity(alloc, keys.len())?;
-        let mut stepper = Stepper {
-            alloc,
-            pass,
-            value,
-            spots,
-            step,
-        };
+    ) -> Result<Stepper<J>> {
+        let mut stepper = Stepper::new(alloc, layers, keys.len(), step)?;
         for key in keys {
-            let object = Object::of_pair(alloc, key, &stepper.value)?;
-            let again = Object::of_pair(alloc, key, &stepper.value)?;
-            if !stepper.install(layers, *key, again) {
-                return Ok(None);
-            }
-            let word = stepper.look(layers, *key);
-            let spot = Spot {
-                key: *key,
-                object,
-                frame: place_of(word),
-                name: name_of(word),
-            };
-            stepper.spots.push(spot)?;
+            stepper.add(layers, *key)?;
         }
-        Ok(Some(stepper))
+        Ok(stepper)
+    }
+
+    // Puts the key's version into a frame.
+    fn add(&mut self, layers: &Layers<J>, key: u64) -> Result<()> {
+        if !self.install_pair(layers, key) {
+            bail!("no memory, name or frame is left");
+        }
+        let word = self.look(layers, key);
+        let object = Object::of_pair(self.alloc, &key, &self.value)?;
+        self.spots.push(Spot {
+            key,
+            object,
+            frame: place_of(word),
+            name: name_of(word),
+        })?;
+        Ok(())
+    }
+
+    fn install_pair(&mut self, layers: &Layers<J>, key: u64) -> bool {
+        match Object::of_pair(self.alloc, &key, &self.value) {
+            Ok(object) => self.install(layers, key, object),
+            Err(Memory) => false,
+        }
     }
 
     fn look(&mut self, layers: &Layers<J>, key: u64) -> u64 {
@@ -138,10 +174,7 @@ impl<J: Naming> Stepper<J> {
         let frame = reserved.fill(Version::new(&name, object));
         let change = Change::Put(&key, &self.value);
         match words.install(&mut self.pass, bucket, old, name, frame, &change) {
-            Ok(installed) => match installed.spare {
-                Some(spare) => layers.reclaim(spare),
-                None => true,
-            },
+            Ok(installed) => layers.reclaim_any(installed.spare),
             Err((Moved, name)) => {
                 let _ = layers.reclaim(name.give_up(frame));
                 false
@@ -149,6 +182,7 @@ impl<J: Naming> Stepper<J> {
         }
     }
 
+    // Makes the steps at this spot.
     fn make(&mut self, layers: &Layers<J>, at: usize) -> bool {
         let Some(spot) = self.spots.get(at) else {
             return false;
@@ -156,25 +190,23 @@ impl<J: Naming> Stepper<J> {
         let key = spot.key;
         match self.step {
             Step::LookAndCheck => self.look_and_check(layers, key),
-            Step::Enter => match layers.frames.enter(spot.frame, spot.name) {
-                Ok(scope) => {
-                    layers.frames.touch(spot.frame);
-                    scope.close();
-                    true
-                }
-                Err(_) => false,
-            },
+            Step::Enter => layers.enter(spot),
             Step::Value => spot.object.value(self.alloc, &key).is_ok(),
-            Step::Publish => {
-                if spot.object.count() >= MOST_PAIRS {
-                    return false;
-                }
-                match spot.object.with(self.alloc, &key, &self.value) {
-                    Ok(object) => self.install(layers, key, object),
-                    Err(_) => false,
-                }
-            }
+            Step::Publish => match spot.with(self.alloc, &self.value) {
+                Some(object) => self.install(layers, key, object),
+                None => false,
+            },
         }
+    }
+}
+
+impl Spot {
+    // The object with this value.
+    fn with(&self, alloc: Global, value: &Text) -> Option<Object<u64, Text>> {
+        if self.object.count() >= MOST_PAIRS {
+            return None;
+        }
+        self.object.with(alloc, &self.key, value).ok()
     }
 }
 
@@ -183,9 +215,7 @@ impl<J: Naming> Runner<Layers<J>> for Stepper<J> {
         let mut lost = Lost::NONE;
         let mut at = 0usize;
         for _ in 0..rounds {
-            if !self.make(layers, at) {
-                lost.words = lost.words.wrapping_add(1);
-            }
+            lost = lost.unless(self.make(layers, at));
             at = at.wrapping_add(1);
             if at >= self.spots.len() {
                 at = 0;

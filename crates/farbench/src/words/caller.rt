@@ -145,9 +145,7 @@ impl<J: Naming> Runner<Row<J>> for Checks<J> {
     fn run<R: Wait>(&mut self, _rt: &R, row: &Row<J>, rounds: u32) -> Lost {
         let mut lost = Lost::NONE;
         for _ in 0..rounds {
-            if !self.0.check(row) {
-                lost.words = lost.words.wrapping_add(1);
-            }
+            lost = lost.unless(self.0.check(row));
         }
         lost
     }
