@@ -1,5 +1,7 @@
 -- How what is seen in a call adds up.
-use Rattle.std.proofs.Common.{◌≡◌, ℕ, ◌^◌, ◌<◌, arith, List, [], ◌∷◌, ◌++◌, Option, Some, None, IsTrue, refl, ap, ◌∙◌, subst}
+use Rattle.std.proofs.Common.{◌≡◌, ℕ, ◌^◌, ◌<◌, arith, List, [], ◌∷◌, ◌++◌, Option, Some, None, IsTrue, refl, ap, sym, ◌∙◌, subst, inl, inr}
+use Rattle.std.proofs.lemmas.List.{append-nil}
+use mathlib.Core.List.{IsPrefix}
 use Rattle.far_object.specs.Buckets.{bucket}
 use Rattle.table_core.specs.declared.event.Event.{Event}
 use Rattle.table_core.specs.declared.event.Event.TheVariants.{Done}
@@ -12,7 +14,12 @@ use Rattle.table_core.specs.Lawful.{IsLawful}
 use Rattle.version_words.specs.Views.{PassView, Goes, Calls, MakesCall, WasSeen, Follows, IsAnswered, installing}
 use Rattle.version_words.specs.Laws.{SeenAnswers}
 use Rattle.version_words.proofs.Fronts.{prefix_self, prefix_trans}
-use Rattle.hash_table.specs.Calls.{IsFinished}
+use Rattle.hash_table.specs.Calls.{AtMostOneMore, IsFinished}
+
+-- a list that has one more at its end at most begins with the other
+pub one_more_begins : {A : Type 0} (old new : List A) → AtMostOneMore old new → IsPrefix old new
+one_more_begins old new (inl same) = ([], append-nil old ∙ sym same)
+one_more_begins old new (inr more) = (more.0 ∷ [], sym more.1)
 
 module _ {K V : Type 0} where
   abbrev pub done : Operation K V → Option ℕ → ℕ → Event K V
@@ -30,6 +37,11 @@ module _ {K V : Type 0} where
     grows = prefix_trans a.front b.front c.front g.grows h.grows;
     call_added = h.call_added ∙ ap (λ (os : List (Operation K V)). os ++ o ∷ []) g.calls_stay;
   }
+
+  -- a call that was made at a later front was made at the earlier one
+  pub goes_made : (a b c : PassView K V) (o : Option (Operation K V)) → Goes a b → MakesCall o b c → MakesCall o a c
+  goes_made a b c None g h = goes_trans g h
+  goes_made a b c (Some o) g h = goes_calls o g h
 
 module _ {K V : Type 0} (ek : K → List ℕ) (ev : V → List ℕ) (l : Limits) where
   -- a call that was added behind a word that was seen, answered from the word's contents

@@ -154,6 +154,19 @@ module _ {K V : Type 0} (ek : K → List ℕ) (ev : V → List ℕ) where
     undrawn_refused {old} {mid} {new} b refusal.Device goes on h = absurd h
     undrawn_refused {old} {mid} {new} b refusal.Damaged goes on h = absurd h
 
+    -- where no name was drawn, nothing was installed
+    pub undrawn_unpublished : (b w : ℕ) (old new : PassView K V) (e : Refusal) → IsUndrawn l old new e → IsUnpublished ek l b w old new e
+    undrawn_unpublished b w old new refusal.Memory h = absurd h
+    undrawn_unpublished b w old new refusal.Far h = absurd h
+    undrawn_unpublished b w old new refusal.Moved h = inr h
+    undrawn_unpublished b w old new refusal.Missed h = absurd h
+    undrawn_unpublished b w old new refusal.NoFrame h = absurd h
+    undrawn_unpublished b w old new refusal.TooLong h = absurd h
+    undrawn_unpublished b w old new refusal.NamesSpent h = h
+    undrawn_unpublished b w old new refusal.LimboFull h = absurd h
+    undrawn_unpublished b w old new refusal.Device h = absurd h
+    undrawn_unpublished b w old new refusal.Damaged h = absurd h
+
     pub unpublished_refused : {old mid new : PassView K V} (b k w : ℕ) (e : Refusal) → Goes old mid → Goes mid new → b ≡ k → w ≡ word ek l.buckets mid.front b → IsUnpublished ek l b w mid new e → IsRefused ek ev l k old new e
     unpublished_refused {old} {mid} {new} b k w refusal.Memory goes on is at h = absurd h
     unpublished_refused {old} {mid} {new} b k w refusal.Far goes on is at h = absurd h

@@ -1,5 +1,6 @@
 use Rattle.std.proofs.Common.{◌≡◌, ◌∙◌, ℕ, ap, arith}
 use Rattle.table_core.specs.Maps.{joined}
+use Rattle.hash_table.proofs.Fronts.{goes_trans}
 use Rattle.hash_table.proofs.Ends.{part, gathered_more}
 use Rattle.hash_table.proofs.table.FarTable.all_pairs.Goals as goal
 
@@ -14,3 +15,9 @@ pub returns-clause-pairs : goal.returns-clause-pairs
 returns-clause-pairs g c = λ honest log later stays.
     let is : c.loop-b.b ≡ g.J.Naming.limits.buckets = (let e = c.buckets-b-end.ensures.count in let past = c.loop-b-test.false in let below = c.loop-b.auto.b-end in omega (arith, e, past, below)) in
     c.loop-b.invariant.so.pairs honest log later stays ∙ ap (λ (n : ℕ). joined (part g.K.FarObject.enc g.V.FarObject.enc g.J.Naming.limits log) n) is
+
+pub returns-in-Err-clause-goes : goal.returns-in-Err-clause-goes
+returns-in-Err-clause-goes g c = goes_trans c.loop-b.invariant.so.goes c.pairs_in.ensures.goes
+
+pub returns-in-Err-append-clause-goes : goal.returns-in-Err-append-clause-goes
+returns-in-Err-append-clause-goes g c = goes_trans c.loop-b.invariant.so.goes c.pairs_in.ensures.goes

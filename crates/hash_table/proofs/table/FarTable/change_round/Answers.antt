@@ -3,7 +3,7 @@ use Rattle.far_object.specs.Buckets.{bucket}
 use Rattle.table_core.specs.Maps.{key_of}
 use Rattle.hash_table.specs.Calls.{IsUnchanged}
 use Rattle.hash_table.specs.Edits.{edited}
-use Rattle.hash_table.proofs.Fronts.{finished_from}
+use Rattle.hash_table.proofs.Fronts.{goes_self, goes_trans, finished_from}
 use Rattle.hash_table.proofs.Refused.{unbuilt_far_refused}
 use Rattle.hash_table.proofs.table.FarTable.change_round.Goals.{in-Ok-after, in-Err-after}
 use Rattle.hash_table.proofs.table.FarTable.change_round.Goals as goal
@@ -21,3 +21,9 @@ returns-in-Err-clause-refused g c =
       | in-Ok-after w ↦ rw w.result-is tt
       | in-Err-after w ↦ rw w.result-is (subst (λ e. IsUnchanged g.K.FarObject.enc g.V.FarObject.enc g.J.Naming.limits c.args.self.now.limit k o c.args.caller.now.pass c.look-word.new.pass e) (sym w.in-Err-after.ensures.0) why)
     ]
+
+pub returns-then-is_full-clause-goes : goal.returns-then-is_full-clause-goes
+returns-then-is_full-clause-goes g c = goes_self c.args.caller.now.pass
+
+pub returns-clause-goes : goal.returns-clause-goes
+returns-clause-goes g c = goes_trans c.look-word.ensures.pass c.in-Err-settle.ensures.goes

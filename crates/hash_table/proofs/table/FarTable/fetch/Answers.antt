@@ -1,6 +1,7 @@
 use Rattle.std.proofs.Common.{ℕ, ◌<◌}
 use Rattle.hash_table.proofs.Places.{nothing_near, frame_near}
-use Rattle.hash_table.proofs.Refused.{unpublished_refused}
+use Rattle.hash_table.proofs.Fronts.{goes_trans}
+use Rattle.hash_table.proofs.Refused.{unread_far_refused, unpublished_refused}
 use Rattle.hash_table.proofs.Moves.{near_seen, moved_to}
 use Rattle.hash_table.proofs.table.FarTable.fetch.Goals as goal
 
@@ -19,3 +20,12 @@ returns-in-Ok-publish_local-clause-fetched g c =
 
 pub returns-clause-refused : goal.returns-clause-refused
 returns-clause-refused g c = unpublished_refused g.K.FarObject.enc g.V.FarObject.enc g.J.Naming.limits c.bucket-b.result _ c.look-word.result c.in-Err-publish_local.refusal c.look-word.ensures.pass c.in-Err-publish_local.ensures.goes c.bucket-b.ensures.is c.look-word.ensures.word c.in-Err-publish_local.ensures.why
+
+pub returns-in-Err-clause-refused : goal.returns-in-Err-clause-refused
+returns-in-Err-clause-refused g c = unread_far_refused g.K.FarObject.enc g.V.FarObject.enc g.J.Naming.limits c.args.caller.now.pass c.look-word.new.pass _ c.in-Err.refusal c.in-Err.ensures.why
+
+pub returns-in-Ok-publish_local-clause-goes : goal.returns-in-Ok-publish_local-clause-goes
+returns-in-Ok-publish_local-clause-goes g c = goes_trans c.look-word.ensures.pass c.in-Ok-publish_local.ensures.made
+
+pub returns-clause-goes : goal.returns-clause-goes
+returns-clause-goes g c = goes_trans c.look-word.ensures.pass c.in-Err-publish_local.ensures.goes
