@@ -2,11 +2,11 @@
 //!
 //! # A version ends for its own spare
 //!
-//! Of the calls `reclaim` alone takes a version out of a frame, and it takes a `Spare`: a word that its bucket never holds
-//! again. It compares the frame's version with the spare's name under a claim to read, leaves that, and claims the right to
-//! write where the word is still the one compared and nobody reads. That word has 32 bits of the name, so `empty` compares
-//! again what it took out: `laws::retire` ends it exactly where it is the spare's, and another version is put back. No
-//! clause says so of a shared frame.
+//! Of the calls `reclaim` and its variants alone take a version out of a frame, and they take a `Spare`: a word that its
+//! bucket never holds again. `reclaim` compares the frame's version with the spare's name under a claim to read, leaves that,
+//! and claims the right to write where the word is still the one compared and nobody reads; `reclaim_unlooked` is the second
+//! step alone. That word has 32 bits of the name, so `take_out` compares again: `laws::retire` ends what was taken out exactly
+//! where it is the spare's, and another version is put back. No clause says so of a shared frame.
 //!
 //! # A claim is of the frame that it names
 //!
@@ -38,7 +38,7 @@ use counted_slot::{Counted, FREE};
 use far_object::{FarObject, Memory};
 use std::alloc::Global;
 use std::marker::Model;
-use std::mem::forget;
+use std::mem::{forget, size_of};
 use std::sync::atomic::AtomicBool;
 use std::sync::atomic::Ordering::SeqCst;
 use table_core::word::{name_of, place_of};
@@ -112,7 +112,13 @@ impl<K: FarObject, V: FarObject, J: Naming> Frames<K, V, J> {
         self.slots.len() as u32
     }
 
-    pub(crate) fn slot(&self, frame: u32) -> Option<&Slot<K, V, J>>
+    /// How many bytes of memory a frame takes, without those that its object takes elsewhere. It tells a caller how many
+    /// frames there is room for. No clause says the number.
+    pub fn frame_size() -> usize {
+        size_of::<Slot<K, V, J>>()
+    }
+
+    fn slot(&self, frame: u32) -> Option<&Slot<K, V, J>>
         ensures number { IfSome result (λ slot. slot.now ≡ frame) }
         ensures here { IfSome result (λ _. frame < self.now) }
         ensures few { self.now ≤ 65536 }
@@ -260,6 +266,31 @@ impl<K: FarObject, V: FarObject, J: Naming> Frames<K, V, J> {
         self.reclaim_as(spare, true)
     }
 
+    /// The last step of `reclaim`, without the look before it: takes out what lies in the frame under the last 32 bits of
+    /// this name, where nobody reads it. True where that was the spare's version, which ends; false where it was another one,
+    /// which is put back. The spare comes back where nothing was taken out: another version or none lies there, or a reader
+    /// is in. No clause says when each comes.
+    ///
+    /// `reclaim` meets another version at this step only where one of the same bits, so 2^32 names later, came into the frame
+    /// since the look. By this call that can be tried at any two names. The place in the spare's word plays no part.
+    pub fn reclaim_unlooked(
+        &self,
+        frame: u32,
+        name: u64,
+        spare: Spare<K, V, J>,
+    ) -> Result<bool, Spare<K, V, J>>
+        ensures back { IfErr result (λ s. s ≡ spare) }
+        ensures here { IfOk result (λ _. frame < self.now) }
+    {
+        let Some(slot) = self.slot(frame) else {
+            return Err(spare);
+        };
+        match take(slot, word_of(name)) {
+            Ok(taken) => Ok(self.empty(taken, spare, frame)),
+            Err(_) => Err(spare),
+        }
+    }
+
     // The frame is kept, or else named as free.
     fn reclaim_as(&self, spare: Spare<K, V, J>, kept: bool) -> Result<bool, Spare<K, V, J>>
         requires frame { place_of spare.word < empty_place }
@@ -296,12 +327,7 @@ impl<K: FarObject, V: FarObject, J: Naming> Frames<K, V, J> {
     }
 
     // As `take_out`, and the frame is named as free.
-    pub(crate) fn empty(
-        &self,
-        claim: SlotClaim<'_, K, V, J>,
-        spare: Spare<K, V, J>,
-        frame: u32,
-    ) -> bool
+    fn empty(&self, claim: SlotClaim<'_, K, V, J>, spare: Spare<K, V, J>, frame: u32) -> bool
         requires writes { claim.right ≡ 2 }
         requires number { claim.tag ≡ frame }
     {
@@ -326,14 +352,21 @@ impl<K: FarObject, V: FarObject, J: Naming> Frames<K, V, J> {
         }
     }
 
-    // Puts the version where it lay. Where another call has the frame by now the version stays in memory for good: it is
-    // never dropped, since its bucket may still name it.
-    pub(crate) fn put_back(&self, version: Version<K, V, J>, frame: u32) {
+    /// Puts a version into this frame where it is free, as `reclaim` does with one that it took out and that isn't the spare's.
+    /// False where another call has the frame by now, or the frame is past the last: then the version stays in memory for
+    /// good. It is never dropped, since its bucket may still name it. No clause says when false comes.
+    pub fn put_back(&self, version: Version<K, V, J>, frame: u32) -> bool
+        ensures here { IsTrue result → frame < self.now }
+    {
         match self.reserve_kept(frame) {
             Some(reserved) => {
                 reserved.fill(version);
+                true
             }
-            None => forget(Lodged { version }),
+            None => {
+                forget(Lodged { version });
+                false
+            }
         }
     }
 

@@ -16,6 +16,3 @@ pub use frames::Frames;
 pub use reserved::Reserved;
 pub use scope::Scope;
 pub use version::Version;
-
-#[cfg(test)]
-mod tests;

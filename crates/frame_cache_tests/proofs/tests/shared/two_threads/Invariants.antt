@@ -1,6 +1,6 @@
 use Rattle.std.specs.Prelude.{false}
 use Rattle.version_words.specs.Rows.{limits_of}
-use Rattle.frame_cache.proofs.tests.shared.two_threads.Given as goal
+use Rattle.frame_cache_tests.proofs.tests.shared.two_threads.Given as goal
 
 -- the row that was just opened
 abbrev pub ghosts-share : goal.ghosts-share

@@ -2,10 +2,11 @@
 ghost use Rattle.std.specs.Prelude.{◌≡◌, false};
 ghost use Rattle.version_words.specs.Rows.{limits_of};
 
+use super::expect::equal;
 use super::user::{Shown, look};
 use super::{Filled, Unvouched, entered, fill, misses, object, opened, reclaimed};
-use crate::Frames;
 use far_object::Text;
+use frame_cache::Frames;
 use std::alloc::Global;
 use std::marker::Brand;
 use std::process::Abort;
@@ -110,8 +111,8 @@ fn one_by_one<J: Naming + Send + Sync, R: Threads + Abort + Sync>(
     for round in 0..VERSIONS {
         let value = (round % 256) as u8;
         let found = one_round(rt, alloc, &words, &mut pass, &frames, value);
-        assert_eq!(rt; found, Some((0, true, true)));
+        equal(rt, (round, found), (round, Some((0, true, true))));
     }
-    assert_eq!(rt; frames.free(), 1);
+    equal(rt, frames.free(), 1);
     Ok(())
 }

@@ -2,9 +2,10 @@
 ghost use Rattle.std.specs.Prelude.{◌≡◌, ◌<◌, false};
 ghost use Rattle.version_words.specs.Rows.{limits_of};
 
+use super::expect::equal;
 use super::{Unvouched, entered, fill, object, opened};
-use crate::Frames;
 use far_object::{Object, Text};
+use frame_cache::Frames;
 use std::alloc::Global;
 use std::marker::Brand;
 use std::process::Abort;
@@ -91,7 +92,7 @@ fn play<J: Naming, R: Abort>(
             },
             Step::Free => Some(frames.free()),
         };
-        assert_eq!(rt; answer, *wanted, "at {at}");
+        equal(rt, (at, answer), (at, *wanted));
     }
     Ok(())
 }

@@ -2,6 +2,7 @@
 ghost use Rattle.std.specs.Prelude.{◌≡◌, ◌≤◌, false};
 ghost use Rattle.version_words.specs.Rows.{limits_of};
 
+use super::expect::equal;
 use super::user::{Shown, User};
 use super::{Unvouched, opened};
 use far_object::Text;
@@ -37,8 +38,9 @@ pub enum Step {
     ReclaimUnderLook(u32, u64),
     /// Reclaims the last spare's version. The spare is held again where it comes back.
     Reclaim,
-    /// Takes out of the frame what lies there under the name, and ends it for the last spare.
-    Empty(u32, u64),
+    /// Takes out of the frame what lies there under the name, and ends it for the last spare, which is held again where it
+    /// comes back.
+    ReclaimUnlooked(u32, u64),
     /// Puts a version under the bucket's next name back into the frame.
     PutBack(Pair, u32),
     /// Ends a version under the bucket's next name for the spare of that name and this place.
@@ -66,6 +68,8 @@ pub enum Said {
     /// A frame, and the name of the version that was put into it.
     Filled(u32, u64),
     Name(u64),
+    /// The name of a version, and whether it was put back.
+    PutBack(u64, bool),
     Shown(Shown),
     /// What was shown before and after a spare came back.
     BackUnder(Shown, Shown),
@@ -75,6 +79,13 @@ impl Said {
     fn when(answer: Option<bool>) -> Said {
         match answer {
             Some(is) => Said::Is(is),
+            None => Said::Nothing,
+        }
+    }
+
+    fn put_back(answer: Option<(u64, bool)>) -> Said {
+        match answer {
+            Some((name, put)) => Said::PutBack(name, put),
             None => Said::Nothing,
         }
     }
@@ -158,8 +169,10 @@ impl Step {
                 Said::back_under(user.reclaim_under_look(frame, name))
             }
             Step::Reclaim => Said::reclaimed(user.reclaim()),
-            Step::Empty(frame, name) => Said::when(user.empty(frame, name)),
-            Step::PutBack(pair, frame) => Said::name(user.put_back(pair, frame)),
+            Step::ReclaimUnlooked(frame, name) => {
+                Said::reclaimed(user.reclaim_unlooked(frame, name))
+            }
+            Step::PutBack(pair, frame) => Said::put_back(user.put_back(pair, frame)),
             Step::Retire(pair, place) => Said::when(user.retire(pair, place)),
             Step::RetireForOthers(pair) => Said::when(user.retire_for_others(pair)),
         }
@@ -181,7 +194,7 @@ fn play<J: Naming, R: Abort>(
     let words = opened.named::<J>();
     let mut user = User::new(alloc, words, frames)?;
     for (at, (step, wanted)) in script.iter().enumerate() {
-        assert_eq!(rt; step.play(&mut user), *wanted, "at {at}");
+        equal(rt, (at, step.play(&mut user)), (at, *wanted));
     }
     Ok(())
 }

@@ -1,8 +1,9 @@
 //! Numbers that are not below the count of frames.
 
+use super::expect::equal;
 use super::script::{Pair, Said, Step, played};
-use crate::{Frames, NoFrame};
 use far_object::Text;
+use frame_cache::{Frames, NoFrame};
 use std::marker::Brand;
 use std::test::Fail;
 
@@ -55,7 +56,7 @@ fn a_spare_past_the_last_frees_nothing(rt: HostRuntime) -> Result<(), Fail> {
 #[test]
 fn no_frame_at_all(rt: HostRuntime) -> Result<(), Fail> {
     let frames: Frames<Text, Text, Brand> = Frames::open(rt.alloc(), 0)?;
-    assert_eq!(rt; (frames.count(), frames.free()), (0, 0));
+    equal(&rt, (frames.count(), frames.free()), (0, 0));
     match frames.reserve() {
         Ok(reserved) => {
             reserved.cancel();

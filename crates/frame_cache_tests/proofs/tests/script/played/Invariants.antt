@@ -1,6 +1,6 @@
 use Rattle.std.specs.Prelude.{false}
 use Rattle.version_words.specs.Rows.{limits_of}
-use Rattle.frame_cache.proofs.tests.script.played.Given as goal
+use Rattle.frame_cache_tests.proofs.tests.script.played.Given as goal
 
 -- the row that was just opened
 abbrev pub ghosts-play : goal.ghosts-play

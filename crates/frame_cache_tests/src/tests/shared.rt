@@ -2,10 +2,11 @@
 ghost use Rattle.std.specs.Prelude.{◌≡◌, false};
 ghost use Rattle.version_words.specs.Rows.{limits_of};
 
+use super::expect::equal;
 use super::user::{Shown, look};
 use super::{Unvouched, entered, fill, object, opened, reclaimed};
-use crate::Frames;
 use far_object::{Memory, Text};
+use frame_cache::Frames;
 use std::alloc::Global;
 use std::marker::Brand;
 use std::process::Abort;
@@ -159,8 +160,16 @@ fn share<J: Naming + Send + Sync, R: Threads + Abort + Sync>(
         by_four(rt, alloc, &shared)
     };
     let rounds = totals.done.wrapping_add(totals.frameless);
-    assert_eq!(rt; (totals.wrong, rounds), (0, threads.wrapping_mul(ROUNDS)));
-    assert!(rt; totals.frameless < ROUNDS);
-    assert_eq!(rt; (shared.frames.free(), in_use(&shared.frames)), (COUNT, 0));
+    equal(
+        rt,
+        (totals.wrong, rounds),
+        (0, threads.wrapping_mul(ROUNDS)),
+    );
+    equal(rt, totals.frameless < ROUNDS, true);
+    equal(
+        rt,
+        (shared.frames.free(), in_use(&shared.frames)),
+        (COUNT, 0),
+    );
     Ok(())
 }

@@ -3,6 +3,7 @@
 ghost use Rattle.std.specs.Prelude.{◌≡◌, ◌<◌, false};
 
 mod absent;
+mod expect;
 mod hints;
 mod kept;
 mod layout;
@@ -14,8 +15,8 @@ mod shared;
 mod user;
 mod worked;
 
-use crate::{Frames, Missed, Version};
 use far_object::{Memory, Object, Text};
+use frame_cache::{Frames, Missed, Version};
 use std::alloc::Global;
 use table_core::word::{EMPTY_PLACE, place_of};
 use version_words::{Honesty, Name, Naming, Opened, Pass, Sizes, Spare, Words};

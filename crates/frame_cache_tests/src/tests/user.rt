@@ -3,10 +3,9 @@ ghost use Rattle.std.specs.Prelude.{◌≡◌, ◌≤◌, false};
 
 use super::script::Pair;
 use super::{entered, fill, object, one_pair, reclaimed, version};
-use crate::laws::retire;
-use crate::slot::{take, word_of};
-use crate::{Frames, Reserved, Scope, Version};
 use far_object::{Object, Text};
+use frame_cache::laws::retire;
+use frame_cache::{Frames, Reserved, Scope, Version};
 use std::alloc::Global;
 use std::test::Fail;
 use table_core::word::EMPTY_PLACE;
@@ -77,30 +76,32 @@ impl<J: Naming> Spares<J> {
         spare
     }
 
-    // Reclaims the last one's version. None where it came back, and is held again.
-    fn reclaim(&mut self, frames: &Frames<Text, Text, J>) -> Option<Option<bool>> {
-        let spare = self.take()?;
-        match reclaimed(frames, spare) {
-            Ok(emptied) => Some(Some(emptied)),
+    // What was answered. None where the spare came back, and is held again.
+    fn told(&mut self, answered: Result<bool, Spare<Text, Text, J>>) -> Option<bool> {
+        match answered {
+            Ok(emptied) => Some(emptied),
             Err(back) => {
                 self.hold(back);
-                Some(None)
+                None
             }
         }
     }
-}
 
-// What emptying the frame for the spare answers, where a version of the name lies there and nobody reads it.
-fn emptied<J: Naming>(
-    frames: &Frames<Text, Text, J>,
-    frame: u32,
-    name: u64,
-    spare: Spare<Text, Text, J>,
-) -> Option<bool> {
-    let slot = frames.slot(frame)?;
-    match take(slot, word_of(name)) {
-        Ok(claim) => Some(frames.empty(claim, spare, frame)),
-        Err(_) => None,
+    // Reclaims the last one's version.
+    fn reclaim(&mut self, frames: &Frames<Text, Text, J>) -> Option<Option<bool>> {
+        let spare = self.take()?;
+        Some(self.told(reclaimed(frames, spare)))
+    }
+
+    // The same without a look first, of what lies in the frame under the name.
+    fn reclaim_unlooked(
+        &mut self,
+        frames: &Frames<Text, Text, J>,
+        frame: u32,
+        name: u64,
+    ) -> Option<Option<bool>> {
+        let spare = self.take()?;
+        Some(self.told(frames.reclaim_unlooked(frame, name, spare)))
     }
 }
 
@@ -243,16 +244,15 @@ impl<J: Naming> User<J> {
         Some((before, answer, after))
     }
 
-    pub fn empty(&mut self, frame: u32, name: u64) -> Option<bool> {
-        let spare = self.spares.take()?;
-        emptied(&self.frames, frame, name, spare)
+    pub fn reclaim_unlooked(&mut self, frame: u32, name: u64) -> Option<Option<bool>> {
+        self.spares.reclaim_unlooked(&self.frames, frame, name)
     }
 
-    pub fn put_back(&mut self, pair: Pair, frame: u32) -> Option<u64> {
+    pub fn put_back(&mut self, pair: Pair, frame: u32) -> Option<(u64, bool)> {
         let object = self.object(pair)?;
         let (name, version) = version(&self.words, &mut self.pass, pair.0, object)?;
-        self.frames.put_back(version, frame);
-        Some(name.number())
+        let put = self.frames.put_back(version, frame);
+        Some((name.number(), put))
     }
 
     pub fn retire(&mut self, pair: Pair, place: u32) -> Option<bool> {
