@@ -14,3 +14,7 @@ module _ {K V : Type 0} (ek : K → List ℕ) (ev : V → List ℕ) (l : Limits)
 
   pub near_seen : (new : PassView K V) (b k w : ℕ) → b ≡ k → w ≡ word ek l.buckets new.front b → place_of w ≢ far_place → IsNear ek ev l k new.front
   near_seen new b k w is at near = rw (← is, ← at) near
+
+  -- what is told of a move's last try is told of the move
+  pub moved_sooner : (b : ℕ) (P : ℕ → Type 0) (old mid new : PassView K V) → Goes old mid → IsMoved b P mid new → IsMoved b P old new
+  moved_sooner b P old mid new goes h = (h.0, h.1, (h.2.0, h.2.1, prefix_trans old.front mid.front h.2.0 goes.grows h.2.2))

@@ -11,7 +11,8 @@ use Rattle.table_core.specs.Lawful.{IsLawful}
 use Rattle.table_core.proofs.Histories.{agree}
 use Rattle.version_words.specs.Views.{PassView, Goes}
 use Rattle.version_words.proofs.Fronts.{prefix_self, prefix_trans}
-use Rattle.hash_table.specs.Calls.{SeenInCall, IsTooLong, HasMoved, IsRefused, IsUnchanged}
+use Rattle.hash_table.specs.Calls.{SeenInCall, IsTooLong, HasMoved, IsRefused, IsUnchanged, IsFull}
+use Rattle.hash_table.specs.Refusals.{OfSwapOut}
 use Rattle.hash_table.specs.Stages.{IsUnread, IsUnreadFar, IsUnmade, IsUnbuilt, IsUnbuiltFar, IsUndrawn, IsUnpublished}
 use Rattle.hash_table.specs.declared.refusal.Refusal.{Refusal}
 use Rattle.hash_table.specs.declared.refusal.Refusal.TheVariants as refusal
@@ -153,6 +154,30 @@ module _ {K V : Type 0} (ek : K → List ℕ) (ev : V → List ℕ) where
     undrawn_refused {old} {mid} {new} b refusal.LimboFull goes on h = absurd h
     undrawn_refused {old} {mid} {new} b refusal.Device goes on h = absurd h
     undrawn_refused {old} {mid} {new} b refusal.Damaged goes on h = absurd h
+
+    pub undrawn_of_swap_out : (old new : PassView K V) (e : Refusal) → IsUndrawn l old new e → OfSwapOut e
+    undrawn_of_swap_out old new refusal.Memory h = absurd h
+    undrawn_of_swap_out old new refusal.Far h = absurd h
+    undrawn_of_swap_out old new refusal.Moved h = tt
+    undrawn_of_swap_out old new refusal.Missed h = absurd h
+    undrawn_of_swap_out old new refusal.NoFrame h = absurd h
+    undrawn_of_swap_out old new refusal.TooLong h = absurd h
+    undrawn_of_swap_out old new refusal.NamesSpent h = tt
+    undrawn_of_swap_out old new refusal.LimboFull h = absurd h
+    undrawn_of_swap_out old new refusal.Device h = absurd h
+    undrawn_of_swap_out old new refusal.Damaged h = absurd h
+
+    pub undrawn_full : (n : ℕ) (old new : PassView K V) (e : Refusal) → IsUndrawn l old new e → IsFull e n
+    undrawn_full n old new refusal.Memory h = absurd h
+    undrawn_full n old new refusal.Far h = absurd h
+    undrawn_full n old new refusal.Moved h = tt
+    undrawn_full n old new refusal.Missed h = absurd h
+    undrawn_full n old new refusal.NoFrame h = absurd h
+    undrawn_full n old new refusal.TooLong h = absurd h
+    undrawn_full n old new refusal.NamesSpent h = tt
+    undrawn_full n old new refusal.LimboFull h = absurd h
+    undrawn_full n old new refusal.Device h = absurd h
+    undrawn_full n old new refusal.Damaged h = absurd h
 
     -- where no name was drawn, nothing was installed
     pub undrawn_unpublished : (b w : ℕ) (old new : PassView K V) (e : Refusal) → IsUndrawn l old new e → IsUnpublished ek l b w old new e

@@ -19,6 +19,10 @@ IsPlace w Nothing = has_object w ≡ false
 IsPlace w (Frame f) = (has_object w ≡ true) × (place_of w ≡ f) × (f < empty_place)
 IsPlace w Device = (has_object w ≡ true) × (place_of w ≡ far_place)
 
+-- the contents of a word lie in a frame
+abbrev pub IsLocal : ℕ → Type 0
+IsLocal w = (has_object w ≡ true) × (place_of w < empty_place)
+
 -- why the contents of a word were not read from a frame
 abbrev pub IsUnread : ℕ → Refusal → Type 0
 IsUnread w refusal.Memory = ⊤

@@ -12,15 +12,15 @@ ghost use Rattle.hash_table.specs.Refusals.{OfFetch, OfSwapOut};
 
 use crate::caller::Caller;
 use crate::refusal::{ReclaimFault, Refusal};
-use crate::stages::seen::{Place, split};
+use crate::stages::seen::{Place, lies_in, split};
 use crate::table::FarTable;
 use far_device::Device;
 use far_object::FarObject;
 use lane_store::LaneFault;
 use std::alloc::Global;
 use std::sync::Wait;
-use table_core::word::{EMPTY_PLACE, FAR_PLACE, name_of, place_of};
-use version_words::{Change, Moved, Naming, Spare};
+use table_core::word::{EMPTY_PLACE, FAR_PLACE, place_of};
+use version_words::{Change, Naming, Spare};
 
 impl<K: FarObject, V: FarObject, J: Naming, D: Device> FarTable<K, V, J, D> {
     /// One try of a swap-in of the key's bucket: its object goes from the device into a frame of the table, under a new name. False
@@ -103,54 +103,12 @@ impl<K: FarObject, V: FarObject, J: Naming, D: Device> FarTable<K, V, J, D> {
             return Ok(false);
         };
         let word = self.words.look(&mut caller.pass, b);
-        if name_of(word) != name {
+        if !lies_in(word, name, frame) {
             return Ok(false);
         }
-        match split(word) {
-            // A move from nothing is none.
-            Place::Nothing => return Ok(false),
-            Place::Device => return Ok(false),
-            Place::Frame(place) => {
-                if place != frame {
-                    return Ok(false);
-                }
-            }
-        }
-        let Ok(scope) = self.enter_frame(&caller.pass, b, word, frame) else {
-            return Err(Refusal::Missed);
-        };
-        let name = match self.draw(&mut caller.pass, b, word, scope.object(), &Change::Move) {
-            Ok(name) => name,
-            Err(refusal) => {
-                scope.close();
-                return Err(refusal);
-            }
-        };
-        let written = self.lanes.write(rt, &name, scope.object(), self.format);
-        scope.close();
-        match written {
-            Ok(()) => {}
-            Err(LaneFault::Memory) => {
-                caller.limbo.keep(Some(name.give_up(FAR_PLACE)));
-                return Err(Refusal::Memory);
-            }
-            Err(LaneFault::Device) => {
-                caller.limbo.keep(Some(name.give_up(FAR_PLACE)));
-                return Err(Refusal::Device);
-            }
-        }
-        match self
-            .words
-            .install(&mut caller.pass, b, word, name, FAR_PLACE, &Change::Move)
-        {
-            Ok(installed) => {
-                caller.limbo.keep(installed.spare);
-                Ok(true)
-            }
-            Err((Moved, name)) => {
-                caller.limbo.keep(Some(name.give_up(FAR_PLACE)));
-                Err(Refusal::Moved)
-            }
+        match self.publish_far(rt, caller, b, word, frame) {
+            Ok(()) => Ok(true),
+            Err(refusal) => Err(refusal),
         }
     }
 

@@ -1,19 +1,23 @@
 //! A new object gets a name and a place, and is installed over the word that was seen.
 ghost use Rattle.std.specs.Prelude.{◌≡◌, ◌<◌, ℕ, [], IsTrue, IfOk, IfErr, length};
-ghost use Rattle.table_core.specs.BucketWords.{name_of, place_of, empty_place};
-ghost use Rattle.table_core.specs.Logs.{contents};
+ghost use Rattle.table_core.specs.BucketWords.{name_of, place_of, empty_place, far_place};
+ghost use Rattle.table_core.specs.Logs.{contents, word};
 ghost use Rattle.table_core.specs.Lawful.{IsLawful};
 ghost use Rattle.version_words.specs.Views.{Goes, MakesCall, WasSeen, Follows, IsOfBucket, operation_of, installing, changed, MovesObject};
-ghost use Rattle.hash_table.specs.Calls.{AtMostOneMore, most_spares};
-ghost use Rattle.hash_table.specs.Stages.{IsUndrawn, IsUnpublished};
+ghost use Rattle.hash_table.specs.Calls.{AtMostOneMore, IsMoved, IsRefused, IsFull, most_spares};
+ghost use Rattle.hash_table.specs.Refusals.{OfSwapOut};
+ghost use Rattle.hash_table.specs.Stages.{IsLocal, IsUndrawn, IsUnpublished};
 
+use crate::caller::Caller;
 use crate::limbo::Limbo;
 use crate::refusal::Refusal;
 use crate::table::FarTable;
 use far_device::Device;
 use far_object::{FarObject, Object};
 use frame_cache::Version;
-use table_core::word::EMPTY_PLACE;
+use lane_store::LaneFault;
+use std::sync::Wait;
+use table_core::word::{EMPTY_PLACE, FAR_PLACE};
 use version_words::{Change, Moved, Name, NameFault, Naming, Pass, changes_fit, seen_stay};
 
 impl<K: FarObject, V: FarObject, J: Naming, D: Device> FarTable<K, V, J, D> {
@@ -130,6 +134,68 @@ impl<K: FarObject, V: FarObject, J: Naming, D: Device> FarTable<K, V, J, D> {
                 Ok(())
             }
             Err((Moved, _)) => Err(Refusal::Moved),
+        }
+    }
+
+    /// Has the object of a word in its frame written to the device under a new name, and installs that.
+    pub(crate) fn publish_far<R: Wait>(
+        &self,
+        rt: &R,
+        caller: &mut Caller<K, V, J>,
+        b: u32,
+        old: u64,
+        frame: u32,
+    ) -> Result<(), Refusal>
+        requires bucket { b < J.limits.buckets }
+        requires lawful { IsLawful K.enc V.enc J.limits caller.old.pass.front }
+        requires seen { WasSeen K.enc J.limits.buckets caller.old.pass.front b old }
+        requires stands { old ≡ word K.enc J.limits.buckets caller.old.pass.front b }
+        requires local { IsLocal old }
+        requires room { length caller.old.limbo < most_spares }
+        ensures lawful { IsLawful K.enc V.enc J.limits caller.new.pass.front }
+        ensures goes { Goes caller.old.pass caller.new.pass }
+        ensures limbo { AtMostOneMore caller.old.limbo caller.new.limbo }
+        ensures moved { IfOk result (λ _. IsMoved b (λ p. p ≡ far_place) caller.old.pass caller.new.pass) }
+        ensures refused { IfErr result (λ e. IsRefused K.enc V.enc J.limits b caller.old.pass caller.new.pass e) }
+        ensures full { IfErr result (λ e. IsFull e (length caller.old.limbo)) }
+        ensures only { IfErr result (λ e. OfSwapOut e) }
+    {
+        let Ok(scope) = self.enter_frame(&caller.pass, b, old, frame) else {
+            let _front = caller.pass.mark();
+            return Err(Refusal::Missed);
+        };
+        let name = match self.draw(&mut caller.pass, b, old, scope.object(), &Change::Move) {
+            Ok(name) => name,
+            Err(refusal) => {
+                scope.close();
+                return Err(refusal);
+            }
+        };
+        let written = self.lanes.write(rt, &name, scope.object(), self.format);
+        scope.close();
+        match written {
+            Ok(()) => {}
+            Err(LaneFault::Memory) => {
+                caller.limbo.keep(Some(name.give_up(FAR_PLACE)));
+                return Err(Refusal::Memory);
+            }
+            Err(LaneFault::Device) => {
+                caller.limbo.keep(Some(name.give_up(FAR_PLACE)));
+                return Err(Refusal::Device);
+            }
+        }
+        match self
+            .words
+            .install(&mut caller.pass, b, old, name, FAR_PLACE, &Change::Move)
+        {
+            Ok(installed) => {
+                caller.limbo.keep(installed.spare);
+                Ok(())
+            }
+            Err((Moved, name)) => {
+                caller.limbo.keep(Some(name.give_up(FAR_PLACE)));
+                Err(Refusal::Moved)
+            }
         }
     }
 }

@@ -1,7 +1,8 @@
 //! Where the contents of a word lie.
-ghost use Rattle.hash_table.specs.Stages.{IsPlace};
+ghost use Rattle.std.specs.Prelude.{IsTrue};
+ghost use Rattle.hash_table.specs.Stages.{IsPlace, IsLocal};
 
-use table_core::word::{EMPTY_PLACE, FAR_PLACE, place_of};
+use table_core::word::{EMPTY_PLACE, FAR_PLACE, name_of, place_of};
 
 /// Where the contents of a word lie.
 #[derive(Clone, Copy, Debug, PartialEq, Eq)]
@@ -25,5 +26,17 @@ pub(crate) fn split(word: u64) -> Place
         EMPTY_PLACE => Place::Nothing,
         FAR_PLACE => Place::Device,
         frame => Place::Frame(frame),
+    }
+}
+
+/// Whether the word says that its contents lie in this frame, under this name.
+pub(crate) fn lies_in(word: u64, name: u64, frame: u32) -> bool
+    ensures { IsTrue result → IsLocal word }
+{
+    match split(word) {
+        // An object of no pairs lies nowhere.
+        Place::Nothing => false,
+        Place::Device => false,
+        Place::Frame(place) => place == frame && name_of(word) == name,
     }
 }

@@ -1,20 +1,29 @@
-use Rattle.std.proofs.Common.{◌≡◌, ℕ, refl, arith}
+use Rattle.std.proofs.Common.{◌≡◌, ℕ}
 use Rattle.table_core.specs.BucketWords.{far_place}
-use Rattle.hash_table.proofs.Fronts.{goes_trans, place_packed}
-use Rattle.hash_table.proofs.Refused.{undrawn_refused, moved_seen}
-use Rattle.hash_table.proofs.Moves.{moved_to}
+use Rattle.hash_table.proofs.Fronts.{goes_self, goes_trans}
+use Rattle.hash_table.proofs.Refused.{refused_sooner}
+use Rattle.hash_table.proofs.Moves.{moved_sooner}
 use Rattle.hash_table.proofs.table.FarTable.swap_out.Goals as goal
 
-pub returns-in-Err-clause-refused : goal.returns-in-Err-clause-refused
-returns-in-Err-clause-refused g c = (c.in-Some.b, undrawn_refused g.K.FarObject.enc g.V.FarObject.enc g.J.Naming.limits c.in-Some.b c.in-Err.refusal c.look-word.ensures.pass c.draw.ensures.pass c.in-Err.ensures.why)
+pub returns-then-is_full-clause-goes : goal.returns-then-is_full-clause-goes
+returns-then-is_full-clause-goes g c = goes_self c.args.caller.now.pass
 
-pub returns-in-Ok-install-clause-swapped : goal.returns-in-Ok-install-clause-swapped
-returns-in-Ok-install-clause-swapped g c = λ _.
-    let e = c.in-Ok-install.ensures in
-    let w = c.in-Ok-install.installed.word in
-    (c.in-Some.b, moved_to g.K.FarObject.enc g.V.FarObject.enc g.J.Naming.limits c.in-Some.b c.in-Some.b w c.look-word.result (λ (p : ℕ). p ≡ far_place) c.args.caller.now.pass c.draw.new.pass c.install.new.pass (goes_trans c.look-word.ensures.pass c.draw.ensures.pass) refl (place_packed w c.in-Ok-draw.name.number far_place e.word (omega arith)) e.follows)
+pub returns-then-is_full-clause-refused : goal.returns-then-is_full-clause-refused
+returns-then-is_full-clause-refused g c = (0, tt)
+
+pub returns-in_default-clause-goes : goal.returns-in_default-clause-goes
+returns-in_default-clause-goes g c = goes_self c.args.caller.now.pass
+
+pub returns-in-Ok-clause-goes : goal.returns-in-Ok-clause-goes
+returns-in-Ok-clause-goes g c = goes_trans c.look-word.ensures.pass c.in-Ok.ensures.goes
+
+pub returns-in-Ok-clause-swapped : goal.returns-in-Ok-clause-swapped
+returns-in-Ok-clause-swapped g c = λ _.
+    (c.in-Some.b, moved_sooner g.K.FarObject.enc g.V.FarObject.enc g.J.Naming.limits c.in-Some.b (λ (p : ℕ). p ≡ far_place) c.args.caller.now.pass c.look-word.new.pass c.publish_far.new.caller.pass c.look-word.ensures.pass c.in-Ok.ensures.moved)
+
+pub returns-clause-goes : goal.returns-clause-goes
+returns-clause-goes g c = goes_trans c.look-word.ensures.pass c.in-Err.ensures.goes
 
 pub returns-clause-refused : goal.returns-clause-refused
 returns-clause-refused g c =
-    let e = c.in-Err-install.ensures in
-    (c.in-Some.b, moved_seen g.K.FarObject.enc g.V.FarObject.enc g.J.Naming.limits c.in-Some.b c.in-Some.b c.look-word.result c.look-word.ensures.pass (goes_trans c.draw.ensures.pass e.pass) refl c.look-word.ensures.word e.moved.1)
+    (c.in-Some.b, refused_sooner g.K.FarObject.enc g.V.FarObject.enc g.J.Naming.limits c.args.caller.now.pass c.look-word.new.pass c.publish_far.new.caller.pass c.in-Some.b c.in-Err.refusal c.look-word.ensures.pass c.in-Err.ensures.refused)
