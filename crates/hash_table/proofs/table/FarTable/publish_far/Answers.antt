@@ -1,4 +1,4 @@
-use Rattle.std.proofs.Common.{◌≡◌, ℕ, refl, sym, arith, inr}
+use Rattle.std.proofs.Common.{◌≡◌, ℕ, refl, arith}
 use Rattle.table_core.specs.BucketWords.{far_place}
 use Rattle.hash_table.proofs.Fronts.{goes_self, goes_trans, place_packed}
 use Rattle.hash_table.proofs.Refused.{undrawn_refused, undrawn_full, undrawn_of_swap_out, moved_seen}
@@ -13,9 +13,6 @@ returns-in-Err-clause-refused g c = undrawn_refused g.K.FarObject.enc g.V.FarObj
 
 pub returns-in-Err-clause-only : goal.returns-in-Err-clause-only
 returns-in-Err-clause-only g c = undrawn_of_swap_out g.K.FarObject.enc g.V.FarObject.enc g.J.Naming.limits c.args.caller.now.pass c.draw.new.pass c.in-Err.refusal c.in-Err.ensures.why
-
-pub install-requires-clause-moves : goal.install-requires-clause-moves
-install-requires-clause-moves g c = (c.requires.local.0, inr (c.requires.local.1, refl))
 
 pub returns-in-Ok-install-clause-goes : goal.returns-in-Ok-install-clause-goes
 returns-in-Ok-install-clause-goes g c = goes_trans c.draw.ensures.pass c.in-Ok-install.ensures.pass
