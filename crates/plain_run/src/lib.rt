@@ -8,6 +8,3 @@ mod table;
 
 pub use fault::PlainFault;
 pub use run::run_file;
-
-#[cfg(test)]
-mod tests;

@@ -10,6 +10,3 @@ pub use pair::Pair;
 pub use refusal::Refusal;
 pub use reply::{push_line, reply_text};
 pub use writing::{write_contents, write_files};
-
-#[cfg(test)]
-mod tests;

@@ -5,8 +5,8 @@ mod expect;
 mod refused;
 mod runs;
 
-use crate::{PlainFault, run_file};
 use expect::{equal, holds};
+use plain_run::{PlainFault, run_file};
 use std::alloc::Global;
 use std::process::Abort;
 

@@ -1,9 +1,9 @@
 //! The texts of replies, what is written, and writers that have no room.
 mod expect;
 
-use crate::{Refusal, push_line, reply_text, write_contents, write_files};
 use expect::{equal, holds, made};
 use far_object::Text;
+use run_lines::{Refusal, push_line, reply_text, write_contents, write_files};
 use std::alloc::Global;
 use std::io;
 use std::io::{ErrorKind, Write};

@@ -1,8 +1,8 @@
 //! Files that are refused, a reader that fails, writers without room, and the texts of the faults.
 use super::assert_fault;
 use super::expect::{equal, holds, made};
-use crate::{PlainFault, run_file};
 use command_file::FileFault;
+use plain_run::{PlainFault, run_file};
 use std::io;
 use std::io::{BufRead, ErrorKind, Read};
 

@@ -1,7 +1,7 @@
 //! Files and what their runs write. The keys a, e and i are in one bucket of 4.
 use super::assert_written;
 use super::expect::{equal, holds, made};
-use crate::run_file;
+use plain_run::run_file;
 
 #[test]
 fn puts_gets_and_removals(rt: HostRuntime) {
@@ -51,7 +51,7 @@ fn held_keys(rt: HostRuntime) {
 /// An object with the pair of `a` and `1` has 10 bytes: its count of 4, and two texts of 3.
 #[test]
 fn objects_at_the_limit(rt: HostRuntime) {
-    let rows: [(&[u8], &[u8]); 2] = [
+    let rows: [(&[u8], &[u8]); 3] = [
         (
             b"put a 1\nput e 2\nput a 12\nget a\nget e\n",
             b"file 1\nnone\ntoo long\ntoo long\n1\nnone\ncontents\na 1\n",
@@ -59,6 +59,10 @@ fn objects_at_the_limit(rt: HostRuntime) {
         (
             b"putnew a 1\nputif a 2 12\nputif a 1 12\n",
             b"file 1\nnone\n1\ntoo long\ncontents\na 1\n",
+        ),
+        (
+            b"put a 1\nput a 12\ndel a\n",
+            b"file 1\nnone\ntoo long\n1\ncontents\n",
         ),
     ];
     for (file, wanted) in &rows {
