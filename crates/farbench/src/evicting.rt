@@ -72,6 +72,16 @@ fn over_table<R: Clock + Wait, J: Naming>(
     requires { (opening.row.book ≡ J.book) × (opening.row.names ≡ J.names) × (limits_of (sizes_of opening.config) true ≡ J.limits) }
 {
     let table = opening.named::<J>(alloc)?;
+    on_table(rt, alloc, &table, frames, work)
+}
+
+fn on_table<R: Clock + Wait, J: Naming>(
+    rt: &R,
+    alloc: Global,
+    table: &FarTable<u64, u64, J, FakeDevice>,
+    frames: u32,
+    work: Work,
+) -> Result<u64> {
     let Ok(queue) = QueueOpening::open(alloc, ROOM) else {
         bail!("there is no memory for a queue");
     };
@@ -81,7 +91,7 @@ fn over_table<R: Clock + Wait, J: Naming>(
 fn over_queue<R: Clock + Wait, J: Naming, B: QueueNaming>(
     rt: &R,
     alloc: Global,
-    table: FarTable<u64, u64, J, FakeDevice>,
+    table: &FarTable<u64, u64, J, FakeDevice>,
     queue: QueueOpening<u64, u64, J>,
     frames: u32,
     work: Work,
@@ -92,12 +102,12 @@ fn over_queue<R: Clock + Wait, J: Naming, B: QueueNaming>(
         bail!("there is no memory for seats");
     };
     match work {
-        Work::Turns => turns(rt, alloc, &table, &queue, taker, frames, TURNS),
+        Work::Turns => turns(rt, alloc, table, &queue, taker, frames, TURNS),
         Work::Collecting(spares) => {
-            collecting(rt, alloc, &table, &queue, taker, seats, frames, spares)
+            collecting(rt, alloc, table, &queue, taker, seats, frames, spares)
         }
-        Work::Handing(rounds) => handing(rt, alloc, &table, queue, taker, seats, rounds),
-        Work::Plain(rounds) => plain(rt, alloc, &table, ROOM, rounds),
+        Work::Handing(rounds) => handing(rt, alloc, table, queue, taker, seats, rounds),
+        Work::Plain(rounds) => plain(rt, alloc, table, ROOM, rounds),
     }
 }
 

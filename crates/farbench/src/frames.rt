@@ -185,6 +185,23 @@ fn print_row<R: Print>(rt: &R, times: Figures, filled: usize, setting: Setting) 
     println!(rt; "{count:>7} {threads:>7} {layout:>7}{reserve}{none}{enter}{missed}{exchange}")
 }
 
+/// Fills so many frames.
+fn fill_all<J: Naming>(
+    alloc: Global,
+    words: &Words<u64, u64, J>,
+    pass: &mut Pass<u64, u64, J>,
+    frames: &Frames<u64, u64, J>,
+    count: u32,
+) -> Result<Vec<Enters>>
+    requires { J.limits.honest ≡ false }
+{
+    let mut filled = Vec::with_capacity(alloc, count as usize)?;
+    for _ in 0..count {
+        filled.push(fill(alloc, words, pass, frames)?)?;
+    }
+    Ok(filled)
+}
+
 /// Fills all of so many frames but the last few.
 fn fill_most<J: Naming>(
     alloc: Global,
@@ -194,15 +211,33 @@ fn fill_most<J: Naming>(
 ) -> Result<Vec<Enters>>
     requires named { (opened.book ≡ J.book) × (opened.names ≡ J.names) × (limits_of opened.sizes false ≡ J.limits) }
 {
-    let mut filled = Vec::with_capacity(alloc, count as usize)?;
     let words = opened.named::<J>();
     let Ok(mut pass) = words.enter() else {
         bail!("no pass is left");
     };
-    for _ in FREE..count {
-        filled.push(fill(alloc, &words, &mut pass, frames)?)?;
+    fill_all(alloc, &words, &mut pass, frames, count.saturating_sub(FREE))
+}
+
+/// Measures each setting, and prints the table.
+fn rows<R: Clock + Print + Threads + Wait + Sync, J: Naming + Send + Sync>(
+    rt: &R,
+    alloc: Global,
+    frames: &Frames<u64, u64, J>,
+    filled: &[Enters],
+    plain: &Plain,
+    rounds: u32,
+) -> Result<()> {
+    println!(rt; "{HEAD}")?;
+    for (threads, layout) in SETTINGS {
+        let setting = Setting {
+            threads,
+            layout,
+            rounds,
+        };
+        let times = times(rt, alloc, frames, filled, plain, setting)?;
+        print_row(rt, times, filled.len(), setting)?;
     }
-    Ok(filled)
+    Ok(())
 }
 
 /// Fills all frames but the last few, measures each setting, and prints the table.
@@ -219,17 +254,7 @@ fn table<R: Clock + Print + Threads + Wait + Sync, J: Naming + Send + Sync>(
     let frames: Frames<u64, u64, J> = Frames::open(alloc, count)?;
     let filled = fill_most(alloc, opened, &frames, count)?;
     let plain = Plain::new(alloc, 16 * MOST_THREADS)?;
-    println!(rt; "{HEAD}")?;
-    for (threads, layout) in SETTINGS {
-        let setting = Setting {
-            threads,
-            layout,
-            rounds,
-        };
-        let times = times(rt, alloc, &frames, &filled, &plain, setting)?;
-        print_row(rt, times, filled.len(), setting)?;
-    }
-    Ok(())
+    rows(rt, alloc, &frames, &filled, &plain, rounds)
 }
 
 /// Prints the nanoseconds of each kind of call by 1, 2 and 4 threads, where all of so many frames but four are filled.

@@ -131,7 +131,19 @@ fn object_of(alloc: Global, bytes: usize) -> Result<Object<u64, Text>> {
     Ok(Object::of_pair(alloc, &0, &value)?)
 }
 
-/// Measures each kind of round, and prints the table.
+/// Measures each kind of round on these names, and prints what they took.
+fn print_times<R: Clock + Print + Wait, J: Naming>(
+    rt: &R,
+    alloc: Global,
+    names: &mut Names<J>,
+    rounds: u32,
+) -> Result<()> {
+    let times = times(rt, alloc, names, rounds)?;
+    times.print(rt, names.object.as_bytes().len(), rounds)?;
+    Ok(())
+}
+
+/// Measures each kind of round on names of the row, and prints the table.
 fn table<R: Clock + Print + Wait, J: Naming>(
     rt: &R,
     alloc: Global,
@@ -141,13 +153,22 @@ fn table<R: Clock + Print + Wait, J: Naming>(
     requires { (opened.book ≡ J.book) × (opened.names ≡ J.names) × (limits_of opened.sizes false ≡ J.limits) }
 {
     let mut names = names::<J>(alloc, opened, VALUE)?;
-    let times = times(rt, alloc, &mut names, rounds)?;
-    times.print(rt, names.object.as_bytes().len(), rounds)?;
-    Ok(())
+    print_times(rt, alloc, &mut names, rounds)
 }
 
-/// The nanoseconds of as many reads through a lane as there are objects, each of one pair with a value of so many bytes.
-pub fn time_of_reads<R: Clock + Wait, J: Naming>(
+/// The nanoseconds of so many reads through a lane, each of an object of its own.
+fn on_reads<R: Clock + Wait, J: Naming>(
+    rt: &R,
+    alloc: Global,
+    names: &mut Names<J>,
+    count: u32,
+) -> Result<u64> {
+    let mut round = Reads::new(rt, names, one_lane(alloc)?, u64::from(count))?;
+    time(rt, alloc, names, &mut round, count)
+}
+
+/// The nanoseconds of so many reads on names of the row, for objects of one pair with a value of so many bytes.
+fn reads<R: Clock + Wait, J: Naming>(
     rt: &R,
     alloc: Global,
     opened: Opened<u64, Text, Unvouched>,
@@ -157,8 +178,28 @@ pub fn time_of_reads<R: Clock + Wait, J: Naming>(
     requires { (opened.book ≡ J.book) × (opened.names ≡ J.names) × (limits_of opened.sizes false ≡ J.limits) }
 {
     let mut names = names::<J>(alloc, opened, bytes)?;
-    let mut round = Reads::new(rt, &mut names, one_lane(alloc)?, u64::from(count))?;
-    time(rt, alloc, &mut names, &mut round, count)
+    on_reads(rt, alloc, &mut names, count)
+}
+
+/// A row of one bucket that has no name yet.
+fn opened(alloc: Global) -> Result<Opened<u64, Text, Unvouched>> {
+    let sizes = Sizes {
+        buckets: 1,
+        names: NAMES,
+        passes: 1,
+    };
+    Ok(Opened::open(alloc, sizes)?)
+}
+
+/// The nanoseconds of as many reads through a lane as there are objects, each of one pair with a value of so many bytes.
+pub fn time_of_reads<R: Clock + Wait>(
+    rt: &R,
+    alloc: Global,
+    bytes: usize,
+    count: u32,
+) -> Result<u64> {
+    let opened = opened(alloc)?;
+    reads::<R, Brand>(rt, alloc, opened, bytes, count)
 }
 
 /// Prints the nanoseconds of a round on a bare device and through a lane, over so many rounds of each kind.
@@ -166,11 +207,6 @@ pub fn time_of_reads<R: Clock + Wait, J: Naming>(
 /// An error comes where memory, the clock or the output fails, or an object that was written isn't found.
 pub fn measure<R: Alloc<A = Global> + Clock + Print + Wait>(rt: &R, rounds: u32) -> Result<()> {
     let alloc = rt.alloc();
-    let sizes = Sizes {
-        buckets: 1,
-        names: NAMES,
-        passes: 1,
-    };
-    let opened = Opened::<u64, Text, Unvouched>::open(alloc, sizes)?;
+    let opened = opened(alloc)?;
     table::<R, Brand>(rt, alloc, opened, rounds)
 }

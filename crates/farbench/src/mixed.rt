@@ -83,9 +83,20 @@ fn fill<R: Wait, J: Naming, B: QueueNaming>(
     value: &Text,
 ) -> Result<()> {
     let mut caller = entered(&shared.table)?;
+    fill_by(rt, alloc, shared, &mut caller, keys, value)
+}
+
+fn fill_by<R: Wait, J: Naming, B: QueueNaming>(
+    rt: &R,
+    alloc: Global,
+    shared: &Shared<J, B>,
+    caller: &mut Caller<Text, Text, J>,
+    keys: &[u8],
+    value: &Text,
+) -> Result<()> {
     for number in 0..keys.len() / 16 {
         let key = key_at(alloc, keys, number)?;
-        fill_one(rt, alloc, shared, &mut caller, key, value)?;
+        fill_one(rt, alloc, shared, caller, key, value)?;
     }
     Ok(())
 }
@@ -169,21 +180,32 @@ where
     span
 }
 
-/// Runs the calls of so many threads, from this part of the draws on.
+/// The part of the draws that a run begins at, how many threads it has, and how many gets there are in a hundred calls.
+#[derive(Clone, Copy)]
+struct Mix {
+    first: u32,
+    threads: u32,
+    gets: u32,
+}
+
+/// Runs the calls of this mix.
 fn run<R, J, B>(
     rt: &R,
     alloc: Global,
     shared: &Shared<J, B>,
     input: Input<'_>,
-    first: u32,
-    threads: u32,
-    gets: u32,
+    mix: Mix,
 ) -> Result<Span>
 where
     R: Clock + Threads + Wait + Sync,
     J: Naming + Send + Sync,
     B: QueueNaming + Send + Sync,
 {
+    let Mix {
+        first,
+        threads,
+        gets,
+    } = mix;
     let calls = calls_each(input.draws)?;
     let users = runners(
         alloc,
@@ -206,6 +228,33 @@ const RUNS: [(u32, u32); 9] = [
     (0, 4),
 ];
 
+/// Runs the calls of this mix, and prints a line for them.
+fn row<R, J, B>(
+    rt: &R,
+    alloc: Global,
+    shared: &Shared<J, B>,
+    input: Input<'_>,
+    skew: &str,
+    mix: Mix,
+) -> Result<()>
+where
+    R: Clock + Print + Threads + Wait + Sync,
+    J: Naming + Send + Sync,
+    B: QueueNaming + Send + Sync,
+{
+    let span = run(rt, alloc, shared, input, mix)?;
+    let Mix {
+        first: _,
+        threads,
+        gets,
+    } = mix;
+    let count = u64::from(calls_each(input.draws)?).wrapping_mul(u64::from(threads));
+    let nanoseconds = span.nanoseconds();
+    let lost = span.lost();
+    println!(rt; "{skew} {gets} {threads} {count} {nanoseconds} {lost}")?;
+    Ok(())
+}
+
 /// Runs the calls of each mix by 1, 2 and 4 threads on these draws, and prints a line for each.
 fn rows<R, J, B>(
     rt: &R,
@@ -219,17 +268,20 @@ where
     J: Naming + Send + Sync,
     B: QueueNaming + Send + Sync,
 {
-    let calls = calls_each(input.draws)?;
+    let mut mix = Mix {
+        first: 0,
+        threads: WARMING,
+        gets: 95,
+    };
     // What is hot lies in frames then.
-    run(rt, alloc, shared, input, 0, WARMING, 95)?;
-    let mut first = WARMING;
+    run(rt, alloc, shared, input, mix)?;
     for (gets, threads) in RUNS {
-        let span = run(rt, alloc, shared, input, first, threads, gets)?;
-        first = first.wrapping_add(threads);
-        let count = u64::from(calls).wrapping_mul(u64::from(threads));
-        let nanoseconds = span.nanoseconds();
-        let lost = span.lost();
-        println!(rt; "{skew} {gets} {threads} {count} {nanoseconds} {lost}")?;
+        mix = Mix {
+            first: mix.first.wrapping_add(mix.threads),
+            threads,
+            gets,
+        };
+        row(rt, alloc, shared, input, skew, mix)?;
     }
     Ok(())
 }
@@ -276,6 +328,22 @@ where
     on_file(rt, alloc, shared, keys, "zipf", value)
 }
 
+/// An evictor of the table.
+fn evictor<J: Naming, B: QueueNaming>(
+    alloc: Global,
+    table: &FarTable<Text, Text, J, FakeDevice>,
+    taker: QueueSeat<Text, Text, J, B>,
+    frames: u32,
+) -> Result<Evictor<Text, Text, J, B>>
+    requires takes { taker.takes ≡ true }
+    requires some { 0 < frames }
+{
+    match Evictor::open(alloc, entered(table)?, taker, frames, SPARES) {
+        Ok(evictor) => Ok(evictor),
+        Err(_) => bail!("there is no memory for an evictor"),
+    }
+}
+
 /// The table with its queue and its evictor.
 fn share<J: Naming, B: QueueNaming>(
     alloc: Global,
@@ -287,11 +355,8 @@ fn share<J: Naming, B: QueueNaming>(
     requires takes { taker.takes ≡ true }
     requires some { 0 < frames }
 {
-    let own = entered(&table)?;
-    match Evictor::open(alloc, own, taker, frames, SPARES) {
-        Ok(evictor) => Ok(Shared::new(table, queue, evictor, reserve_of(frames))),
-        Err(_) => bail!("there is no memory for an evictor"),
-    }
+    let evictor = evictor(alloc, &table, taker, frames)?;
+    Ok(Shared::new(table, queue, evictor, reserve_of(frames)))
 }
 
 fn over_queue<R, J, B>(

@@ -1,5 +1,5 @@
 //! Calls on a table whose contents lie in frames, beside the steps that they consist of, and beside std's maps.
-ghost use Rattle.std.specs.Prelude.{◌≡◌, ◌≤◌, true, false, IfOk};
+ghost use Rattle.std.specs.Prelude.{◌≡◌, ◌<◌, ◌≤◌, true, false, IfOk};
 ghost use Rattle.version_words.specs.Rows.{limits_of};
 ghost use Rattle.hash_table.specs.Configs.{sizes_of};
 
@@ -13,7 +13,7 @@ use crate::tenths::Tenths;
 use crate::together::{Took, runners, together};
 use crate::unvouched::Unvouched;
 use anyhow::{Result, bail};
-use calls::{Call, Own};
+use calls::{Call, Own, put_all};
 use far_device::FakeDevice;
 use far_object::Text;
 use frame_cache::Frames;
@@ -150,10 +150,7 @@ fn fill<R: Wait, J: Naming>(
     count: u32,
 ) -> Result<Vec<u64>> {
     let keys = keys_of(alloc, table, count)?;
-    let mut own = Own::new(alloc, table, Vec::new(alloc), Call::Get)?;
-    for key in &keys {
-        own.put(rt, table, *key)?;
-    }
+    put_all(rt, alloc, table, &keys)?;
     Ok(keys)
 }
 
@@ -345,55 +342,99 @@ fn row_of_table<
     Ok(())
 }
 
-/// Measures each load, and prints the table.
-fn table<
+/// Puts a version for each of the keys into the layers, and prints what each load takes.
+fn rows<R: Clock + Print + Threads + Wait + Sync, J: Naming + Send + Sync, L: Naming + Send + Sync>(
+    rt: &R,
+    alloc: Global,
+    table: &FarTable<u64, Text, J, FakeDevice>,
+    layers: &Layers<L>,
+    keys: &[u64],
+    load: Load,
+) -> Result<()> {
+    Stepper::enter(alloc, layers, keys, Step::Enter)?;
+    println!(rt; "{HEAD}")?;
+    for threads in [1, 2, 4] {
+        let load = Load { threads, ..load };
+        row_of_table(rt, alloc, table, layers, keys, load)?;
+    }
+    Ok(())
+}
+
+/// Measures each load on the table, beside the row of words with frames.
+fn beside_layers<
     R: Clock + Print + Threads + Wait + Sync,
     J: Naming + Send + Sync,
     L: Naming + Send + Sync,
 >(
     rt: &R,
     alloc: Global,
-    opening: Opening<u64, Text, FakeDevice>,
+    table: &FarTable<u64, Text, J, FakeDevice>,
     opened: Opened<u64, Text, Unvouched>,
+    keys: &[u64],
     load: Load,
 ) -> Result<()>
-    requires table { (opening.row.book ≡ J.book) × (opening.row.names ≡ J.names) × (limits_of (sizes_of opening.config) true ≡ J.limits) }
     requires layers { (opened.book ≡ L.book) × (opened.names ≡ L.names) × (limits_of opened.sizes false ≡ L.limits) }
     requires few { load.buckets ≤ 65536 }
 {
-    let table = opening.named::<J>(alloc)?;
-    let keys = fill(rt, alloc, &table, load.buckets)?;
     let layers = Layers::<L>::new(opened, Frames::open(alloc, load.buckets)?);
-    Stepper::enter(alloc, &layers, &keys, Step::Enter)?;
-    println!(rt; "{HEAD}")?;
-    for threads in [1, 2, 4] {
-        let load = Load { threads, ..load };
-        row_of_table(rt, alloc, &table, &layers, &keys, load)?;
-    }
-    Ok(())
+    rows(rt, alloc, table, &layers, keys, load)
 }
 
-/// A table of so many buckets and frames, and a row of words for as many buckets.
+/// Fills the table, and measures each load.
+fn on_filled<R: Clock + Print + Threads + Wait + Sync, J: Naming + Send + Sync>(
+    rt: &R,
+    alloc: Global,
+    table: &FarTable<u64, Text, J, FakeDevice>,
+    load: Load,
+) -> Result<()>
+    requires some { 0 < load.buckets }
+    requires few { load.buckets ≤ 65536 }
+{
+    let keys = fill(rt, alloc, table, load.buckets)?;
+    let opened = row(alloc, load.buckets)?;
+    beside_layers::<R, J, Brand>(rt, alloc, table, opened, &keys, load)
+}
+
+/// Measures each load, and prints the table.
+fn table<R: Clock + Print + Threads + Wait + Sync, J: Naming + Send + Sync>(
+    rt: &R,
+    alloc: Global,
+    opening: Opening<u64, Text, FakeDevice>,
+    load: Load,
+) -> Result<()>
+    requires table { (opening.row.book ≡ J.book) × (opening.row.names ≡ J.names) × (limits_of (sizes_of opening.config) true ≡ J.limits) }
+    requires some { 0 < load.buckets }
+    requires few { load.buckets ≤ 65536 }
+{
+    let table = opening.named::<J>(alloc)?;
+    on_filled(rt, alloc, &table, load)
+}
+
+/// A table of so many buckets and frames that has no name yet.
 ///
 /// An error comes where memory or a device fails, or the count is outside its limits.
-fn openings(
-    alloc: Global,
-    count: u32,
-) -> Result<(Opening<u64, Text, FakeDevice>, Opened<u64, Text, Unvouched>)>
+fn opening(alloc: Global, count: u32) -> Result<Opening<u64, Text, FakeDevice>>
+    ensures some { IfOk result (λ _. 0 < count) }
     ensures few { IfOk result (λ _. count ≤ 65536) }
 {
     if count < FEWEST || count > MOST {
         bail!("there are {FEWEST} to {MOST} buckets");
     }
+    let devices = Vec::from_array(alloc, [FakeDevice::new(alloc)])?;
+    Ok(Opening::open(alloc, settings(count), devices)?)
+}
+
+/// A row of words for so many buckets that has no name yet.
+fn row(alloc: Global, count: u32) -> Result<Opened<u64, Text, Unvouched>>
+    requires some { 0 < count }
+    requires few { count ≤ 65536 }
+{
     let sizes = Sizes {
         buckets: count,
         names: NAMES,
         passes: PASSES,
     };
-    let devices = Vec::from_array(alloc, [FakeDevice::new(alloc)])?;
-    let opening = Opening::open(alloc, settings(count), devices)?;
-    let opened = Opened::open(alloc, sizes)?;
-    Ok((opening, opened))
+    Ok(Opened::open(alloc, sizes)?)
 }
 
 /// Prints the nanoseconds of each kind of call by 1, 2 and 4 threads, each on keys of its own, on a table of so many buckets
@@ -406,11 +447,11 @@ pub fn measure<R: Alloc<A = Global> + Clock + Print + Threads + Wait + Sync>(
     rounds: u32,
 ) -> Result<()> {
     let alloc = rt.alloc();
-    let (opening, opened) = openings(alloc, count)?;
+    let opening = opening(alloc, count)?;
     let load = Load {
         buckets: count,
         threads: 1,
         rounds,
     };
-    table::<R, Brand, Brand>(rt, alloc, opening, opened, load)
+    table::<R, Brand>(rt, alloc, opening, load)
 }

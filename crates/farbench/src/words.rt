@@ -102,7 +102,7 @@ fn print_row<R: Print>(rt: &R, times: Figures, setting: Setting) -> io::Result<(
 }
 
 /// Measures each layout by so many threads, and prints it.
-fn rows<R: Clock + Print + Threads + Wait + Sync, J: Naming + Send + Sync>(
+fn rows_by<R: Clock + Print + Threads + Wait + Sync, J: Naming + Send + Sync>(
     rt: &R,
     alloc: Global,
     row: &Row<J>,
@@ -117,6 +117,24 @@ fn rows<R: Clock + Print + Threads + Wait + Sync, J: Naming + Send + Sync>(
             rounds,
         };
         print_row(rt, times(rt, alloc, row, plain, setting)?, setting)?;
+    }
+    Ok(())
+}
+
+/// Measures each setting up to so many threads, and prints them below their head.
+fn rows<R: Clock + Print + Threads + Wait + Sync, J: Naming + Send + Sync>(
+    rt: &R,
+    alloc: Global,
+    row: &Row<J>,
+    plain: &Plain,
+    most: u32,
+    rounds: u32,
+) -> Result<()> {
+    println!(rt; "{HEAD}")?;
+    for threads in [1, 2, 4] {
+        if threads <= most {
+            rows_by(rt, alloc, row, plain, threads, rounds)?;
+        }
     }
     Ok(())
 }
@@ -141,13 +159,7 @@ fn table<R: Clock + Print + Threads + Wait + Sync, J: Naming + Send + Sync>(
 {
     let row = named::<J>(alloc, opened)?;
     let plain = Plain::new(alloc, BUCKETS)?;
-    println!(rt; "{HEAD}")?;
-    for threads in [1, 2, 4] {
-        if threads <= most {
-            rows(rt, alloc, &row, &plain, threads, rounds)?;
-        }
-    }
-    Ok(())
+    rows(rt, alloc, &row, &plain, most, rounds)
 }
 
 /// Prints the nanoseconds of each kind of call, by 1, 2 and 4 threads, as far as these are at most so many.

@@ -167,11 +167,26 @@ pub fn turns<R: Clock + Wait, J: Naming, B: QueueNaming>(
 {
     fill(alloc, table, frames)?;
     let mut evictor = evictor(alloc, table, taker, frames)?;
+    timed_turns(rt, table, queue, &mut evictor, turns)
+}
+
+fn timed_turns<R: Clock + Wait, J: Naming, B: QueueNaming>(
+    rt: &R,
+    table: &Table<J>,
+    queue: &Queue<J, B>,
+    evictor: &mut Evictor<u64, u64, J, B>,
+    turns: u32,
+) -> Result<u64> {
     let start = Instant::now(rt)?;
     for _ in 0..turns {
-        turn(rt, table, queue, &mut evictor)?;
+        turn(rt, table, queue, evictor)?;
     }
     since(rt, start)
+}
+
+/// The one seat beside the taker's.
+fn only<T: Drop>(mut seats: Vec<T>) -> Result<T> {
+    found(seats.pop())
 }
 
 fn leave<R: Wait, J: Naming, B: QueueNaming>(
@@ -179,10 +194,10 @@ fn leave<R: Wait, J: Naming, B: QueueNaming>(
     alloc: Global,
     table: &Table<J>,
     queue: &Queue<J, B>,
-    mut seats: Vec<Seat<J, B>>,
+    seats: Vec<Seat<J, B>>,
     spares: u32,
 ) -> Result<()> {
-    let mut seat = found(seats.pop())?;
+    let mut seat = only(seats)?;
     User::new(alloc, table)?.leave(rt, queue, &mut seat, spares)
 }
 
@@ -201,6 +216,16 @@ pub fn collecting<R: Clock + Wait, J: Naming, B: QueueNaming>(
 {
     leave(rt, alloc, table, queue, seats, spares)?;
     let mut evictor = evictor(alloc, table, taker, frames)?;
+    timed_collecting(rt, table, queue, &mut evictor, spares)
+}
+
+fn timed_collecting<R: Clock + Wait, J: Naming, B: QueueNaming>(
+    rt: &R,
+    table: &Table<J>,
+    queue: &Queue<J, B>,
+    evictor: &mut Evictor<u64, u64, J, B>,
+    spares: u32,
+) -> Result<u64> {
     let start = Instant::now(rt)?;
     let told = evictor.collect(rt, table, queue);
     let took = since(rt, start);
@@ -243,14 +268,22 @@ pub fn handing<R: Clock + Wait, J: Naming, B: QueueNaming>(
     table: &Table<J>,
     queue: Queue<J, B>,
     taker: Seat<J, B>,
-    mut seats: Vec<Seat<J, B>>,
+    seats: Vec<Seat<J, B>>,
     rounds: u32,
 ) -> Result<u64>
     requires { taker.takes ≡ true }
 {
-    let seat = found(seats.pop())?;
-    let mut seats = Seats { queue, taker, seat };
-    let mut spare = spare(alloc, table)?;
+    let seat = only(seats)?;
+    let seats = Seats { queue, taker, seat };
+    timed_handing(rt, seats, spare(alloc, table)?, rounds)
+}
+
+fn timed_handing<R: Clock + Wait, J: Naming, B: QueueNaming>(
+    rt: &R,
+    mut seats: Seats<J, B>,
+    mut spare: Queued<J>,
+    rounds: u32,
+) -> Result<u64> {
     let start = Instant::now(rt)?;
     for _ in 0..rounds {
         spare = seats.through(rt, spare)?;
@@ -278,11 +311,19 @@ pub fn plain<R: Clock + Wait, J: Naming>(
     room: u32,
     rounds: u32,
 ) -> Result<u64> {
-    let mut spare = spare(alloc, table)?;
     if room == 0 {
         bail!("the queue has no room");
     }
     let queue = ArrayQueue::new(alloc, room as usize)?;
+    timed_plain(rt, queue, spare(alloc, table)?, rounds)
+}
+
+fn timed_plain<R: Clock + Wait, J: Naming>(
+    rt: &R,
+    queue: ArrayQueue<Queued<J>>,
+    mut spare: Queued<J>,
+    rounds: u32,
+) -> Result<u64> {
     let start = Instant::now(rt)?;
     for _ in 0..rounds {
         spare = through_plain(rt, &queue, spare)?;

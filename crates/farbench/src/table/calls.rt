@@ -72,12 +72,20 @@ impl<J: Naming> Own<J> {
         })
     }
 
-    /// Gives the key the value.
-    pub fn put<R: Wait>(&mut self, rt: &R, table: &Table<J>, key: u64) -> Result<()> {
+    // Gives the key the value.
+    fn put<R: Wait>(&mut self, rt: &R, table: &Table<J>, key: u64) -> Result<()> {
         match table.put(rt, self.alloc, &mut self.caller, &key, &self.value) {
             Ok(_) => Ok(()),
             Err(refusal) => bail!("a put was refused: {refusal}"),
         }
+    }
+
+    // Gives each of the keys the value.
+    fn put_all<R: Wait>(&mut self, rt: &R, table: &Table<J>, keys: &[u64]) -> Result<()> {
+        for key in keys {
+            self.put(rt, table, *key)?;
+        }
+        Ok(())
     }
 
     fn get(&mut self, table: &Table<J>, key: u64) -> bool {
@@ -141,6 +149,17 @@ impl<J: Naming> Own<J> {
         }
         done
     }
+}
+
+/// Gives each of the keys a value.
+pub fn put_all<R: Wait, J: Naming>(
+    rt: &R,
+    alloc: Global,
+    table: &Table<J>,
+    keys: &[u64],
+) -> Result<()> {
+    let mut own = Own::new(alloc, table, Vec::new(alloc), Call::Get)?;
+    own.put_all(rt, table, keys)
 }
 
 impl<J: Naming> Runner<Table<J>> for Own<J> {

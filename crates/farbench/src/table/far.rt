@@ -1,14 +1,13 @@
 //! A table whose contents go to a device, are read there and come back, beside a lane's bare reads.
-ghost use Rattle.std.specs.Prelude.{◌≡◌, true, false};
+ghost use Rattle.std.specs.Prelude.{◌≡◌, true};
 ghost use Rattle.version_words.specs.Rows.{limits_of};
 ghost use Rattle.hash_table.specs.Configs.{sizes_of};
 
 use super::calls::{Call, Own};
-use super::{VALUE, fill, openings};
+use super::{VALUE, fill, opening};
 use crate::lanes::time_of_reads;
 use crate::tenths::Tenths;
 use crate::together::{Took, runners, together};
-use crate::unvouched::Unvouched;
 use anyhow::{Result, bail};
 use far_device::FakeDevice;
 use far_object::Text;
@@ -19,7 +18,7 @@ use std::marker::Brand;
 use std::rt::Clock;
 use std::sync::Wait;
 use std::thread::Threads;
-use version_words::{Naming, Opened};
+use version_words::Naming;
 
 /// Nanoseconds of a swap-out with the removal of the version in the frame, of a get from the device, of a lane's bare read
 /// of as long an object, the get in percent of it, and of a swap-in with the removal from the device.
@@ -74,19 +73,16 @@ fn frames(alloc: Global, count: u32) -> Result<Vec<u64>> {
 }
 
 /// Measures each kind of call.
-fn times<R: Clock + Threads + Wait + Sync, J: Naming + Send + Sync, L: Naming>(
+fn times<R: Clock + Threads + Wait + Sync, J: Naming + Send + Sync>(
     rt: &R,
     alloc: Global,
     table: &FarTable<u64, Text, J, FakeDevice>,
     keys: &[u64],
-    opened: Opened<u64, Text, Unvouched>,
-) -> Result<Figures>
-    requires lane { (opened.book ≡ L.book) × (opened.names ≡ L.names) × (limits_of opened.sizes false ≡ L.limits) }
-{
+) -> Result<Figures> {
     let count = u32::try_from(keys.len())?;
     let out = on_all(rt, alloc, table, &frames(alloc, count)?, Call::SwapOut)?;
     let read = on_all(rt, alloc, table, keys, Call::ReadThrough)?;
-    let lane = time_of_reads::<R, L>(rt, alloc, opened, VALUE, count)?;
+    let lane = time_of_reads(rt, alloc, VALUE, count)?;
     let fetched = on_all(rt, alloc, table, keys, Call::Fetch)?;
     Ok(Figures {
         out: out.nanoseconds,
@@ -96,22 +92,30 @@ fn times<R: Clock + Threads + Wait + Sync, J: Naming + Send + Sync, L: Naming>(
     })
 }
 
+/// Fills the table, measures each kind of call, and prints what they took.
+fn row<R: Clock + Print + Threads + Wait + Sync, J: Naming + Send + Sync>(
+    rt: &R,
+    alloc: Global,
+    table: &FarTable<u64, Text, J, FakeDevice>,
+    buckets: u32,
+) -> Result<()> {
+    let keys = fill(rt, alloc, table, buckets)?;
+    let times = times(rt, alloc, table, &keys)?;
+    times.print(rt, buckets, keys.len() as u64)?;
+    Ok(())
+}
+
 /// Measures each kind of call, and prints the table.
-fn table<R: Clock + Print + Threads + Wait + Sync, J: Naming + Send + Sync, L: Naming>(
+fn table<R: Clock + Print + Threads + Wait + Sync, J: Naming + Send + Sync>(
     rt: &R,
     alloc: Global,
     opening: Opening<u64, Text, FakeDevice>,
-    opened: Opened<u64, Text, Unvouched>,
     buckets: u32,
 ) -> Result<()>
-    requires table { (opening.row.book ≡ J.book) × (opening.row.names ≡ J.names) × (limits_of (sizes_of opening.config) true ≡ J.limits) }
-    requires lane { (opened.book ≡ L.book) × (opened.names ≡ L.names) × (limits_of opened.sizes false ≡ L.limits) }
+    requires { (opening.row.book ≡ J.book) × (opening.row.names ≡ J.names) × (limits_of (sizes_of opening.config) true ≡ J.limits) }
 {
     let table = opening.named::<J>(alloc)?;
-    let keys = fill(rt, alloc, &table, buckets)?;
-    let times = times::<R, J, L>(rt, alloc, &table, &keys, opened)?;
-    times.print(rt, buckets, keys.len() as u64)?;
-    Ok(())
+    row(rt, alloc, &table, buckets)
 }
 
 /// Prints the nanoseconds of moves and of reads on a table of so many buckets and frames, by one thread, each once for each
@@ -123,6 +127,6 @@ pub fn measure<R: Alloc<A = Global> + Clock + Print + Threads + Wait + Sync>(
     buckets: u32,
 ) -> Result<()> {
     let alloc = rt.alloc();
-    let (opening, opened) = openings(alloc, buckets)?;
-    table::<R, Brand, Brand>(rt, alloc, opening, opened, buckets)
+    let opening = opening(alloc, buckets)?;
+    table::<R, Brand>(rt, alloc, opening, buckets)
 }

@@ -1,4 +1,4 @@
-use Rattle.farbench.proofs.evicting.over_table.Given as goal
+use Rattle.farbench.proofs.evicting.on_table.Given as goal
 
 -- the queue that was just opened
 abbrev pub ghosts-over_queue : goal.ghosts-over_queue
