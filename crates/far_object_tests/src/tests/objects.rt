@@ -32,6 +32,17 @@ fn one_pair_at_once(rt: HostRuntime) {
     holds(&rt, object.count() == 1);
 }
 
+#[test]
+fn a_replaced_value(rt: HostRuntime) {
+    let object = object_of(&rt, rt.alloc(), &[(b"a", b"1"), (b"c", b"3")]);
+    let object = put(&rt, rt.alloc(), &object, b"a", b"22");
+    holds(
+        &rt,
+        object.as_bytes() == &[0, 0, 0, 2, 0, 1, 97, 0, 2, 50, 50, 0, 1, 99, 0, 1, 51][..],
+    );
+    holds(&rt, object.count() == 2);
+}
+
 fn bytes_of(value: &Option<Text>) -> Option<&[u8]> {
     match value {
         Some(value) => Some(value.as_bytes()),
