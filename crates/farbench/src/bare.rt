@@ -1,7 +1,7 @@
 //! What calls are measured against: a compare-exchange and nothing else, on a word without a proof.
 
 use crate::setting::Setting;
-use crate::together::{Lost, Runner, Took, runners, together};
+use crate::together::{Lost, Runner, Took, together, vec_from_fn};
 use anyhow::Result;
 use std::alloc::{AllocError, Global};
 use std::rt::Clock;
@@ -64,7 +64,7 @@ pub fn on_plain<R: Clock + Threads + Wait + Sync>(
     plain: &Plain,
     setting: Setting,
 ) -> Result<Took> {
-    let raises = runners(
+    let raises = vec_from_fn(
         alloc,
         setting.threads,
         |thread| Ok(Raises {

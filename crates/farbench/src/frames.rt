@@ -5,7 +5,7 @@ ghost use Rattle.version_words.specs.Rows.{limits_of};
 use crate::bare::{Plain, on_plain};
 use crate::setting::{Layout, MOST_THREADS, Setting};
 use crate::tenths::Tenths;
-use crate::together::{Lost, Runner, Took, runners, together};
+use crate::together::{Lost, Runner, Took, together, vec_from_fn};
 use crate::unvouched::Unvouched;
 use anyhow::{Result, bail};
 use far_object::Object;
@@ -115,7 +115,7 @@ fn on_reserves<R: Clock + Threads + Wait + Sync, J: Naming + Send + Sync>(
     frames: &Frames<u64, u64, J>,
     setting: Setting,
 ) -> Result<Took> {
-    let reserves = runners(alloc, setting.threads, |_| Ok(Reserves))?;
+    let reserves = vec_from_fn(alloc, setting.threads, |_| Ok(Reserves))?;
     together(rt, frames, reserves, setting.rounds)
 }
 
@@ -139,7 +139,7 @@ fn on_enters<R: Clock + Threads + Wait + Sync, J: Naming + Send + Sync>(
     filled: &[Enters],
     setting: Setting,
 ) -> Result<Took> {
-    let enters = runners(
+    let enters = vec_from_fn(
         alloc,
         setting.threads,
         |thread| enters_of(filled, setting, thread),

@@ -9,7 +9,7 @@ mod files;
 mod shared;
 mod user;
 
-use crate::together::{Span, race, runners};
+use crate::together::{Span, race, vec_from_fn};
 use anyhow::{Result, bail};
 use far_device::FakeDevice;
 use far_object::Text;
@@ -207,7 +207,7 @@ where
         gets,
     } = mix;
     let calls = calls_each(input.draws)?;
-    let users = runners(
+    let users = vec_from_fn(
         alloc,
         threads,
         |thread| user_of(alloc, shared, input, first.wrapping_add(thread), gets),
@@ -427,6 +427,6 @@ where
 
 /// A table of so many frames that has no name yet.
 fn opened(alloc: Global, frames: u32) -> Result<Opening<Text, Text, FakeDevice>> {
-    let devices = runners(alloc, LANES, |_| Ok(FakeDevice::new(alloc)))?;
+    let devices = vec_from_fn(alloc, LANES, |_| Ok(FakeDevice::new(alloc)))?;
     Ok(Opening::open(alloc, settings(frames), devices)?)
 }

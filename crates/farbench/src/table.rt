@@ -8,9 +8,9 @@ pub mod far;
 mod maps;
 mod steps;
 
-use crate::setting::MOST_THREADS;
+use crate::setting::{Layout, MOST_THREADS};
 use crate::tenths::Tenths;
-use crate::together::{Took, runners, together};
+use crate::together::{Took, together, vec_from_fn};
 use crate::unvouched::Unvouched;
 use anyhow::{Result, bail};
 use calls::{Call, Own, put_all};
@@ -29,8 +29,9 @@ use std::thread::Threads;
 use steps::{Layers, Step, Stepper};
 use version_words::{Naming, Opened, Sizes};
 
-/// How many keys each thread has for itself.
-const OWN_KEYS: u32 = 250;
+/// How many keys each thread has for itself. With the fewest buckets more than a cache line of words lies between two threads'
+/// keys that are apart.
+const OWN_KEYS: u32 = 240;
 
 /// How many frames are left free, so that puts find one.
 const FREE: u32 = 2 * MOST_THREADS;
@@ -53,13 +54,22 @@ const PASSES: u32 = 65_535;
 /// caller who recycles, and how many of those were refused; and of gets and puts of one map of std's behind one lock, and
 /// of 64 maps.
 const HEAD: &str =
-    "buckets threads         get       steps       part%       scope         put       steps       part%       lost%    recycled       lost%       1-get       1-put      64-get      64-put";
+    "buckets threads  layout         get       steps       part%       scope         put       steps       part%       lost%    recycled       lost%       1-get       1-put      64-get      64-put";
 
-/// How many buckets there are, and how many threads, each of so many rounds.
+/// The loads, as threads and where their buckets lie.
+const LOADS: [(u32, Layout); 4] = [
+    (1, Layout::Apart),
+    (2, Layout::Apart),
+    (4, Layout::Apart),
+    (4, Layout::Beside),
+];
+
+/// How many buckets there are, and how many threads, each of so many rounds on buckets that lie so.
 #[derive(Clone, Copy)]
 struct Load {
     buckets: u32,
     threads: u32,
+    layout: Layout,
     rounds: u32,
 }
 
@@ -74,18 +84,25 @@ impl Load {
     }
 }
 
-/// The keys of a thread: spread over all of them, each its own.
-fn own_keys(alloc: Global, keys: &[u64], thread: u32) -> Result<Vec<u64>> {
-    runners(alloc, OWN_KEYS, |at| own_key(keys, thread, at))
+/// The keys of a thread.
+fn own_keys(alloc: Global, keys: &[u64], layout: Layout, thread: u32) -> Result<Vec<u64>> {
+    vec_from_fn(alloc, OWN_KEYS, |at| own_key(keys, layout, thread, at))
 }
 
-/// The thread's key of this number.
-fn own_key(keys: &[u64], thread: u32, at: u32) -> Result<u64> {
-    let apart = keys.len() / (OWN_KEYS * MOST_THREADS) as usize;
-    let place = at
-        .wrapping_mul(MOST_THREADS)
-        .wrapping_add(thread % MOST_THREADS);
-    match keys.get((place as usize).wrapping_mul(apart)) {
+/// The thread's key of this number. The keys are in the order of their buckets, so a thread's buckets are neighbours where they
+/// lie apart from the others', as far from them as the table is large; else the threads' buckets lie in turn.
+fn own_key(keys: &[u64], layout: Layout, thread: u32, at: u32) -> Result<u64> {
+    let own = (thread % MOST_THREADS) as usize;
+    let place = match layout {
+        Layout::One => at as usize,
+        Layout::Beside => (at as usize)
+            .wrapping_mul(MOST_THREADS as usize)
+            .wrapping_add(own),
+        Layout::Apart => (keys.len() / MOST_THREADS as usize)
+            .wrapping_mul(own)
+            .wrapping_add(at as usize),
+    };
+    match keys.get(place) {
         Some(key) => Ok(*key),
         None => bail!("too few keys"),
     }
@@ -96,14 +113,14 @@ fn value(alloc: Global) -> Result<Text> {
 }
 
 /// The settings of a table of so many buckets and as many frames.
-fn settings(count: u32) -> Config {
+fn settings(count: u32, lanes: u32) -> Config {
     Config {
         buckets: count,
         frames: count,
         limit: 4_096,
         names: NAMES,
         passes: PASSES,
-        lanes: 1,
+        lanes,
         spares: 256,
         format: 2,
     }
@@ -142,7 +159,35 @@ fn is_first(met: &mut Vec<bool>, bucket: u32) -> bool {
     }
 }
 
-/// Gives a value to a key of each bucket but the last few that are met, and answers the keys.
+/// The same keys in the order of their buckets, of which each has one at most.
+fn in_bucket_order<J: Naming>(
+    alloc: Global,
+    table: &FarTable<u64, Text, J, FakeDevice>,
+    keys: &[u64],
+    count: u32,
+) -> Result<Vec<u64>> {
+    let mut key_of = Vec::from_elem(alloc, None, count as usize)?;
+    for key in keys {
+        if let Some(own) = key_of.get_mut(table.bucket(key) as usize) {
+            *own = Some(*key);
+        }
+    }
+    some_of(alloc, &key_of)
+}
+
+/// The keys that are there, in their order.
+fn some_of(alloc: Global, keys: &[Option<u64>]) -> Result<Vec<u64>> {
+    let mut all = Vec::with_capacity(alloc, keys.len())?;
+    for key in keys {
+        if let Some(key) = key {
+            all.push(*key)?;
+        }
+    }
+    Ok(all)
+}
+
+/// Gives a value to a key of each bucket but the last few that are met, and answers the keys. The buckets are filled in their
+/// order, and so the frames too: the keys of a thread then take as much room in a large table as in a small one.
 fn fill<R: Wait, J: Naming>(
     rt: &R,
     alloc: Global,
@@ -150,6 +195,7 @@ fn fill<R: Wait, J: Naming>(
     count: u32,
 ) -> Result<Vec<u64>> {
     let keys = keys_of(alloc, table, count)?;
+    let keys = in_bucket_order(alloc, table, &keys, count)?;
     put_all(rt, alloc, table, &keys)?;
     Ok(keys)
 }
@@ -163,10 +209,15 @@ fn on_table<R: Clock + Threads + Wait + Sync, J: Naming + Send + Sync>(
     load: Load,
     call: Call,
 ) -> Result<Took> {
-    let callers = runners(
+    let callers = vec_from_fn(
         alloc,
         load.threads,
-        |thread| Own::new(alloc, table, own_keys(alloc, keys, thread)?, call),
+        |thread| Own::new(
+            alloc,
+            table,
+            own_keys(alloc, keys, load.layout, thread)?,
+            call,
+        ),
     )?;
     together(rt, table, callers, load.rounds)
 }
@@ -180,10 +231,15 @@ fn on_layers<R: Clock + Threads + Wait + Sync, J: Naming + Send + Sync>(
     load: Load,
     step: Step,
 ) -> Result<Took> {
-    let steppers = runners(
+    let steppers = vec_from_fn(
         alloc,
         load.threads,
-        |thread| Stepper::enter(alloc, layers, &own_keys(alloc, keys, thread)?, step),
+        |thread| Stepper::enter(
+            alloc,
+            layers,
+            &own_keys(alloc, keys, load.layout, thread)?,
+            step,
+        ),
     )?;
     together(rt, layers, steppers, load.rounds)
 }
@@ -198,25 +254,29 @@ fn on_maps<R: Clock + Threads + Wait + Sync>(
     puts: bool,
 ) -> Result<Took> {
     let maps = Maps::new(alloc, count)?;
-    let users = runners(
+    let users = vec_from_fn(
         alloc,
         load.threads,
-        |thread| user_of(rt, alloc, &maps, keys, thread, puts),
+        |thread| user_of(
+            rt,
+            alloc,
+            &maps,
+            own_keys(alloc, keys, load.layout, thread)?,
+            puts,
+        ),
     )?;
     together(rt, &maps, users, load.rounds)
 }
 
-/// Who calls the maps on this thread.
+/// Who calls the maps with these keys.
 fn user_of<R: Wait>(
     rt: &R,
     alloc: Global,
     maps: &Maps,
-    keys: &[u64],
-    thread: u32,
+    keys: Vec<u64>,
     puts: bool,
 ) -> Result<MapUser> {
-    let own = own_keys(alloc, keys, thread)?;
-    Ok(MapUser::new(rt, alloc, maps, own, value(alloc)?, puts))
+    Ok(MapUser::new(rt, alloc, maps, keys, value(alloc)?, puts))
 }
 
 /// What calls of the table took.
@@ -301,13 +361,15 @@ fn print_row<R: Print>(
     let Load {
         buckets,
         threads,
+        layout,
         rounds: _,
     } = load;
+    let layout = layout.name();
     let get = load.each(&called.got);
     let steps = load.each(&stepped.get);
     let part = Tenths::percentage(called.got.nanoseconds, stepped.get.nanoseconds);
     let scope = load.each(&called.scoped);
-    print!(rt; "{buckets:>7} {threads:>7}{get}{steps}{part}{scope}")?;
+    print!(rt; "{buckets:>7} {threads:>7} {layout:>7}{get}{steps}{part}{scope}")?;
     let puts = load.each(&called.put);
     let publish = load.each(&stepped.put);
     let put_part = Tenths::percentage(called.put.nanoseconds, stepped.put.nanoseconds);
@@ -353,8 +415,12 @@ fn rows<R: Clock + Print + Threads + Wait + Sync, J: Naming + Send + Sync, L: Na
 ) -> Result<()> {
     Stepper::enter(alloc, layers, keys, Step::Enter)?;
     println!(rt; "{HEAD}")?;
-    for threads in [1, 2, 4] {
-        let load = Load { threads, ..load };
+    for (threads, layout) in LOADS {
+        let load = Load {
+            threads,
+            layout,
+            ..load
+        };
         row_of_table(rt, alloc, table, layers, keys, load)?;
     }
     Ok(())
@@ -410,18 +476,18 @@ fn table<R: Clock + Print + Threads + Wait + Sync, J: Naming + Send + Sync>(
     on_filled(rt, alloc, &table, load)
 }
 
-/// A table of so many buckets and frames that has no name yet.
+/// A table of so many buckets and frames, and of so many lanes, that has no name yet.
 ///
-/// An error comes where memory or a device fails, or the count is outside its limits.
-fn opening(alloc: Global, count: u32) -> Result<Opening<u64, Text, FakeDevice>>
+/// An error comes where memory or a device fails, or a count is outside its limits.
+fn opening(alloc: Global, count: u32, lanes: u32) -> Result<Opening<u64, Text, FakeDevice>>
     ensures some { IfOk result (λ _. 0 < count) }
     ensures few { IfOk result (λ _. count ≤ 65536) }
 {
     if count < FEWEST || count > MOST {
         bail!("there are {FEWEST} to {MOST} buckets");
     }
-    let devices = Vec::from_array(alloc, [FakeDevice::new(alloc)])?;
-    Ok(Opening::open(alloc, settings(count), devices)?)
+    let devices = vec_from_fn(alloc, lanes, |_| Ok(FakeDevice::new(alloc)))?;
+    Ok(Opening::open(alloc, settings(count, lanes), devices)?)
 }
 
 /// A row of words for so many buckets that has no name yet.
@@ -438,7 +504,7 @@ fn row(alloc: Global, count: u32) -> Result<Opened<u64, Text, Unvouched>>
 }
 
 /// Prints the nanoseconds of each kind of call by 1, 2 and 4 threads, each on keys of its own, on a table of so many buckets
-/// and frames, in each of which but a few lies one pair.
+/// and frames, in each of which but a few lies one pair. The buckets of four threads are measured apart and beside each other.
 ///
 /// An error comes where memory, a thread, the clock or the output fails, or the count is outside its limits.
 pub fn measure<R: Alloc<A = Global> + Clock + Print + Threads + Wait + Sync>(
@@ -447,10 +513,11 @@ pub fn measure<R: Alloc<A = Global> + Clock + Print + Threads + Wait + Sync>(
     rounds: u32,
 ) -> Result<()> {
     let alloc = rt.alloc();
-    let opening = opening(alloc, count)?;
+    let opening = opening(alloc, count, 1)?;
     let load = Load {
         buckets: count,
         threads: 1,
+        layout: Layout::Apart,
         rounds,
     };
     table::<R, Brand>(rt, alloc, opening, load)

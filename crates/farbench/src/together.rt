@@ -209,17 +209,17 @@ pub fn together<R: Clock + Threads + Wait + Sync, S: Sync, T: Runner<S> + Send +
     told(added_up(&each(rt, shared, runners, rounds)?))
 }
 
-/// As many runners as there are threads, each made for its thread.
-pub fn runners<T: Drop, F: Fn(u32) -> Result<T>>(
+/// As many as are asked for, each made from its number.
+pub fn vec_from_fn<T: Drop, F: Fn(u32) -> Result<T>>(
     alloc: Global,
-    threads: u32,
+    count: u32,
     make: F,
 ) -> Result<Vec<T>>
     requires { F.IsAlwaysCallable make }
 {
-    let mut all = Vec::with_capacity(alloc, threads as usize)?;
-    for thread in 0..threads {
-        all.push(make(thread)?)?;
+    let mut all = Vec::with_capacity(alloc, count as usize)?;
+    for number in 0..count {
+        all.push(make(number)?)?;
     }
     Ok(all)
 }

@@ -7,7 +7,7 @@ mod caller;
 use crate::bare::{Plain, on_plain};
 use crate::setting::{Layout, Setting};
 use crate::tenths::Tenths;
-use crate::together::{Runner, Took, runners, together};
+use crate::together::{Runner, Took, together, vec_from_fn};
 use crate::unvouched::Unvouched;
 use anyhow::{Result, bail};
 use caller::{Caller, Checks, Looks, Puts, Row};
@@ -51,7 +51,7 @@ fn on_row<
     J: Naming + Send + Sync,
     T: Runner<Row<J>> + From<Caller<J>> + Send + Drop,
 >(rt: &R, alloc: Global, row: &Row<J>, setting: Setting) -> Result<Took> {
-    let callers = runners(
+    let callers = vec_from_fn(
         alloc,
         setting.threads,
         |thread| entered::<J, T>(row, setting, thread),

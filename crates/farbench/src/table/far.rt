@@ -3,11 +3,11 @@ ghost use Rattle.std.specs.Prelude.{◌≡◌, true};
 ghost use Rattle.version_words.specs.Rows.{limits_of};
 ghost use Rattle.hash_table.specs.Configs.{sizes_of};
 
-use super::calls::{Call, Own};
-use super::{VALUE, fill, opening};
+use super::calls::{Call, Own, put_all};
+use super::{VALUE, keys_of, opening};
 use crate::lanes::time_of_reads;
 use crate::tenths::Tenths;
-use crate::together::{Took, runners, together};
+use crate::together::{Took, together, vec_from_fn};
 use anyhow::{Result, bail};
 use far_device::FakeDevice;
 use far_object::Text;
@@ -22,7 +22,10 @@ use version_words::Naming;
 
 /// Nanoseconds of a swap-out with the removal of the version in the frame, of a get from the device, of a lane's bare read
 /// of as long an object, the get in percent of it, and of a swap-in with the removal from the device.
-const HEAD: &str = "buckets    swap-out        read        lane       part%       fetch";
+const HEAD: &str = "buckets   lanes    swap-out        read        lane       part%       fetch";
+
+/// How many lanes there are, row by row.
+const LANES: [u32; 2] = [1, 64];
 
 /// The time of one call with each of the keys.
 fn on_all<R: Clock + Threads + Wait + Sync, J: Naming + Send + Sync>(
@@ -33,7 +36,7 @@ fn on_all<R: Clock + Threads + Wait + Sync, J: Naming + Send + Sync>(
     call: Call,
 ) -> Result<Took> {
     let rounds = u32::try_from(keys.len())?;
-    let callers = runners(
+    let callers = vec_from_fn(
         alloc,
         1,
         |_| Own::new(alloc, table, Vec::from_slice(alloc, keys)?, call),
@@ -56,20 +59,19 @@ struct Figures {
 
 impl Figures {
     /// Prints them, of so many keys.
-    fn print<R: Print>(self, rt: &R, buckets: u32, count: u64) -> io::Result<()> {
+    fn print<R: Print>(self, rt: &R, buckets: u32, lanes: u32, count: u64) -> io::Result<()> {
         let swap_out = Tenths::quotient(self.out, count);
         let through = Tenths::quotient(self.read, count);
         let bare = Tenths::quotient(self.lane, count);
         let part = Tenths::percentage(self.read, self.lane);
         let fetch = Tenths::quotient(self.fetched, count);
-        println!(rt; "{HEAD}")?;
-        println!(rt; "{buckets:>7}{swap_out}{through}{bare}{part}{fetch}")
+        println!(rt; "{buckets:>7} {lanes:>7}{swap_out}{through}{bare}{part}{fetch}")
     }
 }
 
 /// The numbers of the frames in which so many keys lie.
 fn frames(alloc: Global, count: u32) -> Result<Vec<u64>> {
-    runners(alloc, count, |frame| Ok(u64::from(frame)))
+    vec_from_fn(alloc, count, |frame| Ok(u64::from(frame)))
 }
 
 /// Measures each kind of call.
@@ -92,34 +94,60 @@ fn times<R: Clock + Threads + Wait + Sync, J: Naming + Send + Sync>(
     })
 }
 
+/// Gives a value to a key of each bucket but the last few that are met, in the order in which they are met, and answers the
+/// keys.
+fn fill<R: Wait, J: Naming>(
+    rt: &R,
+    alloc: Global,
+    table: &FarTable<u64, Text, J, FakeDevice>,
+    count: u32,
+) -> Result<Vec<u64>> {
+    let keys = keys_of(alloc, table, count)?;
+    put_all(rt, alloc, table, &keys)?;
+    Ok(keys)
+}
+
 /// Fills the table, measures each kind of call, and prints what they took.
 fn row<R: Clock + Print + Threads + Wait + Sync, J: Naming + Send + Sync>(
     rt: &R,
     alloc: Global,
     table: &FarTable<u64, Text, J, FakeDevice>,
     buckets: u32,
+    lanes: u32,
 ) -> Result<()> {
     let keys = fill(rt, alloc, table, buckets)?;
     let times = times(rt, alloc, table, &keys)?;
-    times.print(rt, buckets, keys.len() as u64)?;
+    times.print(rt, buckets, lanes, keys.len() as u64)?;
     Ok(())
 }
 
-/// Measures each kind of call, and prints the table.
+/// Measures each kind of call, and prints a row.
 fn table<R: Clock + Print + Threads + Wait + Sync, J: Naming + Send + Sync>(
     rt: &R,
     alloc: Global,
     opening: Opening<u64, Text, FakeDevice>,
     buckets: u32,
+    lanes: u32,
 ) -> Result<()>
     requires { (opening.row.book ≡ J.book) × (opening.row.names ≡ J.names) × (limits_of (sizes_of opening.config) true ≡ J.limits) }
 {
     let table = opening.named::<J>(alloc)?;
-    row(rt, alloc, &table, buckets)
+    row(rt, alloc, &table, buckets, lanes)
 }
 
-/// Prints the nanoseconds of moves and of reads on a table of so many buckets and frames, by one thread, each once for each
-/// of the keys.
+/// Measures each kind of call on a table of so many lanes.
+fn on_lanes<R: Clock + Print + Threads + Wait + Sync>(
+    rt: &R,
+    alloc: Global,
+    buckets: u32,
+    lanes: u32,
+) -> Result<()> {
+    let opening = opening(alloc, buckets, lanes)?;
+    table::<R, Brand>(rt, alloc, opening, buckets, lanes)
+}
+
+/// Prints the nanoseconds of moves and of reads on tables of so many buckets and frames, with one lane and with 64, by one
+/// thread, each once for each of the keys.
 ///
 /// An error comes where memory, a thread, the clock or the output fails, or the count is outside its limits.
 pub fn measure<R: Alloc<A = Global> + Clock + Print + Threads + Wait + Sync>(
@@ -127,6 +155,9 @@ pub fn measure<R: Alloc<A = Global> + Clock + Print + Threads + Wait + Sync>(
     buckets: u32,
 ) -> Result<()> {
     let alloc = rt.alloc();
-    let opening = opening(alloc, buckets)?;
-    table::<R, Brand>(rt, alloc, opening, buckets)
+    println!(rt; "{HEAD}")?;
+    for lanes in LANES {
+        on_lanes(rt, alloc, buckets, lanes)?;
+    }
+    Ok(())
 }

@@ -1,7 +1,7 @@
 use Rattle.std.specs.Prelude.{true}
 use Rattle.version_words.specs.Rows.{limits_of}
 use Rattle.hash_table.specs.Configs.{sizes_of}
-use Rattle.farbench.proofs.table.far.measure.Given as goal
+use Rattle.farbench.proofs.table.far.on_lanes.Given as goal
 
 -- the table that was just opened
 abbrev pub ghosts-table : goal.ghosts-table
