@@ -3,7 +3,8 @@
  *
  * WORK is `sums`, which stays in registers; `spread`, where a round loads a bucket's word, enters its frame, copies 64 bytes
  * out of it to memory that was just taken, exchanges the word and leaves the frame, and the keys of all threads take turns
- * over the buckets, as in `farbench table`; or `blocks`, the same with each thread's keys in a part of their own. */
+ * over the buckets; or `blocks`, the same with each thread's keys in a part of their own, as where they lie apart in
+ * `farbench table`. */
 #include <pthread.h>
 #include <stdatomic.h>
 #include <stdint.h>
