@@ -1,10 +1,10 @@
 //! The calls of each device of `far_device`, over a device in the process.
 
-use crate::outcome::{Answer, Outcome, Trial, tell, tell_of, tried};
 use far_device::{
     CannedDevice, Device, DeviceFault, FakeDevice, FaultyDevice, LyingDevice, WatchedDevice,
 };
 use far_object::Memory;
+use growth_trials::{Answer, Outcome, Trial, tell, tell_of, tried};
 use std::alloc::Global;
 use std::io;
 use std::sync::atomic::AtomicU64;

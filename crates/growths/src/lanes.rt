@@ -6,12 +6,12 @@ mod cases;
 mod drawn;
 mod keeper;
 
-use crate::outcome::{Answer, Outcome, tell, tell_of};
 use crate::shared::Unvouched;
 use cases::{Case, Prepared};
 use drawn::{Drawn, Row};
 use far_device::{Device, FakeDevice};
 use far_object::{Format, Memory};
+use growth_trials::{Answer, Outcome, tell, tell_of};
 use keeper::Keeper;
 use lane_store::{Lane, LaneFault, LaneStore, Receipt};
 use std::alloc::Global;

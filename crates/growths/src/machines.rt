@@ -1,8 +1,8 @@
 //! The calls of `table_core`, at a table of four buckets. The keys a and e are in bucket 0.
 
-use crate::objects::{is_pair, is_text, text};
-use crate::outcome::{Answer, Outcome, Trial, tell, tried};
+use crate::objects::is_pair;
 use far_object::{Memory, Text};
+use growth_trials::{Answer, Outcome, Trial, is_text, tell, text, tried};
 use std::alloc::Global;
 use std::io;
 use std::sync::Wait;

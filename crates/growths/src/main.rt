@@ -1,18 +1,16 @@
-//! Makes each public call that can answer want of memory, and prints what it answered, a line for each. A call that
-//! answers want of memory is made once more, and it is looked at whether what should stand does.
+//! Makes each public call of objects, devices, the machine, words, frames and lanes that can answer want of memory, and
+//! prints what it answered, a line for each. A call that answers want of memory is made once more, and it is looked at
+//! whether what should stand does.
 //!
 //! `tests/refused_growths.sh` runs this with each of its growths refused in turn.
 #![tactic(auto)]
 
 mod devices;
-mod evicting;
 mod lanes;
 mod machines;
 mod objects;
-mod outcome;
 mod passes;
 mod shared;
-mod tables;
 
 use std::io;
 
@@ -22,7 +20,5 @@ fn main(rt: HostRuntime) -> io::Result<()> {
     machines::tell_all(&rt)?;
     shared::tell_all(&rt)?;
     passes::tell_all(&rt)?;
-    lanes::tell_all(&rt)?;
-    tables::tell_all(&rt)?;
-    evicting::tell_all(&rt)
+    lanes::tell_all(&rt)
 }

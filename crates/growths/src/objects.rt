@@ -1,7 +1,7 @@
 //! The calls of `far_object`.
 
-use crate::outcome::{Answer, Outcome, Trial, tell, tried};
 use far_object::{FarObject, Format, Memory, Object, ObjectFault, Text, TextFault};
+use growth_trials::{Answer, Outcome, Trial, is_text, tell, text, tried};
 use std::alloc::Global;
 use std::io;
 use std::sync::Wait;
@@ -31,18 +31,9 @@ const HEADER: &[u8] = &[255, 255, 255, 255, 0, 0, 0, 3, 0, 0, 0, 0, 0, 0, 0, 5];
 /// A text so long that a body which asked for no room at first would grow twice, and could be refused between.
 const LONG: &[u8] = &[97; 100];
 
-/// A text for what a call works on.
-pub fn text(alloc: Global, bytes: &[u8]) -> Result<Text, Memory> {
-    Text::new(alloc, bytes).map_err(|_| Memory)
-}
-
 /// The object of `a -> 1` and `e -> 2`, for what a call works on.
 fn two(alloc: Global) -> Result<TextObject, Memory> {
     Object::read(Vec::from_slice(alloc, TWO)?).map_err(|_| Memory)
-}
-
-pub fn is_text(text: &Text, bytes: &[u8]) -> bool {
-    text.as_bytes() == bytes
 }
 
 /// Which call is made.

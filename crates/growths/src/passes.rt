@@ -2,9 +2,9 @@
 ghost use Rattle.std.specs.Prelude.{◌≡◌, false};
 ghost use Rattle.version_words.specs.Rows.{limits_of};
 
-use crate::outcome::{Answer, Outcome, Trial, tell, tried};
 use crate::shared::Unvouched;
 use far_object::Memory;
+use growth_trials::{Answer, Outcome, Trial, tell, tried};
 use std::alloc::Global;
 use std::io;
 use std::marker::Brand;

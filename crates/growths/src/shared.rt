@@ -1,18 +1,15 @@
-//! What is opened alone: of what threads share, a row of words and frames, and a clock and a queue of spares.
+//! What is opened alone, of what threads share: a row of words, and frames.
 
-use crate::outcome::{Outcome, tell};
 use frame_cache::Frames;
+use growth_trials::{Answer, Trial, tell, tried};
 use std::alloc::Global;
 use std::io;
 use std::marker::Brand;
-use swapper::{Clock, QueueOpening};
+use std::sync::Wait;
 use version_words::{Honesty, Opened, Sizes};
 
 /// How many frames there are: more than a word of bits names.
 const FRAMES: u32 = 100;
-
-/// For how many spares a queue has room.
-pub const ROOM: u32 = 4;
 
 const SIZES: Sizes = Sizes {
     buckets: 4,
@@ -31,37 +28,43 @@ impl Honesty for Unvouched {
 
 /// What is opened.
 #[derive(Clone, Copy)]
-pub enum Kind {
+enum Kind {
     Row,
     Frames,
-    Clock,
-    Queue,
 }
 
-impl Kind {
-    /// Whether it was opened, where nothing but memory is refused.
-    fn is_opened(self, alloc: Global) -> bool {
-        match self {
-            Kind::Row => Opened::<u64, u64, Unvouched>::open(alloc, SIZES).is_ok(),
-            Kind::Frames => Frames::<u64, u64, Brand>::open(alloc, FRAMES).is_ok(),
-            Kind::Clock => Clock::open(alloc, FRAMES).is_ok(),
-            Kind::Queue => QueueOpening::<u64, u64, Brand>::open(alloc, ROOM).is_ok(),
+/// The opening of one, to which nothing but memory can be refused.
+#[derive(Clone, Copy)]
+struct Opens {
+    alloc: Global,
+    kind: Kind,
+}
+
+impl Opens {
+    fn is_opened(self) -> bool {
+        match self.kind {
+            Kind::Row => Opened::<u64, u64, Unvouched>::open(self.alloc, SIZES).is_ok(),
+            Kind::Frames => Frames::<u64, u64, Brand>::open(self.alloc, FRAMES).is_ok(),
         }
     }
+}
 
-    /// Opens it, and once more where that was refused.
-    pub fn open(self, alloc: Global) -> Outcome {
-        if self.is_opened(alloc) {
-            Outcome::Right
-        } else {
-            Outcome::after_memory(self.is_opened(alloc))
-        }
+impl Trial for Opens {
+    fn call<R: Wait>(&mut self, _rt: &R) -> Answer {
+        Answer::or_memory(self.is_opened())
+    }
+
+    fn stands<R: Wait>(&mut self, _rt: &R) -> bool {
+        true
     }
 }
 
 /// Makes each call and tells of it.
-pub fn tell_all(rt: &HostRuntime) -> io::Result<()> {
+pub fn tell_all<R: Alloc<A = Global> + Print + Wait>(rt: &R) -> io::Result<()> {
     let alloc = rt.alloc();
-    tell(rt, "Opened::open", Ok(Kind::Row.open(alloc)))?;
-    tell(rt, "Frames::open", Ok(Kind::Frames.open(alloc)))
+    let calls = [("Opened::open", Kind::Row), ("Frames::open", Kind::Frames)];
+    for (name, kind) in calls {
+        tell(rt, name, Ok(tried(rt, &mut Opens { alloc, kind })))?;
+    }
+    Ok(())
 }

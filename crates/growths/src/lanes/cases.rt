@@ -2,8 +2,8 @@
 
 use super::drawn::Drawn;
 use super::keeper::{Found, Keeper};
-use crate::outcome::{Answer, Outcome, Trial, tried};
 use far_object::{Format, Memory};
+use growth_trials::{Answer, Outcome, Trial, tried};
 use lane_store::LaneFault;
 use std::alloc::Global;
 use std::sync::Wait;

@@ -7,11 +7,11 @@ mod call;
 mod cases;
 mod prepared;
 
-use crate::outcome::{Answer, Outcome, tell};
 use call::{Call, Deed, Place};
 use cases::{Case, make};
 use far_device::FakeDevice;
 use far_object::{Memory, Text};
+use growth_trials::{Answer, Outcome, tell};
 use hash_table::{Config, OpenFault, Opening};
 use std::alloc::Global;
 use std::io;

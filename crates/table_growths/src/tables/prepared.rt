@@ -1,10 +1,9 @@
 //! A table's one caller, for one call.
 
 use super::call::{Call, Place};
-use crate::objects::{is_text, text};
-use crate::outcome::{Answer, Trial};
 use far_device::FakeDevice;
 use far_object::{Memory, Text};
+use growth_trials::{Answer, Trial, is_text, text};
 use hash_table::{BucketState, Caller, FarTable, ReclaimFault, Refusal};
 use std::alloc::Global;
 use std::sync::Wait;

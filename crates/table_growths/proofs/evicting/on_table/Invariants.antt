@@ -1,4 +1,4 @@
-use Rattle.growths.proofs.evicting.on_table.Given as goal
+use Rattle.table_growths.proofs.evicting.on_table.Given as goal
 
 -- the queue that was just opened
 abbrev pub ghosts-on_queue : goal.ghosts-on_queue

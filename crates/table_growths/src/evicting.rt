@@ -1,13 +1,13 @@
-//! The clock, the queue of spares and the evictor. Of these opening takes memory, and a turn what the device needs.
+//! The naming of a queue of spares, and the evictor. A turn takes what memory the device needs.
 ghost use Rattle.std.specs.Prelude.{◌≡◌, true, [], IfOk};
 ghost use Rattle.version_words.specs.Rows.{limits_of};
 ghost use Rattle.version_words.specs.Views.{calls};
 ghost use Rattle.hash_table.specs.Configs.{sizes_of};
 
-use crate::outcome::{Answer, Outcome, Trial, tell, tried};
-use crate::shared::{Kind, ROOM};
+use crate::shared::{FRAMES, ROOM};
 use far_device::FakeDevice;
 use far_object::Memory;
+use growth_trials::{Answer, Outcome, Trial, tell, tried};
 use hash_table::{BucketState, Caller, Config, FarTable, Opening, Refusal};
 use std::alloc::Global;
 use std::io;
@@ -15,9 +15,6 @@ use std::marker::Brand;
 use std::sync::Wait;
 use swapper::{Evictor, QueueNaming, QueueOpening, QueueSeat, SpareQueue, Turn};
 use version_words::Naming;
-
-/// How many frames an evictor has: more than a word of bits names.
-const FRAMES: u32 = 100;
 
 /// How many seats a queue has beside the one that takes.
 const SEATS: u32 = 3;
@@ -256,8 +253,6 @@ fn evictor<R: Wait>(rt: &R, alloc: Global, case: Case) -> Result<Outcome, Memory
 /// Makes each call and tells of it.
 pub fn tell_all<R: Alloc<A = Global> + Print + Wait>(rt: &R) -> io::Result<()> {
     let alloc = rt.alloc();
-    tell(rt, "Clock::open", Ok(Kind::Clock.open(alloc)))?;
-    tell(rt, "QueueOpening::open", Ok(Kind::Queue.open(alloc)))?;
     tell(rt, "QueueOpening::named", seats(alloc))?;
     tell(rt, "Evictor::open", evictor(rt, alloc, Case::Open))?;
     tell(rt, "Evictor::turn", evictor(rt, alloc, Case::Turn))

@@ -2,8 +2,8 @@
 
 use super::call::{Call, Place};
 use super::prepared::{KEY, Prepared, Table, entered, is_old};
-use crate::outcome::{Answer, Outcome, Trial, tried};
 use far_object::{Memory, Text};
+use growth_trials::{Answer, Outcome, Trial, tried};
 use hash_table::{Caller, CloseFault};
 use std::alloc::Global;
 use std::sync::Wait;

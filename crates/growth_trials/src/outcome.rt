@@ -34,6 +34,15 @@ impl Answer {
         }
     }
 
+    /// Of a call to which nothing but memory can be refused: whether it did what it should.
+    pub fn or_memory(is_right: bool) -> Answer {
+        if is_right {
+            Answer::Right
+        } else {
+            Answer::Memory
+        }
+    }
+
     /// The same where this holds too. It is asked only of a call that answered what it should.
     pub fn and(self, holds: bool) -> Answer {
         match self {
