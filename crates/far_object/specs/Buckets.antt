@@ -5,9 +5,12 @@ use Rattle.std.specs.Ordering.{nat_cmp}
 use Rattle.std.specs.Cmp.Lexicographic.{slice_cmp}
 use Rattle.std.specs.declared.cmp.Ordering.{Ordering}
 
--- the hash of a list of bytes: each byte is added to 31 times the hash before it
+-- the hash behind a byte: the byte is added to 31 times the hash before it
+abbrev pub hashed : ℕ → ℕ → ℕ
+hashed hash byte = (hash * 31 + byte) % 2 ^ 32
+
 abbrev pub hash_of : List ℕ → ℕ
-hash_of bytes = fold (λ h b. (h * 31 + b) % 2 ^ 32) 0 bytes
+hash_of bytes = fold hashed 0 bytes
 
 module _ {K : Type 0} (enc : K → List ℕ) where
   -- keys are compared by the bytes that they are written as

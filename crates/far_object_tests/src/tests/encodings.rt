@@ -113,6 +113,24 @@ fn text_beside_bytes(rt: HostRuntime) {
     holds(&rt, short.compare_to_bytes(&[0]) == Ordering::Greater);
 }
 
+/// Keys whose bytes are hashed four at a time, with none, one, two and three behind these.
+#[test]
+fn buckets_of_longer_keys(rt: HostRuntime) {
+    let rows: [(&[u8], u32); 5] = [
+        (b"abc", 185_727),
+        (b"abcde", 235_745_150),
+        (b"abcdefgh", 3_979_907_212),
+        (b"key00c0ffee", 380_798_849),
+        (b"zyxwvutsrqponm", 381_670_983),
+    ];
+    for (letters, bucket) in &rows {
+        let key = text(&rt, rt.alloc(), letters);
+        holds(&rt, bucket_of(&key, u32::MAX) == *bucket);
+    }
+    let number: u64 = 0x0102_0304_0506_0708;
+    holds(&rt, bucket_of(&number, u32::MAX) == 3_607_554_180);
+}
+
 #[test]
 fn buckets_of_letters(rt: HostRuntime) {
     let rows: [(&[u8], u32); 6] = [
