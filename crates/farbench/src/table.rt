@@ -29,9 +29,10 @@ use std::thread::Threads;
 use steps::{Layers, Step, Stepper};
 use version_words::{Naming, Opened, Sizes};
 
-/// How many keys each thread has for itself. With the fewest buckets more than a cache line of words lies between two threads'
-/// keys that are apart.
-const OWN_KEYS: u32 = 240;
+/// How many keys each thread has for itself. With the fewest buckets the same number again lies between two threads' keys that
+/// are apart, so that what a processor fetches ahead of one thread's words and frames is no other's; and what a thread works
+/// on fits into a processor's first cache, so that how it lies there decides nothing.
+const OWN_KEYS: u32 = 120;
 
 /// How many frames are left free, so that puts find one.
 const FREE: u32 = 2 * MOST_THREADS;
@@ -279,51 +280,64 @@ fn user_of<R: Wait>(
     Ok(MapUser::new(rt, alloc, maps, keys, value(alloc)?, puts))
 }
 
-/// What calls of the table took.
+/// What calls took that leave each version where it lies, and their steps.
 #[derive(Clone, Copy)]
-struct Called {
+struct Read {
     got: Took,
     scoped: Took,
-    put: Took,
-    recycled: Took,
+    entered: Took,
+    steps: Took,
 }
 
-fn times_on_table<R: Clock + Threads + Wait + Sync, J: Naming + Send + Sync>(
+fn times_of_reads<
+    R: Clock + Threads + Wait + Sync,
+    J: Naming + Send + Sync,
+    L: Naming + Send + Sync,
+>(
     rt: &R,
     alloc: Global,
     table: &FarTable<u64, Text, J, FakeDevice>,
+    layers: &Layers<L>,
     keys: &[u64],
     load: Load,
-) -> Result<Called> {
-    Ok(Called {
-        got: on_table(rt, alloc, table, keys, load, Call::Get)?,
-        scoped: on_table(rt, alloc, table, keys, load, Call::Scope)?,
-        put: on_table(rt, alloc, table, keys, load, Call::Put)?,
-        recycled: on_table(rt, alloc, table, keys, load, Call::Recycle)?,
-    })
-}
-
-/// What the steps of a get and of a put took.
-#[derive(Clone, Copy)]
-struct Stepped {
-    get: Took,
-    put: Took,
-}
-
-fn times_on_layers<R: Clock + Threads + Wait + Sync, J: Naming + Send + Sync>(
-    rt: &R,
-    alloc: Global,
-    layers: &Layers<J>,
-    keys: &[u64],
-    load: Load,
-) -> Result<Stepped> {
+) -> Result<Read> {
+    let got = on_table(rt, alloc, table, keys, load, Call::Get)?;
+    let scoped = on_table(rt, alloc, table, keys, load, Call::Scope)?;
     let seen = on_layers(rt, alloc, layers, keys, load, Step::LookAndCheck)?;
     let entered = on_layers(rt, alloc, layers, keys, load, Step::Enter)?;
     let copied = on_layers(rt, alloc, layers, keys, load, Step::Value)?;
-    let published = on_layers(rt, alloc, layers, keys, load, Step::Publish)?;
-    Ok(Stepped {
-        get: seen.and(entered).and(copied),
-        put: published.and(entered),
+    Ok(Read {
+        got,
+        scoped,
+        entered,
+        steps: seen.and(entered).and(copied),
+    })
+}
+
+/// What puts took, and a publishing, which is a put's steps but for the look at the version before.
+#[derive(Clone, Copy)]
+struct Written {
+    put: Took,
+    recycled: Took,
+    published: Took,
+}
+
+fn times_of_puts<
+    R: Clock + Threads + Wait + Sync,
+    J: Naming + Send + Sync,
+    L: Naming + Send + Sync,
+>(
+    rt: &R,
+    alloc: Global,
+    table: &FarTable<u64, Text, J, FakeDevice>,
+    layers: &Layers<L>,
+    keys: &[u64],
+    load: Load,
+) -> Result<Written> {
+    Ok(Written {
+        put: on_table(rt, alloc, table, keys, load, Call::Put)?,
+        recycled: on_table(rt, alloc, table, keys, load, Call::Recycle)?,
+        published: on_layers(rt, alloc, layers, keys, load, Step::Publish)?,
     })
 }
 
@@ -354,8 +368,8 @@ fn times_on_maps<R: Clock + Threads + Wait + Sync>(
 fn print_row<R: Print>(
     rt: &R,
     load: Load,
-    called: Called,
-    stepped: Stepped,
+    read: Read,
+    written: Written,
     mapped: Mapped,
 ) -> io::Result<()> {
     let Load {
@@ -365,17 +379,18 @@ fn print_row<R: Print>(
         rounds: _,
     } = load;
     let layout = layout.name();
-    let get = load.each(&called.got);
-    let steps = load.each(&stepped.get);
-    let part = Tenths::percentage(called.got.nanoseconds, stepped.get.nanoseconds);
-    let scope = load.each(&called.scoped);
+    let get = load.each(&read.got);
+    let steps = load.each(&read.steps);
+    let part = Tenths::percentage(read.got.nanoseconds, read.steps.nanoseconds);
+    let scope = load.each(&read.scoped);
     print!(rt; "{buckets:>7} {threads:>7} {layout:>7}{get}{steps}{part}{scope}")?;
-    let puts = load.each(&called.put);
-    let publish = load.each(&stepped.put);
-    let put_part = Tenths::percentage(called.put.nanoseconds, stepped.put.nanoseconds);
-    let lost = Tenths::percentage(called.put.lost.words, load.count());
-    let recycle = load.each(&called.recycled);
-    let recycled_lost = Tenths::percentage(called.recycled.lost.words, load.count());
+    let put_steps = written.published.and(read.entered);
+    let puts = load.each(&written.put);
+    let publish = load.each(&put_steps);
+    let put_part = Tenths::percentage(written.put.nanoseconds, put_steps.nanoseconds);
+    let lost = Tenths::percentage(written.put.lost.words, load.count());
+    let recycle = load.each(&written.recycled);
+    let recycled_lost = Tenths::percentage(written.recycled.lost.words, load.count());
     print!(rt; "{puts}{publish}{put_part}{lost}{recycle}{recycled_lost}")?;
     let one_get = load.each(&mapped.one_get);
     let one_put = load.each(&mapped.one_put);
@@ -384,7 +399,7 @@ fn print_row<R: Print>(
     println!(rt; "{one_get}{one_put}{get_in_64}{put_in_64}")
 }
 
-/// Measures one load, and prints it.
+/// Measures what one load writes, and prints it with what it read.
 fn row_of_table<
     R: Clock + Print + Threads + Wait + Sync,
     J: Naming + Send + Sync,
@@ -396,15 +411,25 @@ fn row_of_table<
     layers: &Layers<L>,
     keys: &[u64],
     load: Load,
+    read: Read,
 ) -> Result<()> {
-    let called = times_on_table(rt, alloc, table, keys, load)?;
-    let stepped = times_on_layers(rt, alloc, layers, keys, load)?;
+    let written = times_of_puts(rt, alloc, table, layers, keys, load)?;
     let mapped = times_on_maps(rt, alloc, keys, load)?;
-    print_row(rt, load, called, stepped, mapped)?;
+    print_row(rt, load, read, written, mapped)?;
     Ok(())
 }
 
-/// Puts a version for each of the keys into the layers, and prints what each load takes.
+/// The load by so many threads on buckets that lie so.
+fn load_of(load: Load, threads: u32, layout: Layout) -> Load {
+    Load {
+        threads,
+        layout,
+        ..load
+    }
+}
+
+/// Puts a version for each of the keys into the layers, and prints what each load takes. All reads come first: threads that
+/// put fill one another's frames, and a thread's versions would lie between others' in the rows behind.
 fn rows<R: Clock + Print + Threads + Wait + Sync, J: Naming + Send + Sync, L: Naming + Send + Sync>(
     rt: &R,
     alloc: Global,
@@ -415,13 +440,13 @@ fn rows<R: Clock + Print + Threads + Wait + Sync, J: Naming + Send + Sync, L: Na
 ) -> Result<()> {
     Stepper::enter(alloc, layers, keys, Step::Enter)?;
     println!(rt; "{HEAD}")?;
+    let mut reads = Vec::with_capacity(alloc, LOADS.len())?;
     for (threads, layout) in LOADS {
-        let load = Load {
-            threads,
-            layout,
-            ..load
-        };
-        row_of_table(rt, alloc, table, layers, keys, load)?;
+        let load = load_of(load, threads, layout);
+        reads.push((load, times_of_reads(rt, alloc, table, layers, keys, load)?))?;
+    }
+    for (load, read) in &reads {
+        row_of_table(rt, alloc, table, layers, keys, *load, *read)?;
     }
     Ok(())
 }
