@@ -5,10 +5,10 @@ use Rattle.std.proofs.Math.Seq.{take-suc}
 use Rattle.std.specs.List.{AllByRecursion}
 use Rattle.table_core.specs.declared.limits.Limits.{Limits}
 use Rattle.table_core.specs.Logs.{history}
-use Rattle.version_words.specs.Views.{calls}
+use Rattle.version_words.specs.Views.{calls, calls_of, Goes}
 use Rattle.command_file.specs.declared.command.Command.{Command}
 use Rattle.run_lines.specs.Output.{written}
-use Rattle.run_lines.proofs.Replying.{replied_more}
+use Rattle.run_lines.proofs.Replying.{replied_later, replied_more}
 use Rattle.run_lines.proofs.Written.{written-more}
 use Rattle.threaded_run.specs.Replies.{View, MayRefuse, RunsTo}
 use Rattle.threaded_run.specs.Runs.{JobView, EndedView, Served, IsServed, EndedIs, WorkedAll}
@@ -47,6 +47,20 @@ module _ (l : Limits) (limit : ℕ) where
               (replied_more (MayRefuse l.buckets limit) (history now.front) (history new.front) now.number [] (take i commands) w.lines c line (history_grows now.front new.front s.1) (w.served.replied honest) (step l limit honest now new c line ran));
         };
       }
+
+  -- the pass has seen more, and made no call
+  pub seen_more : (old now new : View) (commands : List Command) (i : ℕ) (text : List ℕ) → Working old now commands i text → Goes now new → Working old new commands i text
+  seen_more old now new commands i text w goes = record {
+    number = goes.number ∙ w.number;
+    lines = w.lines;
+    text_is = w.text_is;
+    served = record {
+      count = w.served.count;
+      replied = λ honest.
+          rw goes.number
+          (replied_later (MayRefuse l.buckets limit) (history now.front) (history new.front) now.number [] (take i commands) w.lines (history_grows now.front new.front goes.grows) (ap (λ (q : ℕ). calls_of q new.front) (sym goes.number) ∙ goes.calls_stay) (w.served.replied honest));
+    };
+  }
 
   pub finish : (old now : View) (commands : List Command) (i : ℕ) (text : List ℕ) → Working old now commands i text → length commands ≤ i → EndedIs l limit old commands (record { pass = now; text = text })
   finish old now commands i text w all = subst (λ (cs : List Command). EndedIs l limit old cs (record { pass = now; text = text })) (take_all i commands all) w

@@ -185,10 +185,8 @@ pub(crate) fn run_command<'a, J: Naming, B: QueueNaming, D: Device, R: Wait>(
     ensures { OnOk result ((line : List ℕ) × (lines.new.items ≡ lines.old.items ++ (line ++ 10 ∷ []))
         × RunsTo J.limits shared.now.table.limit seated.old.caller.pass seated.new.caller.pass command.now line) }
 {
-    let pushed = match command {
+    match command {
         Command::Map(command) => run_map(rt, alloc, shared, seated, held, lines, command),
         Command::Table(command) => run_table(rt, shared, seated, held, lines, command),
-    };
-    shared.after_command(rt, seated);
-    pushed
+    }
 }

@@ -1,5 +1,6 @@
 //! What the workers and the evictor's thread share.
 ghost use Rattle.std.specs.Prelude.{◌≡◌};
+ghost use Rattle.version_words.specs.Views.{Goes};
 
 use far_device::Device;
 use far_object::Text;
@@ -51,12 +52,30 @@ impl<J: Naming, B: QueueNaming, D: Device> Shared<J, B, D> {
         self.queue.settle(rt, &mut seated.seat, &mut seated.caller);
     }
 
-    /// What follows each command: the caller's spares are handed over, and reclaimed where the evictor has no thread.
-    pub(crate) fn after_command<R: Wait>(&self, rt: &R, seated: &mut Seated<J, B>)
-        ensures { seated.new.caller.pass ≡ seated.old.caller.pass }
+    /// Reclaims the oldest spare that the caller's calls have left, so that its next object goes into the emptied frame. A
+    /// spare that comes back waits as before.
+    fn recycle<R: Wait>(&self, rt: &R, caller: &mut Caller<Text, Text, J>)
+        ensures { Goes caller.old.pass caller.new.pass }
     {
-        self.settle(rt, seated);
-        if !self.started.load(Ordering::SeqCst) {
+        caller.recycle();
+        let _front = caller.mark();
+        if let Some(spare) = caller.take_spare() {
+            if let Err((back, _)) = self.table.reclaim(rt, caller, spare) {
+                let _ = caller.return_spare(back);
+            }
+        }
+    }
+
+    /// What follows each command: the spare that it left is reclaimed, by the evictor's collecting where that has no thread
+    /// and else by the caller itself, and what still waits is handed over.
+    pub(crate) fn after_command<R: Wait>(&self, rt: &R, seated: &mut Seated<J, B>)
+        ensures { Goes seated.old.caller.pass seated.new.caller.pass }
+    {
+        if self.started.load(Ordering::SeqCst) {
+            self.recycle(rt, &mut seated.caller);
+            self.settle(rt, seated);
+        } else {
+            self.settle(rt, seated);
             self.collect(rt);
         }
     }

@@ -124,6 +124,7 @@ fn work<'a, J: Naming, B: QueueNaming, D: Device, G: Gate, R: Wait>(
             return Err(WorkFault::Gate);
         }
         run_command(rt, alloc, shared, seated, held, &mut lines, command)?;
+        shared.after_command(rt, seated);
         gate.after(number, call);
     }
     Ok(lines)
