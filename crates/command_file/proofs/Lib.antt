@@ -7,3 +7,4 @@ pub mod Looks
 pub mod Progress
 pub mod Unique
 pub mod Written
+pub mod Texts

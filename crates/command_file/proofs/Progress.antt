@@ -43,7 +43,7 @@ few_from_line (byte ∷ bytes) [] say = absurd say
 few_from_line (byte ∷ bytes) (command ∷ []) say = omega arith
 few_from_line (byte ∷ bytes) (command ∷ other ∷ commands) say = absurd say.1
 
-good_short : (line : List ℕ) → IsGood line → length line ≤ 1024
+pub good_short : (line : List ℕ) → IsGood line → length line ≤ 1024
 good_short line (inl none) = omega (arith, ap length none)
 good_short line (inr said) = subst (λ l. length l ≤ 1024) (sym said.1.spelt) said.1.admitted.short
 

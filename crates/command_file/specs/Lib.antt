@@ -4,3 +4,4 @@ pub mod Files
 pub mod Laws
 pub mod Words
 pub mod Reading
+pub mod Texts

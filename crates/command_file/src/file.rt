@@ -14,7 +14,7 @@ use std::alloc::Global;
 use std::io::BufRead;
 
 /// The most lines of a file.
-const MOST_LINES: u32 = 65_536;
+pub(crate) const MOST_LINES: u32 = 65_536;
 
 /// The commands that the file's lines say, in order.
 ///

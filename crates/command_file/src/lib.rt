@@ -8,6 +8,7 @@ mod laws;
 mod line;
 mod parse;
 mod search;
+mod text;
 mod verb;
 mod words;
 
@@ -16,3 +17,4 @@ pub use fault::{FileFault, LineFault};
 pub use file::read_file;
 pub use laws::{one_command, one_meaning, one_outcome, written_is_said};
 pub use parse::parse_line;
+pub use text::FileText;

@@ -1,7 +1,7 @@
 //! Worked files, readers that give few bytes at a time, and readers that fail.
 mod expect;
 
-use command_file::{Command, FileFault, MapCommand, TableCommand, read_file};
+use command_file::{Command, FileFault, FileText, MapCommand, TableCommand, read_file};
 use expect::{holds, made};
 use std::alloc::{AllocError, Global};
 use std::io;
@@ -39,9 +39,28 @@ impl BufRead for Faltering<'_> {
     }
 }
 
+/// The fault of a file of these bytes, parsed as it is read and afterwards; want of memory, which no row wants, where these
+/// differ.
 fn fault_of(alloc: Global, bytes: &[u8]) -> Option<FileFault> {
-    let mut file = bytes;
-    read_file(alloc, &mut file).err()
+    let (mut file, mut again) = (bytes, bytes);
+    let fault = read_file(alloc, &mut file).err();
+    if FileText::read(alloc, &mut again).commands(alloc).err() == fault {
+        fault
+    } else {
+        Some(FileFault::Memory)
+    }
+}
+
+/// The fault of a file whose look of this number fails, parsed after it was read.
+fn fault_of_text(alloc: Global, rest: &'static [u8], failing: u8) -> Option<FileFault> {
+    let mut file = Faltering {
+        rest,
+        size: 5,
+        looks: 0,
+        failing,
+        kind: ErrorKind::Other,
+    };
+    FileText::read(alloc, &mut file).commands(alloc).err()
 }
 
 /// The letter of a command on the map, and its texts.
@@ -240,4 +259,26 @@ fn failing_reads(rt: HostRuntime) {
             holds(&rt, found == Some(FileFault::Read));
         }
     }
+}
+
+#[test]
+fn lines_parsed_after_they_were_read(rt: HostRuntime) {
+    let good: &[u8] = b"put a 1\nget b\n";
+    for failing in 0..3 {
+        holds(
+            &rt,
+            fault_of_text(rt.alloc(), good, failing) == Some(FileFault::Read),
+        );
+    }
+    holds(&rt, fault_of_text(rt.alloc(), good, 255).is_none());
+    // The first line is bad, whether the reading behind it fails or not.
+    for failing in [2, 255] {
+        let found = fault_of_text(rt.alloc(), b"bad\nget b\n", failing);
+        holds(&rt, found == Some(FileFault::BadLine(1)));
+    }
+    let mut file = good;
+    let text = FileText::read(rt.alloc(), &mut file);
+    let commands = made(&rt, text.commands(rt.alloc()));
+    let found = made(&rt, shown(rt.alloc(), commands.as_slice()));
+    holds(&rt, found.as_slice() == b"p/a/1/g/b//".as_slice());
 }

@@ -13,21 +13,25 @@ AreFiles [] (commands ∷ files) = ⊥
 AreFiles (known ∷ more) [] = ⊥
 AreFiles (known ∷ more) (commands ∷ files) = IfSome known (λ bytes. IsFile (lines_of bytes) commands) × AreFiles more files
 
--- the file of this number, counted from 1, has what is said of its bytes, and those before it are files
-pub record IsFirst (all : List (Option (List ℕ))) (number : ℕ) (P : List ℕ → Type 0) : Type 0 where
+-- the file of this number, where the first of all has the number `from`, has what is said of its bytes, and those before it are files
+pub record IsFirst (from : ℕ) (all : List (Option (List ℕ))) (number : ℕ) (P : List ℕ → Type 0) : Type 0 where
   pub before : List (Option (List ℕ))
   pub known : Option (List ℕ)
   pub behind : List (Option (List ℕ))
   pub is : all ≡ before ++ known ∷ behind
-  pub counted : number ≡ length before + 1
+  pub counted : number ≡ length before + from
   pub commands : List (List Command)
   pub files : AreFiles before commands
   pub fits : IfSome known P
 
--- the fault is that of the first file that has one
+-- the fault is that of the first file that has one, where the first of all has the number `from`
+abbrev pub IsFaultFrom : ℕ → List (Option (List ℕ)) → RunFault → Type 0
+IsFaultFrom from all (fault.BadLine number line) = IsFirst from all number (λ bytes. IsBadLine (lines_of bytes) line)
+IsFaultFrom from all (fault.TooManyLines number) = IsFirst from all number (λ bytes. IsTooMany (lines_of bytes))
+IsFaultFrom from all (fault.Read number) = IsFirst from all number (λ bytes. ⊤)
+IsFaultFrom from all fault.Memory = ⊤
+IsFaultFrom from all _ = ⊥
+
+-- the same where the files are counted from 1
 abbrev pub IsFaultOfOne : List (Option (List ℕ)) → RunFault → Type 0
-IsFaultOfOne all (fault.BadLine number line) = IsFirst all number (λ bytes. IsBadLine (lines_of bytes) line)
-IsFaultOfOne all (fault.TooManyLines number) = IsFirst all number (λ bytes. IsTooMany (lines_of bytes))
-IsFaultOfOne all (fault.Read number) = IsFirst all number (λ bytes. ⊤)
-IsFaultOfOne all fault.Memory = ⊤
-IsFaultOfOne all _ = ⊥
+IsFaultOfOne all fault = IsFaultFrom 1 all fault

@@ -44,7 +44,7 @@ where
     if let Some(field) = config.first_bad_with(devices.len()) {
         return Err(RunFault::BadConfig(field));
     }
-    let files = match read_files(rt.alloc(), files) {
+    let files = match read_files(rt, rt.alloc(), files) {
         Ok(files) => files,
         Err(fault) => return Err(fault),
     };

@@ -52,8 +52,8 @@ impl<J: Naming, B: QueueNaming, D: Device> Shared<J, B, D> {
         self.queue.settle(rt, &mut seated.seat, &mut seated.caller);
     }
 
-    /// Reclaims the oldest spare that the caller's calls have left, so that its next object goes into the emptied frame. A
-    /// spare that comes back waits as before.
+    /// Reclaims the oldest spare that the caller's calls have left, so that its next object goes into the frame that it
+    /// emptied, where it emptied one that is still free. A spare that comes back waits as before.
     fn recycle<R: Wait>(&self, rt: &R, caller: &mut Caller<Text, Text, J>)
         ensures { Goes caller.old.pass caller.new.pass }
     {
@@ -66,8 +66,8 @@ impl<J: Naming, B: QueueNaming, D: Device> Shared<J, B, D> {
         }
     }
 
-    /// What follows each command: the spare that it left is reclaimed, by the evictor's collecting where that has no thread
-    /// and else by the caller itself, and what still waits is handed over.
+    /// What follows each command. Where the evictor has a thread the caller reclaims its oldest spare itself, and hands over what
+    /// still waits; else it hands all over, and has them reclaimed.
     pub(crate) fn after_command<R: Wait>(&self, rt: &R, seated: &mut Seated<J, B>)
         ensures { Goes seated.old.caller.pass seated.new.caller.pass }
     {

@@ -4,11 +4,15 @@ use super::inputs::Faltering;
 use command_file::Command;
 use far_driver::{RunFault, read_files};
 use std::alloc::Global;
+use std::thread::Threads;
 
 /// Reads three files of these bytes.
-fn read_three(alloc: Global, files: [&[u8]; 3]) -> Result<Vec<Vec<Command>>, RunFault> {
-    match Vec::from_array(alloc, files) {
-        Ok(files) => read_files(alloc, files),
+fn read_three<R: Alloc<A = Global> + Threads + Sync>(
+    rt: &R,
+    files: [&[u8]; 3],
+) -> Result<Vec<Vec<Command>>, RunFault> {
+    match Vec::from_array(rt.alloc(), files) {
+        Ok(files) => read_files(rt, rt.alloc(), files),
         Err(_) => Err(RunFault::Memory),
     }
 }
@@ -16,11 +20,8 @@ fn read_three(alloc: Global, files: [&[u8]; 3]) -> Result<Vec<Vec<Command>>, Run
 #[test]
 fn files_in_order(rt: HostRuntime) {
     let none: Vec<&[u8]> = Vec::new(rt.alloc());
-    holds(&rt, made(&rt, read_files(rt.alloc(), none)).is_empty());
-    let all = made(
-        &rt,
-        read_three(rt.alloc(), [b"put a 1\n\nget a", b"", b"show\n"]),
-    );
+    holds(&rt, made(&rt, read_files(&rt, rt.alloc(), none)).is_empty());
+    let all = made(&rt, read_three(&rt, [b"put a 1\n\nget a", b"", b"show\n"]));
     equal(&rt, all.len(), 3);
     for (commands, wanted) in all.iter().zip([2, 0, 1]) {
         equal(&rt, commands.len(), wanted);
@@ -41,7 +42,7 @@ fn first_of_the_faults(rt: HostRuntime) {
         ([b"get a", b"", b"get"], RunFault::BadLine(3, 1)),
     ];
     for (files, wanted) in rows {
-        equal(&rt, read_three(rt.alloc(), files).err(), Some(wanted));
+        equal(&rt, read_three(&rt, files).err(), Some(wanted));
     }
 }
 
@@ -51,7 +52,7 @@ fn second_file_fails(rt: HostRuntime) {
         let mut files = Vec::new(rt.alloc());
         made(&rt, files.push(Faltering::new(b"get a", 255)));
         made(&rt, files.push(Faltering::new(b"get a\n", failing)));
-        let found = read_files(rt.alloc(), files).err();
+        let found = read_files(&rt, rt.alloc(), files).err();
         equal(&rt, found, Some(RunFault::Read(2)));
     }
 }
