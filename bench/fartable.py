@@ -23,15 +23,20 @@ LARGEST = SIZES[-1]
 FEW_FRAMES = 17_000 // 4
 
 
-def take_time(arguments, given, out):
-    """Runs a command once, and gives its wall and processor time in seconds, and its peak memory in KiB."""
-    with open(given) as source, open(out, "w") as sink:
-        began = time.perf_counter()
-        child = subprocess.Popen(arguments, stdin=source, stdout=sink)
-        _, status, used = os.wait4(child.pid, 0)
-        took = time.perf_counter() - began
-    assert status == 0, arguments
-    return took, used.ru_utime + used.ru_stime, used.ru_maxrss
+def take_time(arguments, given, out, *others):
+    """Runs a command once, beside the same with each of the other inputs, and gives the wall and processor time in seconds
+    until all have ended, and their peak memory in KiB."""
+    inputs = [open(name) for name in (given, *others)]
+    outputs = [open(f"{out}{at or ''}", "w") for at in range(len(inputs))]
+    began = time.perf_counter()
+    children = [subprocess.Popen(arguments, stdin=source, stdout=sink) for source, sink in zip(inputs, outputs)]
+    ended = [os.wait4(child.pid, 0) for child in children]
+    took = time.perf_counter() - began
+    for stream in inputs + outputs:
+        stream.close()
+    assert all(status == 0 for _, status, _ in ended), arguments
+    used = [usage for _, _, usage in ended]
+    return took, sum(use.ru_utime + use.ru_stime for use in used), sum(use.ru_maxrss for use in used)
 
 
 def same(one, other):
@@ -39,7 +44,7 @@ def same(one, other):
         return left.read() == right.read()
 
 
-def main(program, farbench, plain, runs="5"):
+def main(program, farbench, plain, threads, runs="5"):
     here = os.path.dirname(os.path.abspath(__file__))
     best = {}
     with tempfile.TemporaryDirectory() as folder:
@@ -59,19 +64,25 @@ def main(program, farbench, plain, runs="5"):
         four = [files[LARGEST, file] for file in range(4)]
         kinds["four files", LARGEST] = [program, str(BUCKETS), str(BUCKETS), "4096", *four], files[0, 0]
         kinds["four empty files", 0] = [program, str(BUCKETS), str(BUCKETS), "4096", *[files[0, 0]] * 4], files[0, 0]
+        kinds["plain threads", 0] = [threads, str(BUCKETS), str(BUCKETS), "4096", *[files[0, 0]] * 4], files[0, 0]
+        kinds["plain threads", LARGEST] = [threads, str(BUCKETS), str(BUCKETS), "4096", *four], files[0, 0]
+        one = [program, str(BUCKETS), str(BUCKETS), "4096", "-"]
+        kinds["four processes", 0] = one, *[files[0, 0]] * 4
+        kinds["four processes", LARGEST] = one, *four
         load = os.getloadavg()
         for _ in range(int(runs)):
-            for kind, (arguments, given) in kinds.items():
-                took = take_time(arguments, given, f"{folder}/{kind[0]}")
+            for kind, (arguments, given, *others) in kinds.items():
+                took = take_time(arguments, given, f"{folder}/{kind[0]}", *others)
                 best[kind] = tuple(map(min, best.get(kind, took), took))
             for name in ("plain run", "plain Rust", "few frames"):
                 assert same(f"{folder}/ample", f"{folder}/{name}"), f"{name} writes something else"
+            assert same(f"{folder}/four files", f"{folder}/plain threads"), "plain threads write something else"
     print(f"{time.strftime('%Y-%m-%d %H:%M')}, {os.cpu_count()} processors, load before {load[0]:.1f}, after {os.getloadavg()[0]:.1f}; best of {runs} runs, {BUCKETS} buckets")
     print(f"{'what':>17} {'commands':>9} {'ms':>8} {'us/command':>11} {'cpu-ms':>8} {'cpu-us/command':>15} {'peak-KiB':>9}")
     each = {}
     for (name, size), (wall, cpu, peak) in best.items():
         empty = best["four empty files" if name == "four files" else "ample" if name == "few frames" else name, 0]
-        commands = 4 * size if name == "four files" else size
+        commands = 4 * size if name in ("four files", "plain threads", "four processes") else size
         each[name, size] = [(took - less) / commands * 1e6 if commands else 0 for took, less in ((wall, empty[0]), (cpu, empty[1]))]
         print(f"{name:>17} {commands:>9} {wall * 1e3:>8.1f} {each[name, size][0]:>11.3f} {cpu * 1e3:>8.0f} {each[name, size][1]:>15.3f} {peak:>9}")
     goals = [
@@ -80,6 +91,8 @@ def main(program, farbench, plain, runs="5"):
         ("commands in a second, four files to one", each["ample", LARGEST][0] / each["four files", LARGEST][0], 2.5, 1),
         ("time with few frames, to ample", each["few frames", LARGEST][0] / each["ample", LARGEST][0], 4, -1),
     ]
+    for name, less in (("four processes", "ample"), ("plain threads", "plain Rust")):
+        print(f"commands in a second, {name} to one: {each[less, LARGEST][0] / each[name, LARGEST][0]:.2f}")
     missed = 0
     for name, found, goal, sign in goals:
         is_missed = (found - goal) * sign < 0

@@ -17,4 +17,5 @@ if [ -z "${FARBENCH:-}" ]; then
     (cd "$crates/farbench" && rt run >/dev/null)
 fi
 rustc --edition 2021 -O -o "$work/plain" "$bench/plain/main.rs"
-python3 -B "$bench/fartable.py" "${FARTABLE:-$crates/fartable/out/fartable}" "${FARBENCH:-$crates/farbench/out/farbench}" "$work/plain" "${1:-5}"
+rustc --edition 2021 -O -o "$work/threads" "$bench/plain/threads.rs"
+python3 -B "$bench/fartable.py" "${FARTABLE:-$crates/fartable/out/fartable}" "${FARBENCH:-$crates/farbench/out/farbench}" "$work/plain" "$work/threads" "${1:-5}"
