@@ -1,7 +1,8 @@
 -- The pairs of all buckets at one front of all passes.
 use Rattle.std.proofs.Common.{◌≡◌, ◌≢◌, ℕ, zero, suc, ◌+◌, ◌<◌, ◌==◌, Bool, true, false, IsTrue, List, [], ◌∷◌, ◌++◌, length, slice_index_or, slice_set, refl, ap, sym, ◌∙◌, subst, arith}
 use Rattle.std.proofs.lemmas.Bool.Decides.{nat_tests}
-use Rattle.std.proofs.lemmas.List.{get_or_default, get_or-set_other, get_or-set_same, length-set, length-map}
+use Rattle.std.proofs.lemmas.List.{get_or_default, get_or-set_other, get_or-set_same, get_or_append_left, get_or-append-add, append-nil, append_assoc, length-append, length-set, length-map}
+use Rattle.std.proofs.lemmas.List.Sorted.{length_permutation}
 use Rattle.std.specs.List.Sorted.{IsPermutation, IsSortedBy}
 use Rattle.std.specs.Ordering.{is_lt}
 use mathlib.Core.List.{IsPrefix}
@@ -18,8 +19,22 @@ use Rattle.version_words.specs.Laws.{SameHistory}
 use Rattle.version_words.specs.Views.{PassView, Goes, IsWhole, AreNone, AreApart, calls_of}
 use Rattle.version_words.proofs.Fronts.{prefix_self, prefix_trans}
 use Rattle.hash_table.specs.declared.caller.Caller.{Caller}
-use Rattle.hash_table.specs.Closes.{IsClosed, AreBack, HistoryStays, passes}
+use Rattle.hash_table.specs.Closes.{IsClosed, ClosesSorted, AreBack, AreTold, AllSeen, ArePairs, HistoryStays, pairs_from, passes}
 use Rattle.hash_table.proofs.Fronts.{goes_self, goes_trans}
+
+-- ---- parts of joined lists
+
+joined_same : {X : Type 0} (f g : ℕ → List X) (n : ℕ) → ((i : ℕ) → f i ≡ g i) → joined f n ≡ joined g n
+joined_same f g zero same = refl
+joined_same f g (suc n) same = ap (λ z. z ++ f n) (joined_same f g n same) ∙ ap (λ z. joined g n ++ z) (same n)
+
+joined_both : {X : Type 0} (f g : ℕ → List X) (m n : ℕ) → ((i : ℕ) → g i ≡ f (m + i)) → joined f m ++ joined g n ≡ joined f (m + n)
+joined_both {X} f g m zero same = append-nil (joined f m) ∙ ap (λ i. joined f i) (let e : m ≡ m + zero = omega arith in e)
+joined_both {X} f g m (suc n) same =
+    sym (append_assoc (joined f m) (joined g n) (g n))
+    ∙ (ap (λ (z : List X). z ++ g n) (joined_both f g m n same)
+    ∙ (ap (λ (z : List X). joined f (m + n) ++ z) (same n)
+    ∙ ap (λ i. joined f i) (let e : suc (m + n) ≡ m + suc n = omega arith in e)))
 
 module _ {K V : Type 0} (ek : K → List ℕ) (ev : V → List ℕ) (l : Limits) where
   -- ---- one bucket after another
@@ -27,29 +42,27 @@ module _ {K V : Type 0} (ek : K → List ℕ) (ev : V → List ℕ) (l : Limits)
   abbrev pub part : List (Event K V) → ℕ → List (K × V)
   part log b = at_bucket ek l.buckets b (map_of ek ev (history log))
 
-  -- the pairs of the first n buckets are gathered, for each later log to which no call was added since the mark
-  pub record Gathered (is_honest : Bool) (mark : List (Event K V)) (start now : PassView K V) (items : List (K × V)) (n : ℕ) : Type 0 where
+  -- the pairs of n buckets are gathered, for each later log to which no call was added since the mark
+  pub record Gathered (is_honest : Bool) (mark : List (Event K V)) (start now : PassView K V) (items : List (K × V)) (from n : ℕ) : Type 0 where
     pub goes : Goes start now
     pub told : IsPrefix mark now.front
-    pub pairs : IsTrue is_honest → (log : List (Event K V)) → IsPrefix now.front log → HistoryStays mark log → items ≡ joined (part log) n
+    pub pairs : IsTrue is_honest → (log : List (Event K V)) → IsPrefix now.front log → HistoryStays mark log → items ≡ pairs_from ek ev l log from n
 
-  pub gathered_none : (is_honest : Bool) (mark : List (Event K V)) (start : PassView K V) → IsPrefix mark start.front → Gathered is_honest mark start start [] 0
-  gathered_none is_honest mark start told = record { goes = goes_self start; told = told; pairs = λ _ _ _ _. refl }
+  pub gathered_none : (is_honest : Bool) (mark : List (Event K V)) (start : PassView K V) (from : ℕ) → IsPrefix mark start.front → Gathered is_honest mark start start [] from 0
+  gathered_none is_honest mark start from told = record { goes = goes_self start; told = told; pairs = λ _ _ _ _. refl }
 
-  pub gathered_more : (is_honest : Bool) (mark : List (Event K V)) (start now next : PassView K V) (items more all : List (K × V)) (n : ℕ) → Gathered is_honest mark start now items n → Goes now next → all ≡ items ++ more
-      → (IsTrue is_honest → more ≡ part next.front n) → Gathered is_honest mark start next all (n + 1)
-  gathered_more is_honest mark start now next items more all n so goes is seen = record {
+  pub gathered_more : (is_honest : Bool) (mark : List (Event K V)) (start now next : PassView K V) (items more all : List (K × V)) (from n : ℕ) → Gathered is_honest mark start now items from n → Goes now next → all ≡ items ++ more
+      → (IsTrue is_honest → more ≡ part next.front (from + n)) → Gathered is_honest mark start next all from (n + 1)
+  gathered_more is_honest mark start now next items more all from n so goes is seen = record {
     goes = goes_trans so.goes goes;
     told = prefix_trans mark now.front next.front so.told goes.grows;
     pairs = λ honest log later stays.
         let told : IsPrefix mark next.front = prefix_trans mark now.front next.front so.told goes.grows in
-        let old : items ≡ joined (part log) n = so.pairs honest log (prefix_trans now.front next.front log goes.grows later) stays in
+        let old : items ≡ pairs_from ek ev l log from n = so.pairs honest log (prefix_trans now.front next.front log goes.grows later) stays in
         let at : history next.front ≡ history log = stays next.front told later ∙ sym (stays log (prefix_trans mark next.front log told later) (prefix_self log)) in
-        let new : more ≡ part log n = seen honest ∙ ap (λ (h : List (ℕ × Operation K V)). at_bucket ek l.buckets n (map_of ek ev h)) at in
-        is ∙ (ap (λ (z : List (K × V)). z ++ more) old ∙ (ap (λ (z : List (K × V)). joined (part log) n ++ z) new ∙ sym (joined_more (part log) n)));
+        let new : more ≡ part log (from + n) = seen honest ∙ ap (λ (h : List (ℕ × Operation K V)). at_bucket ek l.buckets (from + n) (map_of ek ev h)) at in
+        is ∙ (ap (λ (z : List (K × V)). z ++ more) old ∙ (ap (λ (z : List (K × V)). pairs_from ek ev l log from n ++ z) new ∙ sym (joined_more (λ i. part log (from + i)) n)));
   }
-
-  -- ---- all passes at a front behind all looks
 
   whole_from : (log : List (Event K V)) (old new : PassView K V) → Goes old new → IsWhole log new → IsWhole log old
   whole_from log old new goes whole = record {
@@ -57,7 +70,87 @@ module _ {K V : Type 0} (ek : K → List ℕ) (ev : V → List ℕ) (l : Limits)
     all = ap (λ (p : ℕ). calls_of p log) (sym goes.number) ∙ (whole.all ∙ goes.calls_stay);
   }
 
+  -- ---- callers that come back
+
   module _ {J : Type 0} where
+    -- what is so of each caller is so of each of a part
+    pub each_left : (P : Caller K V J → Type 0) (xs ys : List (Caller K V J)) → ((k : ℕ) (d : Caller K V J) → k < length (xs ++ ys) → P (slice_index_or (xs ++ ys) k d)) → (k : ℕ) (d : Caller K V J) → k < length xs → P (slice_index_or xs k d)
+    each_left P xs ys each k d lt = subst P (get_or_append_left xs ys d k lt) (each k d (let e = length-append xs ys in omega (arith, e, lt)))
+
+    pub each_right : (P : Caller K V J → Type 0) (xs ys : List (Caller K V J)) → ((k : ℕ) (d : Caller K V J) → k < length (xs ++ ys) → P (slice_index_or (xs ++ ys) k d)) → (k : ℕ) (d : Caller K V J) → k < length ys → P (slice_index_or ys k d)
+    each_right P xs ys each k d lt = subst P (get_or-append-add xs ys k d) (each (length xs + k) d (let e = length-append xs ys in omega (arith, e, lt)))
+
+    back_tail : (x y : Caller K V J) (xs ys : List (Caller K V J)) → AreBack (x ∷ xs) (y ∷ ys) → AreBack xs ys
+    back_tail x y xs ys back = record {
+      count = let e = back.count in omega (arith, e);
+      goes = λ k d lt. back.goes (suc k) d (omega (arith, lt));
+      limbos = λ k d lt. back.limbos (suc k) d (omega (arith, lt));
+    }
+
+    back_cons : (x y : Caller K V J) (xs ys : List (Caller K V J)) → Goes x.pass y.pass → y.limbo ≡ x.limbo → AreBack xs ys → AreBack (x ∷ xs) (y ∷ ys)
+    back_cons x y xs ys goes limbo back = record {
+      count = ap suc back.count;
+      goes = to;
+      limbos = same;
+    }
+      where
+        to : (k : ℕ) (d : Caller K V J) → k < length (x ∷ xs) → Goes (slice_index_or (x ∷ xs) k d).pass (slice_index_or (y ∷ ys) k d).pass
+        to zero d lt = goes
+        to (suc k) d lt = back.goes k d (omega (arith, lt))
+
+        same : (k : ℕ) (d : Caller K V J) → k < length (x ∷ xs) → (slice_index_or (y ∷ ys) k d).limbo ≡ (slice_index_or (x ∷ xs) k d).limbo
+        same zero d lt = limbo
+        same (suc k) d lt = back.limbos k d (omega (arith, lt))
+
+    -- two parts of them
+    pub back_both : (xs xs2 ys ys2 : List (Caller K V J)) → AreBack xs xs2 → AreBack ys ys2 → AreBack (xs ++ ys) (xs2 ++ ys2)
+    back_both [] [] ys ys2 one other = other
+    back_both [] (y ∷ xs2) ys ys2 one other = absurd (let e = one.count in omega (arith, e))
+    back_both (x ∷ xs) [] ys ys2 one other = absurd (let e = one.count in omega (arith, e))
+    back_both (x ∷ xs) (y ∷ xs2) ys ys2 one other = back_cons x y (xs ++ ys) (xs2 ++ ys2) (one.goes 0 x (omega arith)) (one.limbos 0 x (omega arith)) (back_both xs xs2 ys ys2 (back_tail x y xs xs2 one) other)
+
+    -- one call after another
+    pub back_trans : (olds mids news : List (Caller K V J)) → AreBack olds mids → AreBack mids news → AreBack olds news
+    back_trans olds mids news first last = record {
+      count = last.count ∙ first.count;
+      goes = λ k d lt. goes_trans (first.goes k d lt) (last.goes k d (let e = first.count in omega (arith, lt, e)));
+      limbos = λ k d lt. last.limbos k d (let e = first.count in omega (arith, lt, e)) ∙ first.limbos k d lt;
+    }
+
+    -- the first alone
+    pub back_first : (olds : List (Caller K V J)) (was now : Caller K V J) → 0 < length olds → was ≡ slice_index_or olds 0 was → Goes was.pass now.pass → now.limbo ≡ was.limbo → AreBack olds (slice_set olds 0 now)
+    back_first [] was now some is goes limbo = absurd (omega (arith, some))
+    back_first (c ∷ cs) was now some is goes limbo = back_cons c now cs cs (subst (λ (x : Caller K V J). Goes x.pass now.pass) is goes) (limbo ∙ ap (λ (x : Caller K V J). x.limbo) is)
+        (record { count = refl; goes = λ k d lt. goes_self (slice_index_or cs k d).pass; limbos = λ k d lt. refl })
+
+    pub told_back : (mark : List (Event K V)) (olds news : List (Caller K V J)) → AreBack olds news → AreTold mark olds → AreTold mark news
+    told_back mark olds news back told k d lt =
+        let there : k < length olds = let e = back.count in omega (arith, lt, e) in
+        let goes = back.goes k d there in
+        prefix_trans mark (slice_index_or olds k d).pass.front (slice_index_or news k d).pass.front (told k d there) goes.grows
+
+    pub told_mids : (mark : List (Event K V)) (olds mids : List (Caller K V J)) → length mids ≡ length olds → ((k : ℕ) (d : Caller K V J) → k < length olds → IsPrefix mark (slice_index_or mids k d).pass.front) → AreTold mark mids
+    told_mids mark olds mids count told k d lt = told k d (omega (arith, lt, count))
+
+    -- ---- the pairs of a part of the buckets, and of two
+
+    pub pairs_by_first : (mark : List (Event K V)) (olds : List (Caller K V J)) (now : Caller K V J) (from count : ℕ) (items : List (K × V)) → 0 < length olds
+        → (IsTrue l.honest → (log : List (Event K V)) → IsPrefix now.pass.front log → HistoryStays mark log → items ≡ pairs_from ek ev l log from count) → ArePairs ek ev l mark (slice_set olds 0 now) from count items
+    pairs_by_first mark [] now from count items some so = absurd (omega (arith, some))
+    pairs_by_first mark (c ∷ cs) now from count items some so = record { are = λ honest log seen stays. so honest log (seen.each 0 now (omega arith)) stays }
+
+    pub pairs_by_both : (mark : List (Event K V)) (xs ys : List (Caller K V J)) (from half rest : ℕ) (one more all : List (K × V)) → ArePairs ek ev l mark xs from half one → ArePairs ek ev l mark ys (from + half) rest more → all ≡ one ++ more
+        → ArePairs ek ev l mark (xs ++ ys) from (half + rest) all
+    pairs_by_both mark xs ys from half rest one more all first second is = record {
+      are = λ honest log seen stays.
+          let near : one ≡ pairs_from ek ev l log from half = first.are honest log (record { each = each_left (λ (c : Caller K V J). IsPrefix c.pass.front log) xs ys seen.each }) stays in
+          let far : more ≡ pairs_from ek ev l log (from + half) rest = second.are honest log (record { each = each_right (λ (c : Caller K V J). IsPrefix c.pass.front log) xs ys seen.each }) stays in
+          is ∙ (ap (λ (z : List (K × V)). z ++ more) near ∙ (ap (λ (z : List (K × V)). pairs_from ek ev l log from half ++ z) far
+          ∙ joined_both (λ i. part log (from + i)) (λ i. part log (from + half + i)) half rest (λ i. ap (λ b. part log b) (let e : from + half + i ≡ from + (half + i) = omega arith in e))));
+    }
+
+    -- ---- all passes at a front behind all looks
+
     at_each : (P : PassView K V → Type 0) (callers : List (Caller K V J)) → ((k : ℕ) (d : Caller K V J) → k < length callers → P (slice_index_or callers k d).pass) → (k : ℕ) (d : PassView K V) → k < length (passes callers) → P (slice_index_or (passes callers) k d)
     at_each P [] each k d lt = absurd (omega (arith, lt))
     at_each P (c ∷ cs) each zero d lt = each 0 c (omega arith)
@@ -81,74 +174,40 @@ module _ {K V : Type 0} (ek : K → List ℕ) (ev : V → List ℕ) (l : Limits)
 
     -- with no pass drawn there is no history
     pub closed_none : (callers : List (Caller K V J)) (log : List (Event K V)) → SameHistory K V → length callers ≡ 0 → IsLawful ek ev l log → passes_of log ≡ length callers → AreApart (passes callers)
-        → ((k : ℕ) (d : Caller K V J) → k < length callers → IsWhole log (slice_index_or callers k d).pass) → ((pass : PassView K V) → AreNone pass (passes callers) → calls_of pass.number log ≡ []) → IsClosed ek ev l callers []
-    closed_none callers log law none lawful all apart whole other = record {
+        → ((k : ℕ) (d : Caller K V J) → k < length callers → IsWhole log (slice_index_or callers k d).pass) → ((pass : PassView K V) → AreNone pass (passes callers) → calls_of pass.number log ≡ []) → ClosesSorted ek ev l callers []
+    closed_none callers log law none lawful all apart whole other sorted moved up = record {
       log = log;
       lawful = lawful;
       all = all;
       apart = apart;
       whole = whole;
       no_other = other;
-      pairs_are = λ honest. sym (ap (λ (h : List (ℕ × Operation K V)). map_of ek ev h) (law [] log (passes callers) (log, refl) (λ k d lt. absurd (omega (arith, lt, none, length-map callers (λ (c : Caller K V J). c.pass)))) other log (log, refl) (prefix_self log)));
+      pairs_are = λ honest. none_moved sorted moved ∙ sym (ap (λ (h : List (ℕ × Operation K V)). map_of ek ev h) (law [] log (passes callers) (log, refl) (λ k d lt. absurd (omega (arith, lt, none, length-map callers (λ (c : Caller K V J). c.pass)))) other log (log, refl) (prefix_self log)));
     }
+      where
+        no_pair : (all : List (K × V)) → length all ≡ 0 → all ≡ []
+        no_pair [] none = refl
+        no_pair (x ∷ xs) none = absurd (omega (arith, none))
 
-    -- the callers after the first gathering, the reader of all buckets among them as it was and as it is, and after the second
-    module _ (olds mids news : List (Caller K V J)) (was now : Caller K V J) (first second : List (Event K V)) (back : AreBack olds mids) (some : 0 < length olds) (is : was ≡ slice_index_or mids 0 was) (read : Goes was.pass now.pass) (limbo : now.limbo ≡ was.limbo) where
-      abbrev read_by : List (Caller K V J)
-      read_by = slice_set mids 0 now
+        none_moved : (all : List (K × V)) → IsPermutation [] all → all ≡ []
+        none_moved all moved = no_pair all (length_permutation [] all moved)
 
-      back_read : AreBack olds read_by
-      back_read = record {
-        count = length-set mids 0 now ∙ back.count;
-        goes = λ k d lt. (by_goes k d lt (k == 0) refl);
-        limbos = λ k d lt. (by_limbo k d lt (k == 0) refl);
-      }
-        where
-          there : 0 < length mids
-          there = let e = back.count in omega (arith, e, some)
-
-          at_first : (d : Caller K V J) → was ≡ slice_index_or mids 0 d
-          at_first d = is ∙ get_or_default mids 0 was d there
-
-          by_goes : (k : ℕ) (d : Caller K V J) → k < length olds → (b : Bool) → (k == 0) ≡ b → Goes (slice_index_or olds k d).pass (slice_index_or read_by k d).pass
-          by_goes k d lt true at =
-              let same : k ≡ 0 = grind (arith, nat_tests) in
-              let one : Goes (slice_index_or olds 0 d).pass was.pass = subst (λ (c : Caller K V J). Goes (slice_index_or olds 0 d).pass c.pass) (sym (at_first d)) (back.goes 0 d some) in
-              subst (λ (i : ℕ). Goes (slice_index_or olds i d).pass (slice_index_or read_by i d).pass) (sym same)
-              (subst (λ (c : Caller K V J). Goes (slice_index_or olds 0 d).pass c.pass) (sym (get_or-set_same mids 0 now d there)) (goes_trans one read))
-          by_goes k d lt false at = let other : k ≢ 0 = grind (arith, nat_tests) in subst (λ (c : Caller K V J). Goes (slice_index_or olds k d).pass c.pass) (sym (get_or-set_other mids 0 k now d other)) (back.goes k d lt)
-
-          by_limbo : (k : ℕ) (d : Caller K V J) → k < length olds → (b : Bool) → (k == 0) ≡ b → (slice_index_or read_by k d).limbo ≡ (slice_index_or olds k d).limbo
-          by_limbo k d lt true at =
-              let same : k ≡ 0 = grind (arith, nat_tests) in
-              subst (λ (i : ℕ). (slice_index_or read_by i d).limbo ≡ (slice_index_or olds i d).limbo) (sym same)
-              (ap (λ (c : Caller K V J). c.limbo) (get_or-set_same mids 0 now d there) ∙ (limbo ∙ (ap (λ (c : Caller K V J). c.limbo) (at_first d) ∙ back.limbos 0 d some)))
-          by_limbo k d lt false at = let other : k ≢ 0 = grind (arith, nat_tests) in ap (λ (c : Caller K V J). c.limbo) (get_or-set_other mids 0 k now d other) ∙ back.limbos k d lt
-
-      pub back_after_read : AreBack olds read_by
-      back_after_read = back_read
-
-      pub back_after_all : AreBack read_by news → AreBack olds news
-      back_after_all last = record {
-        count = last.count ∙ back_read.count;
-        goes = λ k d lt. goes_trans (back_read.goes k d lt) (last.goes k d (let e = back_read.count in omega (arith, lt, e)));
-        limbos = λ k d lt. last.limbos k d (let e = back_read.count in omega (arith, lt, e)) ∙ back_read.limbos k d lt;
-      }
-
-      pub closed : (pairs sorted : List (K × V)) → SameHistory K V → IsPrefix first now.pass.front → IsLawful ek ev l second → passes_of second ≡ length read_by → AreApart (passes olds)
+    -- the callers as they were, with their passes at a first front, after all looks, and with their passes at a second front
+    module _ (olds mids reads : List (Caller K V J)) (first second : List (Event K V)) (gathered : AreBack olds mids) (told : AreTold first mids) (read : AreBack mids reads) (some : 0 < length olds) where
+      pub closed : (pairs : List (K × V)) → SameHistory K V → IsLawful ek ev l second → passes_of second ≡ length reads → AreApart (passes olds)
           → ((k : ℕ) (d : Caller K V J) → k < length olds → IsWhole first (slice_index_or olds k d).pass)
-          → ((k : ℕ) (d : Caller K V J) → k < length read_by → IsWhole second (slice_index_or read_by k d).pass)
-          → ((pass : PassView K V) → AreNone pass (passes read_by) → calls_of pass.number second ≡ [])
-          → (IsTrue l.honest → (log : List (Event K V)) → IsPrefix now.pass.front log → HistoryStays first log → pairs ≡ joined (part log) l.buckets)
-          → BucketsMakeMap K V ek ev → 0 < l.buckets → IsPermutation pairs sorted → IsSortedBy (λ a b. is_lt (key_cmp ek a.0 b.0)) sorted → IsClosed ek ev l olds sorted
-      closed pairs sorted same_law told lawful all apart whole1 whole2 other gathered law buckets moved up =
-          let long : length read_by ≡ length olds = back_read.count in
-          let whole : (k : ℕ) (d : Caller K V J) → k < length olds → IsWhole second (slice_index_or olds k d).pass = λ k d lt. whole_from second (slice_index_or olds k d).pass (slice_index_or read_by k d).pass (back_read.goes k d lt) (whole2 k d (omega (arith, lt, long))) in
-          let no_other : (pass : PassView K V) → AreNone pass (passes olds) → calls_of pass.number second ≡ [] = λ pass none. other pass (none_of pass olds read_by long (λ k d lt. let g = back_read.goes k d lt in g.number) none) in
-          let there : 0 < length mids = let e = back.count in omega (arith, e, some) in
-          let zero_is : slice_index_or read_by 0 now ≡ now = get_or-set_same mids 0 now now there in
-          let reader : IsWhole second now.pass = subst (λ (c : Caller K V J). IsWhole second c.pass) zero_is (whole2 0 now (omega (arith, long, some))) in
-          let pre : IsPrefix first second = prefix_trans first now.pass.front second told reader.seen in
+          → ((k : ℕ) (d : Caller K V J) → k < length reads → IsWhole second (slice_index_or reads k d).pass)
+          → ((pass : PassView K V) → AreNone pass (passes reads) → calls_of pass.number second ≡ [])
+          → ArePairs ek ev l first reads 0 l.buckets pairs → BucketsMakeMap K V ek ev → 0 < l.buckets → ClosesSorted ek ev l olds pairs
+      closed pairs same_law lawful all apart whole1 whole2 other are law buckets sorted moved up =
+          let back : AreBack olds reads = back_trans olds mids reads gathered read in
+          let long : length reads ≡ length olds = back.count in
+          let whole : (k : ℕ) (d : Caller K V J) → k < length olds → IsWhole second (slice_index_or olds k d).pass = λ k d lt. whole_from second (slice_index_or olds k d).pass (slice_index_or reads k d).pass (back.goes k d lt) (whole2 k d (omega (arith, lt, long))) in
+          let no_other : (pass : PassView K V) → AreNone pass (passes olds) → calls_of pass.number second ≡ [] = λ pass none. other pass (none_of pass olds reads long (λ k d lt. let g = back.goes k d lt in g.number) none) in
+          let seen : AllSeen reads second = record { each = λ k d lt. let w = whole2 k d lt in w.seen } in
+          let told_all : AreTold first reads = told_back first mids reads read told in
+          let head : Caller K V J = slice_index_or_head reads (omega (arith, long, some)) in
+          let pre : IsPrefix first second = prefix_trans first (slice_index_or reads 0 head).pass.front second (told_all 0 head (omega (arith, long, some))) (seen.each 0 head (omega (arith, long, some))) in
           let stays : HistoryStays first second = same_law first second (passes olds) pre
           (at_each (λ p. calls_of p.number second ≡ calls_of p.number first) olds (λ k d lt. let a = whole k d lt in let b = whole1 k d lt in a.all ∙ sym b.all)) no_other in
           record {
@@ -158,5 +217,9 @@ module _ {K V : Type 0} (ek : K → List ℕ) (ev : V → List ℕ) (l : Limits)
             apart = apart;
             whole = whole;
             no_other = no_other;
-            pairs_are = λ honest. law (history second) l.buckets sorted buckets (subst (λ (z : List (K × V)). IsPermutation z sorted) (gathered honest second reader.seen stays) moved) up;
+            pairs_are = λ honest. law (history second) l.buckets sorted buckets (subst (λ (z : List (K × V)). IsPermutation z sorted) (are.are honest second seen stays ∙ joined_same (λ i. part second (0 + i)) (λ b. part second b) l.buckets (λ i. ap (λ b. part second b) (let e : 0 + i ≡ i = omega arith in e))) moved) up;
           }
+        where
+          slice_index_or_head : (cs : List (Caller K V J)) → 0 < length cs → Caller K V J
+          slice_index_or_head [] some = absurd (omega (arith, some))
+          slice_index_or_head (c ∷ cs) some = c

@@ -5,15 +5,14 @@
 //! The passes are gathered before any bucket is read, and once more behind the last. Each pass has the same calls at both
 //! fronts, since nobody could make one in between, and no other pass was drawn. So the history is the same at both, though
 //! moves may stand between; and what each look tells of its bucket is so of the map of that history.
-ghost use Rattle.std.specs.Prelude.{◌≡◌, ◌<◌, ℕ, IsTrue, IfOk, IfErr, List, length, vec_len};
-ghost use mathlib.Core.List.{IsPrefix};
-ghost use Rattle.table_core.specs.declared.event.Event.{Event};
-ghost use Rattle.table_core.specs.Maps.{at_bucket, joined, map_of};
-ghost use Rattle.table_core.specs.Logs.{history};
-ghost use Rattle.version_words.specs.Views.{Goes};
-ghost use Rattle.hash_table.specs.Closes.{IsClosed, IsCloseFault, AreBack, HistoryStays};
+ghost use Rattle.std.specs.Prelude.{◌≡◌, ◌<◌, ℕ, IsTrue, IfOk, IfErr, length, vec_len};
+ghost use Rattle.std.specs.List.Sorted.{IsPermutation, IsSortedBy};
+ghost use Rattle.std.specs.Ordering.{is_lt};
+ghost use Rattle.far_object.specs.Buckets.{key_cmp};
+ghost use Rattle.hash_table.specs.Closes.{IsClosed, ClosesSorted, IsCloseFault, AreBack};
 ghost use Rattle.hash_table.specs.Stages.{IsUnreadFar};
 
+use crate::all_pairs::PART;
 use crate::caller::Caller;
 use crate::refusal::Refusal;
 use crate::table::FarTable;
@@ -22,6 +21,7 @@ use far_object::FarObject;
 use std::alloc::Global;
 use std::fmt::{Debug, Display, Formatter};
 use std::sync::Wait;
+use std::thread::{Threads, join};
 use std::{error, fmt};
 use table_core::buckets_make_map;
 use version_words::{GatherFault, Mark, Naming, same_history};
@@ -80,45 +80,24 @@ fn unread<K: FarObject, V: FarObject, J: Naming>(refusal: Refusal) -> CloseFault
     }
 }
 
-impl<K: FarObject, V: FarObject, J: Naming, D: Device> FarTable<K, V, J, D> {
-    // The pairs of all buckets, one bucket behind the other, behind a mark. At each later log that has the mark's history
-    // they are its map's.
-    fn all_pairs<R: Wait>(
-        &self,
-        rt: &R,
-        alloc: Global,
-        caller: &mut Caller<K, V, J>,
-        mark: &Mark<K, V, J>,
-    ) -> Result<Vec<(K, V)>, Refusal>
-        requires told { IsPrefix mark.now caller.old.pass.front }
-        ensures goes { Goes caller.old.pass caller.new.pass }
-        ensures limbo { caller.new.limbo ≡ caller.old.limbo }
-        ensures pairs { IfOk result (λ v. IsTrue J.limits.honest → (log : List (Event K V)) → IsPrefix caller.new.pass.front log → HistoryStays mark.now log
-            → v.items ≡ joined (λ b. at_bucket K.enc J.limits.buckets b (map_of K.enc V.enc (history log))) J.limits.buckets) }
-        ensures why { IfErr result (λ e. IsUnreadFar J.limits.honest e) }
-    {
-        let mut all = Vec::new(alloc);
-        for b in 0..self.words.buckets() {
-            let mut pairs = match self.pairs_in(rt, alloc, caller, b) {
-                Ok(pairs) => pairs,
-                Err(refusal) => return Err(refusal),
-            };
-            match all.append(&mut pairs) {
-                Ok(()) => {}
-                Err(_) => return Err(Refusal::Memory),
-            }
-        }
-        Ok(all)
-    }
+// The pairs in key order.
+fn sorted<K: FarObject, V: FarObject>(mut pairs: Vec<(K, V)>) -> Vec<(K, V)>
+    ensures permutation { IsPermutation pairs.items result.items }
+    ensures rising { IsSortedBy (λ a b. is_lt (key_cmp K.enc a.0 b.0)) result.items }
+{
+    pairs.sort_unstable_by(|one, other| one.0.compare(&other.0));
+    pairs
+}
 
-    // All pairs in key order, where the callers are all that there are.
+impl<K: FarObject, V: FarObject, J: Naming, D: Device> FarTable<K, V, J, D> {
+    // All pairs in any order, where the callers are all that there are.
     fn close_callers<R: Wait>(
         &self,
         rt: &R,
         alloc: Global,
         callers: &mut [Caller<K, V, J>],
     ) -> Result<Vec<(K, V)>, CloseFault<K, V, J>>
-        ensures closed { IfOk result (λ v. IsClosed K.enc V.enc J.limits callers.old v.items) }
+        ensures closed { IfOk result (λ v. ClosesSorted K.enc V.enc J.limits callers.old v.items) }
         ensures fault { IfErr result (λ e. IsCloseFault K.enc V.enc J.limits (length callers.old) e) }
         ensures back { AreBack callers.old callers.new }
     {
@@ -132,18 +111,16 @@ impl<K: FarObject, V: FarObject, J: Naming, D: Device> FarTable<K, V, J, D> {
         if callers.len() == 0 {
             return Ok(Vec::new(alloc));
         }
-        let _buckets = self.words.buckets();
-        let mut pairs = match self.all_pairs(rt, alloc, &mut callers[0], &first) {
+        let buckets = self.words.buckets();
+        let pairs = match self.read_by_first(rt, alloc, callers, &first, 0, buckets) {
             Ok(pairs) => pairs,
             Err(refusal) => return Err(unread(refusal)),
         };
         match self.words.gather(alloc, callers) {
-            Ok(_) => {}
-            Err(GatherFault::Missing(mark)) => return Err(CloseFault::PassMissing(mark)),
-            Err(GatherFault::Memory) => return Err(CloseFault::Memory),
+            Ok(_) => Ok(pairs),
+            Err(GatherFault::Missing(mark)) => Err(CloseFault::PassMissing(mark)),
+            Err(GatherFault::Memory) => Err(CloseFault::Memory),
         }
-        pairs.sort_unstable_by(|one, other| one.0.compare(&other.0));
-        Ok(pairs)
     }
 
     /// Ends the table, where all callers are handed in, and gives all pairs in key order.
@@ -171,8 +148,87 @@ impl<K: FarObject, V: FarObject, J: Naming, D: Device> FarTable<K, V, J, D> {
         ensures back { IfErr result (λ e. AreBack callers.items e.2.items) }
     {
         match self.close_callers(rt, alloc, &mut callers) {
-            Ok(pairs) => Ok(pairs),
+            Ok(pairs) => Ok(sorted(pairs)),
             Err(fault) => Err((fault, self, callers)),
         }
+    }
+}
+
+impl<K, V, J, D> FarTable<K, V, J, D>
+where
+    K: FarObject + Send + Sync,
+    V: FarObject + Send + Sync,
+    J: Naming + Send + Sync,
+    D: Device + Send,
+{
+    // The same, where the callers read side by side.
+    fn close_callers_on_threads<R: Threads + Wait + Sync>(
+        &self,
+        rt: &R,
+        alloc: Global,
+        callers: &mut [Caller<K, V, J>],
+    ) -> Result<Vec<(K, V)>, CloseFault<K, V, J>>
+        ensures closed { IfOk result (λ v. ClosesSorted K.enc V.enc J.limits callers.old v.items) }
+        ensures fault { IfErr result (λ e. IsCloseFault K.enc V.enc J.limits (length callers.old) e) }
+        ensures back { AreBack callers.old callers.new }
+    {
+        buckets_make_map::<K, V>();
+        same_history::<K, V>();
+        let first = match self.words.gather(alloc, callers) {
+            Ok(mark) => mark,
+            Err(GatherFault::Missing(mark)) => return Err(CloseFault::PassMissing(mark)),
+            Err(GatherFault::Memory) => return Err(CloseFault::Memory),
+        };
+        if callers.len() == 0 {
+            return Ok(Vec::new(alloc));
+        }
+        let buckets = self.words.buckets();
+        let pairs = match self.read_parts(rt, alloc, callers, &first, 0, buckets) {
+            Ok(pairs) => pairs,
+            Err(refusal) => return Err(unread(refusal)),
+        };
+        match self.words.gather(alloc, callers) {
+            Ok(_) => Ok(pairs),
+            Err(GatherFault::Missing(mark)) => Err(CloseFault::PassMissing(mark)),
+            Err(GatherFault::Memory) => Err(CloseFault::Memory),
+        }
+    }
+
+    /// `close` by as many threads as can be started, and at most four: a table of more than 16,384 buckets is read by
+    /// several callers side by side, and gives its memory back while the pairs are sorted.
+    pub fn close_on_threads<R: Threads + Wait + Sync>(
+        self,
+        rt: &R,
+        alloc: Global,
+        mut callers: Vec<Caller<K, V, J>>,
+    ) -> Result<
+        Vec<(K, V)>,
+        (
+            CloseFault<K, V, J>,
+            FarTable<K, V, J, D>,
+            Vec<Caller<K, V, J>>,
+        ),
+    >
+        ensures closed { IfOk result (λ v. IsClosed K.enc V.enc J.limits callers.items v.items) }
+        ensures fault { IfErr result (λ e. IsCloseFault K.enc V.enc J.limits (vec_len callers) e.0) }
+        ensures table { IfErr result (λ e. e.1 ≡ self) }
+        ensures back { IfErr result (λ e. AreBack callers.items e.2.items) }
+    {
+        let pairs = match self.close_callers_on_threads(rt, alloc, &mut callers) {
+            Ok(pairs) => pairs,
+            Err(fault) => return Err((fault, self, callers)),
+        };
+        if self.words.buckets() <= PART {
+            return Ok(sorted(pairs));
+        }
+        let (_, pairs) = join(
+            rt,
+            || drop(self),
+            || -> Vec<(K, V)>
+                ensures permutation { IsPermutation pairs.items result.items }
+                ensures rising { IsSortedBy (λ a b. is_lt (key_cmp K.enc a.0 b.0)) result.items }
+            { sorted(pairs) },
+        );
+        Ok(pairs)
     }
 }

@@ -5,9 +5,11 @@
 //! `changing.rt` has the public call. It looks at the bucket's word (`stages/seen.rt`), reads the object under it
 //! (`stages/local.rt`, `stages/far.rt`), makes the new one (`stages/build.rt`), and publishes it under a new name
 //! (`stages/publish.rt`). Gets take the first two stages (`reading.rt`, `scope.rt`), and moves between frames and devices
-//! all but the third (`moving.rt`). `telling.rt` only looks, and `closing.rt` takes the table back.
+//! all but the third (`moving.rt`). `telling.rt` only looks, and `closing.rt` takes the table back, for which `all_pairs.rt`
+//! reads all buckets.
 #![tactic(auto, using(crate::proofs::Fronts::goes_trans))]
 
+mod all_pairs;
 mod caller;
 mod changing;
 mod closing;

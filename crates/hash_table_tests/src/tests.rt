@@ -3,6 +3,7 @@
 
 mod calling;
 mod closing;
+mod closing_on_threads;
 mod conditional;
 mod damaged;
 mod evicting;

@@ -15,6 +15,7 @@ use run_lines::{Refusal, write_contents, write_files};
 use std::alloc::Global;
 use std::io::Write;
 use std::sync::Wait;
+use std::thread::Threads;
 use version_words::Naming;
 
 /// The reply's text for the fault of a close. All passes are handed in and no thread works any more, so that what a frame or
@@ -29,7 +30,7 @@ fn refusal_of<J: Naming>(fault: CloseFault<Text, Text, J>) -> Refusal {
 
 /// Closes the table, and writes the lines of the files and, behind them, what the table held. Where that can't be read the
 /// lines are written all the same.
-pub(crate) fn finish<J: Naming, D: Device, R: Wait, W: Write>(
+pub(crate) fn finish<J, D, R, W>(
     rt: &R,
     alloc: Global,
     table: FarTable<Text, Text, J, D>,
@@ -37,11 +38,16 @@ pub(crate) fn finish<J: Naming, D: Device, R: Wait, W: Write>(
     texts: &[Vec<u8>],
     out: &mut W,
 ) -> Result<(), ThreadedFault>
+where
+    J: Naming + Send + Sync,
+    D: Device + Send,
+    R: Threads + Wait + Sync,
+    W: Write,
     ensures written { OnOk result ((pairs : Texts) × IsClosed enc_text enc_text J.limits callers.items pairs
         × Appends (W.contents out.old) (W.contents out.new) (file_texts 1 (map (λ t. t.items) texts.now) ++ written (codes "contents" ∷ map pair_line pairs))) }
     ensures fault { IfErr result (EndsAt (W.contents out.old) (W.contents out.new) (file_texts 1 (map (λ t. t.items) texts.now))) }
 {
-    let closed = table.close(rt, alloc, callers);
+    let closed = table.close_on_threads(rt, alloc, callers);
     match write_files(out, texts) {
         Ok(()) => {}
         Err(_) => return Err(ThreadedFault::Write),

@@ -20,7 +20,7 @@ type Table<J> = FarTable<Text, Text, J, FakeDevice>;
 
 type Caller<J> = hash_table::Caller<Text, Text, J>;
 
-type Faulty = FaultyDevice<CannedDevice<FakeDevice>>;
+pub(crate) type Faulty = FaultyDevice<CannedDevice<FakeDevice>>;
 
 /// Hands in too few callers. The table and they come back.
 fn refused<J: Naming, R: Wait + Abort>(
@@ -50,7 +50,7 @@ fn closes<J: Naming, R: Wait + Abort>(
     }
 }
 
-fn equal_pairs<R: Abort>(rt: &R, pairs: &[(Text, Text)], wanted: &[(u8, u32)]) {
+pub(crate) fn equal_pairs<R: Abort>(rt: &R, pairs: &[(Text, Text)], wanted: &[(u8, u32)]) {
     equal(rt, pairs.len(), wanted.len());
     for (pair, (letter, number)) in pairs.iter().zip(wanted) {
         equal(rt, pair.0.as_bytes().first(), Some(letter));
@@ -202,7 +202,11 @@ fn other_bytes_leave_the_table_open(rt: HostRuntime) {
 }
 
 /// A table over two lanes, whose devices give other bytes, and of which one fails at its first read after a write.
-fn failing_at<R: Alloc<A = Global> + Abort>(rt: &R, failing: usize) -> Opening<Text, Text, Faulty> {
+pub(crate) fn failing_at<R: Alloc<A = Global> + Abort>(
+    rt: &R,
+    failing: usize,
+    settings: Config,
+) -> Opening<Text, Text, Faulty> {
     let mut devices = Vec::new(rt.alloc());
     for lane in 0..2 {
         let k = if lane == failing { 2 } else { u64::MAX };
@@ -210,7 +214,7 @@ fn failing_at<R: Alloc<A = Global> + Abort>(rt: &R, failing: usize) -> Opening<T
     }
     let config = Config {
         lanes: 2,
-        ..settings()
+        ..settings
     };
     made(rt, Opening::open(rt.alloc(), config, devices))
 }
@@ -224,8 +228,8 @@ fn device_that_fails<R: Alloc<A = Global> + Abort>(rt: &R, k: u64) -> Faulty {
 // The key a is of the bucket 0, and swapped out under the name 3, to lane 1. The key b, of the bucket 1, goes to lane 0.
 #[test]
 fn the_first_bad_bucket_is_told(rt: HostRuntime) {
-    meets(&rt, failing_at(&rt, 1), b"ab", Refusal::Device);
-    meets(&rt, failing_at(&rt, 0), b"ab", Refusal::Damaged);
+    meets(&rt, failing_at(&rt, 1, settings()), b"ab", Refusal::Device);
+    meets(&rt, failing_at(&rt, 0, settings()), b"ab", Refusal::Damaged);
 }
 
 fn meets<D: Device, R: Alloc<A = Global> + Wait + Abort>(
@@ -283,7 +287,7 @@ fn met_at_the_end<J: Naming, D: Device, R: Wait + Abort>(
     }
 }
 
-fn refusal_of<J: Naming>(fault: &CloseFault<Text, Text, J>) -> Option<Refusal> {
+pub(crate) fn refusal_of<J: Naming>(fault: &CloseFault<Text, Text, J>) -> Option<Refusal> {
     match fault {
         CloseFault::Device => Some(Refusal::Device),
         CloseFault::Damaged => Some(Refusal::Damaged),

@@ -1,0 +1,170 @@
+//! The pairs of all buckets, read at the end of a table: by one caller, or by several side by side.
+ghost use Rattle.std.specs.Prelude.{◌≡◌, ◌+◌, ◌++◌, ◌<◌, ◌≤◌, IsTrue, IfOk, IfErr, List, length};
+ghost use Rattle.std.specs.Thread.{IsSync, IsSend};
+ghost use mathlib.Core.List.{IsPrefix};
+ghost use Rattle.table_core.specs.declared.event.Event.{Event};
+ghost use Rattle.version_words.specs.Views.{Goes};
+ghost use Rattle.hash_table.specs.Closes.{AreBack, AreTold, ArePairs, HistoryStays, pairs_from};
+ghost use Rattle.hash_table.specs.Stages.{IsUnreadFar};
+
+use crate::caller::Caller;
+use crate::refusal::Refusal;
+use crate::table::FarTable;
+use far_device::Device;
+use far_object::FarObject;
+use std::alloc::Global;
+use std::sync::Wait;
+use std::thread::{Threads, join_mut};
+use version_words::{Mark, Naming};
+
+/// So many buckets at most are read by one caller alone: fewer are not worth a thread.
+pub(crate) const PART: u32 = 16_384;
+
+impl<K: FarObject, V: FarObject, J: Naming, D: Device> FarTable<K, V, J, D> {
+    // The pairs of so many buckets from this one on, one bucket behind the other, behind a mark. At each later log that has
+    // the mark's history they are its map's.
+    fn read_range<R: Wait>(
+        &self,
+        rt: &R,
+        alloc: Global,
+        caller: &mut Caller<K, V, J>,
+        mark: &Mark<K, V, J>,
+        from: u32,
+        count: u32,
+    ) -> Result<Vec<(K, V)>, Refusal>
+        requires within { from + count ≤ J.limits.buckets }
+        requires told { IsPrefix mark.now caller.old.pass.front }
+        ensures goes { Goes caller.old.pass caller.new.pass }
+        ensures limbo { caller.new.limbo ≡ caller.old.limbo }
+        ensures pairs { IfOk result (λ v. IsTrue J.limits.honest → (log : List (Event K V)) → IsPrefix caller.new.pass.front log → HistoryStays mark.now log
+            → v.items ≡ pairs_from K.enc V.enc J.limits log from count) }
+        ensures why { IfErr result (λ e. IsUnreadFar J.limits.honest e) }
+    {
+        let _buckets = self.words.buckets();
+        let mut all = Vec::new(alloc);
+        for i in 0..count {
+            let mut pairs = match self.pairs_in(rt, alloc, caller, from + i) {
+                Ok(pairs) => pairs,
+                Err(refusal) => return Err(refusal),
+            };
+            match all.append(&mut pairs) {
+                Ok(()) => {}
+                Err(_) => return Err(Refusal::Memory),
+            }
+        }
+        Ok(all)
+    }
+
+    // The same, read by the first of the callers.
+    pub(crate) fn read_by_first<R: Wait>(
+        &self,
+        rt: &R,
+        alloc: Global,
+        callers: &mut [Caller<K, V, J>],
+        mark: &Mark<K, V, J>,
+        from: u32,
+        count: u32,
+    ) -> Result<Vec<(K, V)>, Refusal>
+        requires within { from + count ≤ J.limits.buckets }
+        requires some { 0 < length callers.old }
+        requires told { AreTold mark.now callers.old }
+        ensures back { AreBack callers.old callers.new }
+        ensures pairs { IfOk result (λ v. ArePairs K.enc V.enc J.limits mark.now callers.new from count v.items) }
+        ensures why { IfErr result (λ e. IsUnreadFar J.limits.honest e) }
+    {
+        match self.read_range(rt, alloc, &mut callers[0], mark, from, count) {
+            Ok(pairs) => Ok(pairs),
+            Err(refusal) => Err(refusal),
+        }
+    }
+}
+
+impl<K, V, J, D> FarTable<K, V, J, D>
+where
+    K: FarObject + Send + Sync,
+    V: FarObject + Send + Sync,
+    J: Naming + Send + Sync,
+    D: Device + Send,
+{
+    // The same, where the first half of the callers reads the first half of the buckets, and the others read the other
+    // half beside them.
+    #[cycle(parts)]
+    pub(crate) fn read_parts<R: Threads + Wait + Sync>(
+        &self,
+        rt: &R,
+        alloc: Global,
+        callers: &mut [Caller<K, V, J>],
+        mark: &Mark<K, V, J>,
+        from: u32,
+        count: u32,
+    ) -> Result<Vec<(K, V)>, Refusal>
+        requires within { from + count ≤ J.limits.buckets }
+        requires some { 0 < length callers.old }
+        requires told { AreTold mark.now callers.old }
+        ensures back { AreBack callers.old callers.new }
+        ensures pairs { IfOk result (λ v. ArePairs K.enc V.enc J.limits mark.now callers.new from count v.items) }
+        ensures why { IfErr result (λ e. IsUnreadFar J.limits.honest e) }
+    {
+        if count <= PART || callers.len() < 2 {
+            return self.read_by_first(rt, alloc, callers, mark, from, count);
+        }
+        let _buckets = self.words.buckets();
+        let half = count / 2;
+        let rest = count - half;
+        let mid = callers.len() / 2;
+        let (own, others) = callers.split_at_mut(mid);
+        self.read_both(rt, alloc, own, others, mark, from, half, rest)
+    }
+
+    // The pairs of the first so many buckets and of those behind them, read by these callers and those.
+    #[cycle(parts)]
+    fn read_both<R: Threads + Wait + Sync>(
+        &self,
+        rt: &R,
+        alloc: Global,
+        own: &mut [Caller<K, V, J>],
+        others: &mut [Caller<K, V, J>],
+        mark: &Mark<K, V, J>,
+        from: u32,
+        half: u32,
+        rest: u32,
+    ) -> Result<Vec<(K, V)>, Refusal>
+        requires within { from + half + rest ≤ J.limits.buckets }
+        requires parts { (0 < half) × (0 < rest) }
+        requires some { (0 < length own.old) × (0 < length others.old) }
+        requires told { AreTold mark.now own.old × AreTold mark.now others.old }
+        ensures back { AreBack own.old own.new × AreBack others.old others.new }
+        ensures pairs { IfOk result (λ v. ArePairs K.enc V.enc J.limits mark.now (own.new ++ others.new) from (half + rest) v.items) }
+        ensures why { IfErr result (λ e. IsUnreadFar J.limits.honest e) }
+    {
+        let _buckets = self.words.buckets();
+        let middle = from + half;
+        let mut near = || -> Result<Vec<(K, V)>, Refusal>
+            requires { IsSync R.row × IsSend K.row × IsSync K.row × IsSend V.row × IsSync V.row × IsSend J.row × IsSync J.row × IsSend D.row
+                × (from + half ≤ J.limits.buckets) × (0 < length own.now) × AreTold mark.now own.now }
+            ensures back { AreBack own.entry.now own.exit.now }
+            ensures pairs { IfOk result (λ v. ArePairs K.enc V.enc J.limits mark.entry.now own.exit.now from half v.items) }
+            ensures why { IfErr result (λ e. IsUnreadFar J.limits.honest e) }
+        { self.read_parts(rt, alloc, own, mark, from, half) };
+        let mut far = || -> Result<Vec<(K, V)>, Refusal>
+            requires { IsSync R.row × IsSend K.row × IsSync K.row × IsSend V.row × IsSync V.row × IsSend J.row × IsSync J.row × IsSend D.row
+                × (middle + rest ≤ J.limits.buckets) × (0 < length others.now) × AreTold mark.now others.now }
+            ensures back { AreBack others.entry.now others.exit.now }
+            ensures pairs { IfOk result (λ v. ArePairs K.enc V.enc J.limits mark.entry.now others.exit.now middle rest v.items) }
+            ensures why { IfErr result (λ e. IsUnreadFar J.limits.honest e) }
+        { self.read_parts(rt, alloc, others, mark, middle, rest) };
+        let (first, second) = join_mut(rt, &mut near, &mut far);
+        let mut all = match first {
+            Ok(pairs) => pairs,
+            Err(refusal) => return Err(refusal),
+        };
+        let mut more = match second {
+            Ok(pairs) => pairs,
+            Err(refusal) => return Err(refusal),
+        };
+        match all.append(&mut more) {
+            Ok(()) => Ok(all),
+            Err(_) => Err(Refusal::Memory),
+        }
+    }
+}
