@@ -8,3 +8,6 @@ pub mod Progress
 pub mod Unique
 pub mod Written
 pub mod Texts
+pub mod Placing
+pub mod Cutting
+pub mod Scanning

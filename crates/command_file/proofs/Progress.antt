@@ -1,16 +1,12 @@
 -- How far a file was read, and what follows where the reading ends.
-use Rattle.std.proofs.Common.{◌≡◌, ℕ, ◌+◌, ◌≤◌, List, [], ◌∷◌, ◌++◌, length, take, All, None, Some, IfSome, refl, sym, ap, subst, ◌∙◌, arith, inl, inr, append_assoc, append-nil, length-append, true≢false}
-use Rattle.std.specs.Prelude.{Option, Bool, IsTrue, false, ◌↔◌, ⊤}
+use Rattle.std.proofs.Common.{◌≡◌, ℕ, ◌+◌, ◌<◌, ◌≤◌, List, [], ◌∷◌, ◌++◌, length, take, All, None, Some, IfSome, refl, sym, ap, subst, ◌∙◌, arith, inl, inr, append_assoc, append-nil, length-append, true≢false}
+use Rattle.std.specs.Prelude.{Option, Bool, IsTrue, false, ◌↔◌}
 use Rattle.std.specs.List.{AllByRecursion}
-use Rattle.std.specs.Io.KnownBytes.{IsAtEnd}
 use Rattle.std.proofs.lemmas.List.{take_at}
 use Rattle.std.proofs.lemmas.List.Elements.{All-cons, All-nil}
 use Rattle.command_file.specs.declared.command.Command.{Command}
-use Rattle.command_file.specs.Lines.{lines_of}
 use Rattle.command_file.specs.Grammar.{IsCommand, IsGood}
 use Rattle.command_file.specs.Files.{most_lines, SayAll, IsFile, IsBadLine, IsTooMany}
-use Rattle.command_file.specs.Reading.{TakesLine, BeginsTooLong}
-use Rattle.command_file.proofs.Lines.{lines_of-some}
 
 -- ---- lines and what they say
 
@@ -35,13 +31,8 @@ commands_from_say ([] ∷ lines) commands say = commands_from_say lines commands
 commands_from_say ((byte ∷ bytes) ∷ lines) [] say = absurd say
 commands_from_say ((byte ∷ bytes) ∷ lines) (command ∷ commands) say = All-cons IsCommand command commands say.0.admitted (commands_from_say lines commands say.1)
 
--- a line says one command at most
-pub few_from_line : (line : List ℕ) (commands : List Command) → SayAll (line ∷ []) commands → length commands ≤ 1
-few_from_line [] [] say = omega arith
-few_from_line [] (command ∷ commands) say = absurd say
-few_from_line (byte ∷ bytes) [] say = absurd say
-few_from_line (byte ∷ bytes) (command ∷ []) say = omega arith
-few_from_line (byte ∷ bytes) (command ∷ other ∷ commands) say = absurd say.1
+pub file_commands : (lines : List (List ℕ)) (commands : List Command) → IsFile lines commands → All IsCommand commands
+file_commands lines commands file = commands_from_say lines commands file.say
 
 pub good_short : (line : List ℕ) → IsGood line → length line ≤ 1024
 good_short line (inl none) = omega (arith, ap length none)
@@ -56,79 +47,44 @@ pub record IsRead (lines rest : List (List ℕ)) (number : ℕ) (commands : List
   pub counted : length before + 1 ≡ number
   pub say : SayAll before commands
 
--- the same of a reader's bytes, where they are known
-abbrev pub Progress : Option (List ℕ) → Option (List ℕ) → ℕ → List Command → Type 0
-Progress None now number commands = ⊤
-Progress (Some bytes) None number commands = ⊥
-Progress (Some bytes) (Some rest) number commands = IsRead (lines_of bytes) (lines_of rest) number commands
+pub read_none : (lines : List (List ℕ)) → IsRead lines lines 1 []
+read_none lines = record { before = []; is = refl; counted = refl; say = tt }
 
-pub progress_start : (a : Option (List ℕ)) → Progress a a 1 []
-progress_start None = tt
-progress_start (Some bytes) = record { before = []; is = refl; counted = refl; say = tt }
-
-pub progress_line : (a b c : Option (List ℕ)) (number : ℕ) (commands more : List Command) (line : List ℕ)
-    → Progress a b number commands → TakesLine b c line → SayAll (line ∷ []) more → Progress a c (number + 1) (commands ++ more)
-progress_line None b c number commands more line far takes says = tt
-progress_line (Some bytes) None c number commands more line far takes says = absurd far
-progress_line (Some bytes) (Some now) None number commands more line far takes says = absurd takes
-progress_line (Some bytes) (Some now) (Some rest) number commands more line far takes says =
-    record {
-      before = far.before ++ line ∷ [];
-      is = far.is ∙ ap (λ l. far.before ++ l) takes ∙ sym (append_assoc far.before (line ∷ []) (lines_of rest));
-      counted = omega (arith, far.counted, length-append far.before (line ∷ []));
-      say = say-append far.before (line ∷ []) commands more far.say says;
-    }
+pub read_line : (lines rest others : List (List ℕ)) (line : List ℕ) (number : ℕ) (commands more : List Command)
+    → IsRead lines rest number commands → rest ≡ line ∷ others → SayAll (line ∷ []) more → IsRead lines others (number + 1) (commands ++ more)
+read_line lines rest others line number commands more far first says = record {
+  before = far.before ++ line ∷ [];
+  is = far.is ∙ ap (λ l. far.before ++ l) first ∙ sym (append_assoc far.before (line ∷ []) others);
+  counted = omega (arith, far.counted, length-append far.before (line ∷ []));
+  say = say-append far.before (line ∷ []) commands more far.say says;
+}
 
 -- ---- the ends
 
-pub file_at_end : (a b : Option (List ℕ)) (number : ℕ) (commands : List Command)
-    → Progress a b number commands → number ≤ 65537 → IsAtEnd b → IfSome a (λ bytes. IsFile (lines_of bytes) commands)
-file_at_end None b number commands far within end = tt
-file_at_end (Some bytes) None number commands far within end = absurd far
-file_at_end (Some bytes) (Some rest) number commands far within end =
-    let all : lines_of bytes ≡ far.before = far.is ∙ ap (λ l. far.before ++ lines_of l) end ∙ append-nil far.before in
+pub read_all : (lines rest : List (List ℕ)) (number : ℕ) (commands : List Command) → IsRead lines rest number commands → number ≤ 65537 → rest ≡ [] → IsFile lines commands
+read_all lines rest number commands far within none =
+    let all : lines ≡ far.before = far.is ∙ ap (λ l. far.before ++ l) none ∙ append-nil far.before in
     record { few = omega (arith, far.counted, ap length all); say = subst (λ l. SayAll l commands) (sym all) far.say }
 
-bad_of : (lines rest others : List (List ℕ)) (line : List ℕ) (number : ℕ) (commands : List Command)
+pub bad_line : (lines rest others : List (List ℕ)) (line : List ℕ) (number : ℕ) (commands : List Command)
     → IsRead lines rest number commands → rest ≡ line ∷ others → number ≤ 65536 → ¬ (IsGood line) → IsBadLine lines number
-bad_of lines rest others line number commands far first within bad =
-    record {
-      before = far.before;
-      line = line;
-      behind = others;
-      is = far.is ∙ ap (λ l. far.before ++ l) first;
-      good = good_from_say far.before commands far.say;
-      bad = bad;
-      counted = sym far.counted;
-      within = within;
-    }
+bad_line lines rest others line number commands far first within bad = record {
+  before = far.before;
+  line = line;
+  behind = others;
+  is = far.is ∙ ap (λ l. far.before ++ l) first;
+  good = good_from_say far.before commands far.say;
+  bad = bad;
+  counted = sym far.counted;
+  within = within;
+}
 
-pub bad_line : (a b c : Option (List ℕ)) (number : ℕ) (commands : List Command) (line : List ℕ)
-    → Progress a b number commands → TakesLine b c line → number ≤ 65536 → ¬ (IsGood line) → IfSome a (λ bytes. IsBadLine (lines_of bytes) number)
-bad_line None b c number commands line far takes within bad = tt
-bad_line (Some bytes) None c number commands line far takes within bad = absurd far
-bad_line (Some bytes) (Some now) None number commands line far takes within bad = absurd takes
-bad_line (Some bytes) (Some now) (Some rest) number commands line far takes within bad =
-    bad_of (lines_of bytes) (lines_of now) (lines_of rest) line number commands far takes within bad
-
-pub long_line : (a b : Option (List ℕ)) (number : ℕ) (commands : List Command)
-    → Progress a b number commands → IfSome b BeginsTooLong → number ≤ 65536 → IfSome a (λ bytes. IsBadLine (lines_of bytes) number)
-long_line None b number commands far long within = tt
-long_line (Some bytes) None number commands far long within = absurd far
-long_line (Some bytes) (Some now) number commands far long within =
-    bad_of (lines_of bytes) (lines_of now) long.rest long.line number commands far long.is within (λ good. omega (arith, good_short long.line good, long.long))
-
-pub too_many : (a b : Option (List ℕ)) (commands : List Command)
-    → Progress a b 65537 commands → IfSome b (λ rest. ¬ (rest ≡ [])) → IfSome a (λ bytes. IsTooMany (lines_of bytes))
-too_many None b commands far more = tt
-too_many (Some bytes) None commands far more = absurd far
-too_many (Some bytes) (Some []) commands far more = absurd (more refl)
-too_many (Some bytes) (Some (byte ∷ rest)) commands far more =
+pub too_many : (lines rest : List (List ℕ)) (commands : List Command) → IsRead lines rest 65537 commands → 0 < length rest → IsTooMany lines
+too_many lines rest commands far some =
     let counted : length far.before ≡ most_lines = omega (arith, far.counted) in
-    let front : take most_lines (lines_of bytes) ≡ far.before =
-    ap (take most_lines) far.is ∙ take_at far.before (lines_of (byte ∷ rest)) most_lines counted in
+    let front : take most_lines lines ≡ far.before = ap (take most_lines) far.is ∙ take_at far.before rest most_lines counted in
     record {
-      more = omega (arith, ap length far.is, length-append far.before (lines_of (byte ∷ rest)), lines_of-some byte rest);
+      more = omega (arith, ap length far.is, length-append far.before rest, some);
       good = subst (AllByRecursion IsGood) (sym front) (good_from_say far.before commands far.say);
     }
 

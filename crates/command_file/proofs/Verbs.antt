@@ -8,14 +8,14 @@ use Rattle.command_file.specs.declared.command.Command.{Command}
 use Rattle.command_file.specs.declared.command.Command.TheVariants.{Map, Table}
 use Rattle.command_file.specs.declared.command.MapCommand.TheVariants.{Put, Get, Delete, PutIf, PutNew, Hold}
 use Rattle.command_file.specs.declared.command.TableCommand.TheVariants.{Show, Release, Evict, Where}
-use Rattle.command_file.specs.declared.verb.OfKey.{OfKey}
+use Rattle.command_file.specs.declared.verb.Alone.{Alone}
+use Rattle.command_file.specs.declared.verb.Alone.TheVariants as alone
 use Rattle.command_file.specs.declared.verb.OfKey.TheVariants as of_key
-use Rattle.command_file.specs.declared.verb.OfPair.{OfPair}
 use Rattle.command_file.specs.declared.verb.OfPair.TheVariants as of_pair
 use Rattle.command_file.specs.declared.verb.Verb.{Verb}
 use Rattle.command_file.specs.declared.verb.Verb.TheVariants as verb
 use Rattle.command_file.specs.Grammar.{IsWord, words_of}
-use Rattle.command_file.specs.Words.{name_of, count_of}
+use Rattle.command_file.specs.Words.{alone_name, name_of, count_of}
 
 -- ---- a verb is a word
 
@@ -39,6 +39,12 @@ is_word (verb.OfKey of_key.Where) = word_from_test (codes "where") (omega arith)
 is_word (verb.OfPair of_pair.Put) = word_from_test (codes "put") (omega arith) (omega arith) refl
 is_word (verb.OfPair of_pair.PutNew) = word_from_test (codes "putnew") (omega arith) (omega arith) refl
 is_word verb.PutIf = word_from_test (codes "putif") (omega arith) (omega arith) refl
+
+pub alone_is_word : (v : Alone) → IsWord (alone_name v)
+unfolding is_word_byte
+alone_is_word alone.Show = word_from_test (codes "show") (omega arith) (omega arith) refl
+alone_is_word alone.Release = word_from_test (codes "release") (omega arith) (omega arith) refl
+alone_is_word alone.Evict = word_from_test (codes "evict") (omega arith) (omega arith) refl
 
 -- ---- a command is one word, or has as many texts behind its verb as the verb takes
 
@@ -95,36 +101,6 @@ counted c v words is some =
     by named texts (inl none) = absurd (omega (arith, ap length (texts ∙ none)))
     by named texts (inr h) =
         ap length texts ∙ (h.count ∙ (sym (count_named-name_of h.verb) ∙ (ap count_named (sym (named ∙ h.named)) ∙ count_named-name_of v)))
-
--- ---- as many words as a verb takes make a command
-
-pub record Makes (v : Verb) (words : List (List ℕ)) : Type 0 where
-  pub command : Command
-  pub same : words_of command ≡ name_of v ∷ words
-
-pub makes : (v : Verb) (words : List (List ℕ)) → length words ≡ count_of v → Makes v words
-makes (verb.OfKey v) [] count = absurd (omega arith)
-makes (verb.OfKey v) (key ∷ []) count = by v
-  where
-    by : (v : OfKey) → Makes (verb.OfKey v) (key ∷ [])
-    by of_key.Get = record { command = Map (Get key); same = refl }
-    by of_key.Delete = record { command = Map (Delete key); same = refl }
-    by of_key.Hold = record { command = Map (Hold key); same = refl }
-    by of_key.Where = record { command = Table (Where key); same = refl }
-makes (verb.OfKey v) (key ∷ value ∷ words) count = absurd (omega arith)
-makes (verb.OfPair v) [] count = absurd (omega arith)
-makes (verb.OfPair v) (key ∷ []) count = absurd (omega arith)
-makes (verb.OfPair v) (key ∷ value ∷ []) count = by v
-  where
-    by : (v : OfPair) → Makes (verb.OfPair v) (key ∷ value ∷ [])
-    by of_pair.Put = record { command = Map (Put key value); same = refl }
-    by of_pair.PutNew = record { command = Map (PutNew key value); same = refl }
-makes (verb.OfPair v) (key ∷ value ∷ more ∷ words) count = absurd (omega arith)
-makes verb.PutIf [] count = absurd (omega arith)
-makes verb.PutIf (key ∷ []) count = absurd (omega arith)
-makes verb.PutIf (key ∷ value ∷ []) count = absurd (omega arith)
-makes verb.PutIf (key ∷ expected ∷ value ∷ []) count = record { command = Map (PutIf key expected value); same = refl }
-makes verb.PutIf (key ∷ expected ∷ value ∷ more ∷ words) count = absurd (omega arith)
 
 -- ---- a command is known by its words
 

@@ -22,13 +22,13 @@ joined_free (word ∷ next ∷ words) all =
     All-append (λ byte. byte ≢ 10) word (32 ∷ join_with_byte 32 (next ∷ words)) (printing_free word all.0.bytes)
     (All-cons (λ byte. byte ≢ 10) 32 (join_with_byte 32 (next ∷ words)) (λ e. omega arith) (joined_free (next ∷ words) all.1))
 
-say-cons : (line : List ℕ) (lines : List (List ℕ)) (command : Command) (commands : List Command) → 0 < length line → Says line command → SayAll lines commands
+pub say-cons : (line : List ℕ) (lines : List (List ℕ)) (command : Command) (commands : List Command) → 0 < length line → Says line command → SayAll lines commands
     → SayAll (line ∷ lines) (command ∷ commands)
 say-cons [] lines command commands some says say = absurd (omega arith)
 say-cons (byte ∷ bytes) lines command commands some says say = (says, say)
 
 -- a line without a byte has no verb
-spelling_some : (command : Command) → IsCommand command → 0 < length (spelling command)
+pub spelling_some : (command : Command) → IsCommand command → 0 < length (spelling command)
 spelling_some command is = by (spelling command) refl
   where
     by : (bytes : List ℕ) → bytes ≡ spelling command → 0 < length bytes

@@ -7,8 +7,6 @@ use Rattle.command_file.specs.declared.command.MapCommand.{MapCommand}
 use Rattle.command_file.specs.declared.command.MapCommand.TheVariants.{Put, Get, Delete, PutIf, PutNew, Hold}
 use Rattle.command_file.specs.declared.command.TableCommand.{TableCommand}
 use Rattle.command_file.specs.declared.command.TableCommand.TheVariants.{Show, Release, Evict, Where}
-use Rattle.command_file.specs.declared.fault.LineFault.{LineFault}
-use Rattle.command_file.specs.declared.fault.LineFault.TheVariants.{Bad, Memory}
 
 -- a byte that prints, and is no space
 abbrev pub IsWordByte : ℕ → Type 0
@@ -54,8 +52,3 @@ pub record Says (line : List ℕ) (command : Command) : Type 0 where
 -- an empty line, or a command
 abbrev pub IsGood : List ℕ → Type 0
 IsGood line = (line ≡ []) ⊎ ((command : Command) × Says line command)
-
--- the line is bad; or it says a command, for which there was no memory
-abbrev pub IsLineFault : List ℕ → LineFault → Type 0
-IsLineFault line Bad = ¬ (IsGood line)
-IsLineFault line Memory = (command : Command) × Says line command

@@ -3,5 +3,7 @@ pub mod Grammar
 pub mod Files
 pub mod Laws
 pub mod Words
+pub mod Places
+pub mod Scripts
 pub mod Reading
 pub mod Texts

@@ -1,6 +1,7 @@
 -- What reading a line does to a reader's bytes, where those are known.
-use Rattle.std.specs.Prelude.{◌≡◌, ◌≢◌, ℕ, ◌<◌, ◌≤◌, ◌⊎◌, Bool, true, false, List, [], ◌∷◌, length, All, Option, Some, None, IfSome, OnSome, ⊤}
-use Rattle.std.specs.Io.KnownBytes.{IsAtEnd}
+use Rattle.std.specs.Prelude.{◌≡◌, ◌≢◌, ℕ, ◌<◌, ◌≤◌, ◌⊎◌, Bool, true, false, List, [], ◌∷◌, ◌++◌, length, All, Option, Some, None, IfSome, OnSome, ⊤}
+use Rattle.std.specs.List.{AllByRecursion}
+use Rattle.std.specs.Io.KnownBytes.{IsAtEnd, Consumes}
 use Rattle.command_file.specs.declared.fault.FileFault.{FileFault}
 use Rattle.command_file.specs.declared.fault.FileFault.TheVariants.{BadLine, TooManyLines, Read, Memory}
 use Rattle.command_file.specs.declared.line.LineRead.{LineRead}
@@ -42,3 +43,22 @@ Ends line at_end feed None = (feed ≡ false) × (at_end ≡ false) × (length l
 Ends line at_end feed (Some End) = (feed ≡ false) × (at_end ≡ true) × (line ≡ [])
 Ends line at_end feed (Some Line) = (feed ≡ true) ⊎ ((feed ≡ false) × (at_end ≡ true) × (0 < length line))
 Ends line at_end feed (Some TooLong) = (feed ≡ false) × (at_end ≡ false) × (1024 < length line)
+
+-- lines, each with an LF behind it
+abbrev pub spelled : List (List ℕ) → List ℕ
+spelled [] = []
+spelled (line ∷ lines) = line ++ 10 ∷ spelled lines
+
+-- the bytes are so many lines, each with an LF behind it
+pub record AreWhole (bytes : List ℕ) (count : ℕ) : Type 0 where
+  pub lines : List (List ℕ)
+  pub free : AllByRecursion HasNoFeed lines
+  pub is : bytes ≡ spelled lines
+  pub counted : length lines ≡ count
+
+-- so many lines went from the reader to the text
+pub record TakesWhole (old new : Option (List ℕ)) (text more : List ℕ) (count : ℕ) : Type 0 where
+  pub bytes : List ℕ
+  pub whole : AreWhole bytes count
+  pub took : Consumes old new bytes
+  pub put : more ≡ text ++ bytes

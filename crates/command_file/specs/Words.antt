@@ -1,18 +1,23 @@
--- How a line is cut into words, and what the parts of the parser give.
-use Rattle.std.specs.Prelude.{◌≡◌, ℕ, ◌==◌, List, length, codes, Result, Ok, Err}
+-- How a line is cut into words, and which command they are.
+use Rattle.std.specs.Prelude.{◌≡◌, ℕ, ◌==◌, List, length, codes}
 use Rattle.std.specs.List.{AllByRecursion, slice_split}
 use Rattle.command_file.specs.declared.command.Command.{Command}
-use Rattle.command_file.specs.declared.fault.LineFault.{LineFault}
-use Rattle.command_file.specs.declared.fault.LineFault.TheVariants.{Bad, Memory}
+use Rattle.command_file.specs.declared.verb.Alone.{Alone}
+use Rattle.command_file.specs.declared.verb.Alone.TheVariants as alone
 use Rattle.command_file.specs.declared.verb.OfKey.{OfKey}
 use Rattle.command_file.specs.declared.verb.OfKey.TheVariants as of_key
 use Rattle.command_file.specs.declared.verb.OfPair.{OfPair}
 use Rattle.command_file.specs.declared.verb.OfPair.TheVariants as of_pair
 use Rattle.command_file.specs.declared.verb.Verb.{Verb}
 use Rattle.command_file.specs.declared.verb.Verb.TheVariants as verb
-use Rattle.command_file.specs.Grammar.{IsWord, words_of, Says}
+use Rattle.command_file.specs.Grammar.{IsWord, words_of}
 
 -- ---- verbs, by how many texts stand behind them
+
+abbrev pub alone_name : Alone → List ℕ
+alone_name alone.Show = codes "show"
+alone_name alone.Release = codes "release"
+alone_name alone.Evict = codes "evict"
 
 abbrev pub of_key_name : OfKey → List ℕ
 of_key_name of_key.Get = codes "get"
@@ -45,27 +50,7 @@ pub record AreWords (n : ℕ) (words : List (List ℕ)) : Type 0 where
   pub count : length words ≡ n
   pub each : AllByRecursion IsWord words
 
--- there are not n words; or there are, and there was no memory for them
-abbrev pub IsArgumentFault : ℕ → List (List ℕ) → LineFault → Type 0
-IsArgumentFault n words Bad = ¬ (AreWords n words)
-IsArgumentFault n words Memory = AreWords n words
-
--- the texts are the words, of which there are to be n
-abbrev pub AreTextsOrFault : {T : Type 0} → ℕ → List (List ℕ) → Result T LineFault → (T → List (List ℕ)) → Type 0
-AreTextsOrFault n words (Ok texts) list = (words ≡ list texts) × AreWords n words
-AreTextsOrFault n words (Err fault) list = IsArgumentFault n words fault
-
 -- the words are those of the command
 pub record Reads (words : List (List ℕ)) (command : Command) : Type 0 where
   pub same : words ≡ words_of command
   pub each : AllByRecursion IsWord (words_of command)
-
-abbrev pub ParsesWords : List (List ℕ) → Result Command LineFault → Type 0
-ParsesWords words (Ok command) = Reads words command
-ParsesWords words (Err Bad) = (command : Command) → ¬ (Reads words command)
-ParsesWords words (Err Memory) = (command : Command) × Reads words command
-
-abbrev pub ParsesLine : List ℕ → Result Command LineFault → Type 0
-ParsesLine line (Ok command) = Says line command
-ParsesLine line (Err Bad) = (command : Command) → ¬ (Says line command)
-ParsesLine line (Err Memory) = (command : Command) × Says line command

@@ -1,20 +1,9 @@
-//! Why a line or a file gives no commands.
+//! Why a file gives no commands.
 ghost use Rattle.std.specs.Prelude.{◌≡◌};
 ghost use Rattle.command_file.specs.declared.fault.FileFault.TheVariants.{Memory};
 
 use std::alloc::{AllocError, AllocFailed};
 use thiserror::Error;
-
-/// Why a line gives no command.
-#[derive(Clone, Copy, Debug, PartialEq, Eq, Error)]
-pub enum LineFault {
-    /// The line is neither empty nor a command.
-    #[error("bad command")]
-    Bad,
-    /// A growth was refused.
-    #[error("memory")]
-    Memory,
-}
 
 /// Why a file gives no commands.
 #[derive(Clone, Copy, Debug, PartialEq, Eq, Error)]

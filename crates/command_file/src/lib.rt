@@ -3,18 +3,18 @@
 
 mod command;
 mod fault;
-mod file;
 mod laws;
 mod line;
 mod parse;
+mod place;
+mod script;
 mod search;
 mod text;
 mod verb;
 mod words;
 
 pub use command::{Command, MapCommand, TableCommand};
-pub use fault::{FileFault, LineFault};
-pub use file::read_file;
+pub use fault::FileFault;
 pub use laws::{one_command, one_meaning, one_outcome, written_is_said};
-pub use parse::parse_line;
-pub use text::FileText;
+pub use script::Script;
+pub use text::{FileText, read_file};

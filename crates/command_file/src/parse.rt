@@ -1,112 +1,94 @@
 //! From a line to the command that it says.
-ghost use Rattle.std.specs.Prelude.{◌≡◌, ◌<◌, ◌^◌, [], ◌∷◌, length, IfOk, IfErr, MatchOption};
-ghost use Rattle.command_file.specs.Grammar.{IsWord, Says, IsLineFault};
-ghost use Rattle.command_file.specs.Words.{words_in, AreTextsOrFault, ParsesWords, ParsesLine};
+ghost use Rattle.std.specs.Prelude.{◌+◌, ◌<◌, ◌^◌, [], ◌∷◌, length, MatchOption};
+ghost use Rattle.command_file.specs.declared.command.Command.{Command as command};
+ghost use Rattle.command_file.specs.Grammar.{Says};
+ghost use Rattle.command_file.specs.Words.{words_in, Reads};
+ghost use Rattle.command_file.specs.Places.{PlacesWords, PlacesLine, IsLine};
 
-use crate::command::{Command, MapCommand};
-use crate::fault::LineFault;
-use crate::verb::{Verb, alone, verb_of};
+use crate::place::Place;
+use crate::verb::{Verb, alone_of, verb_of};
 use crate::words::{one_word, split_once, three_words, two_words};
-use far_object::Text;
-use std::alloc::Global;
 
 /// The most bytes of a line, without its LF.
 pub(crate) const LONGEST_LINE: usize = 1024;
 
-/// The command that the line, given without its LF, says; `None` for the empty line.
-///
-/// `LineFault::Bad` comes only where the line is of no good form, and `LineFault::Memory` only where it
-/// is good; that a growth was refused there no clause can say.
-pub fn parse_line(alloc: Global, line: &[u8]) -> Result<Option<Command>, LineFault>
-    ensures said { IfOk result (λ said. MatchOption said (line.now ≡ []) (λ command. Says line.now command)) }
-    ensures fault { IfErr result (λ fault. IsLineFault line.now fault) }
-{
-    if line.is_empty() {
-        return Ok(None);
-    }
-    let command = parse_command(alloc, line)?;
-    Ok(Some(command))
+/// What a line says.
+pub(crate) enum Line {
+    /// Nothing: it is empty.
+    Empty,
+    /// A command, whose words lie so.
+    Command(Place),
+    /// It is neither empty nor a command.
+    Bad,
 }
 
-fn parse_command(alloc: Global, line: &[u8]) -> Result<Command, LineFault>
-    ensures { ParsesLine line.now result }
+/// What the line, given without its LF, says in a text in which it stands from this place on.
+pub(crate) fn place_line(line: &[u8], from: usize) -> Line
+    requires { from + length line.now < 2 ^ 63 }
+    ensures { IsLine line.now from result }
+{
+    if line.is_empty() {
+        return Line::Empty;
+    }
+    match place_command(line, from) {
+        Some(place) => Line::Command(place),
+        None => Line::Bad,
+    }
+}
+
+fn place_command(line: &[u8], from: usize) -> Option<Place>
+    requires { from + length line.now < 2 ^ 63 }
+    ensures { MatchOption result ((c : command) → ¬ (Says line.now c)) (PlacesLine line.now from) }
 {
     if line.len() > LONGEST_LINE {
-        return Err(LineFault::Bad);
+        return None;
     }
     match split_once(line) {
-        Some((first, rest)) => parse_words(alloc, first, rest),
-        None => parse_word(line),
+        Some((first, rest)) => place_words(first, rest, from + (line.len() - rest.len())),
+        None => place_word(line),
     }
 }
 
 /// A command of one word.
-fn parse_word(word: &[u8]) -> Result<Command, LineFault>
-    ensures { ParsesWords (word.now ∷ []) result }
+fn place_word(word: &[u8]) -> Option<Place>
+    ensures { MatchOption result ((c : command) → ¬ (Reads (word.now ∷ []) c)) (λ p. PlacesWords (word.now ∷ []) [] 0 p) }
 {
-    match alone(word) {
-        Some(command) => Ok(Command::Table(command)),
-        None => Err(LineFault::Bad),
+    match alone_of(word) {
+        Some(verb) => Some(Place::Alone(verb)),
+        None => None,
     }
 }
 
-/// A command that is a verb and the words behind it.
-fn parse_words(alloc: Global, first: &[u8], rest: &[u8]) -> Result<Command, LineFault>
-    ensures { ParsesWords (first.now ∷ words_in rest.now) result }
+/// A command that is a verb and the words behind it, which stand from this place on.
+fn place_words(first: &[u8], rest: &[u8], from: usize) -> Option<Place>
+    ensures { MatchOption result ((c : command) → ¬ (Reads (first.now ∷ words_in rest.now) c)) (PlacesWords (first.now ∷ words_in rest.now) rest.now from) }
 {
-    match verb_of(first) {
-        Some(Verb::OfKey(verb)) => {
-            let key = one_text(alloc, rest)?;
-            Ok(verb.command(key))
+    match verb_of(first)? {
+        Verb::OfKey(verb) => {
+            let key = one_word(rest)?;
+            Some(Place::OfKey {
+                verb,
+                from,
+                key: key.len() as u8,
+            })
         }
-        Some(Verb::OfPair(verb)) => {
-            let (key, value) = two_texts(alloc, rest)?;
-            Ok(verb.command(key, value))
+        Verb::OfPair(verb) => {
+            let (key, value) = two_words(rest)?;
+            Some(Place::OfPair {
+                verb,
+                from,
+                key: key.len() as u8,
+                value: value.len() as u8,
+            })
         }
-        Some(Verb::PutIf) => {
-            let (key, expected, value) = three_texts(alloc, rest)?;
-            Ok(Command::Map(MapCommand::PutIf {
-                key,
-                expected,
-                value,
-            }))
+        Verb::PutIf => {
+            let (key, expected, value) = three_words(rest)?;
+            Some(Place::PutIf {
+                from,
+                key: key.len() as u8,
+                expected: expected.len() as u8,
+                value: value.len() as u8,
+            })
         }
-        None => Err(LineFault::Bad),
-    }
-}
-
-fn one_text(alloc: Global, arguments: &[u8]) -> Result<Text, LineFault>
-    ensures { AreTextsOrFault 1 (words_in arguments.now) result (λ key. key ∷ []) }
-{
-    let key = one_word(arguments).ok_or(LineFault::Bad)?;
-    text(alloc, key)
-}
-
-fn two_texts(alloc: Global, arguments: &[u8]) -> Result<(Text, Text), LineFault>
-    ensures { AreTextsOrFault 2 (words_in arguments.now) result (λ texts. texts.0 ∷ texts.1 ∷ []) }
-{
-    let (first, second) = two_words(arguments).ok_or(LineFault::Bad)?;
-    Ok((text(alloc, first)?, text(alloc, second)?))
-}
-
-fn three_texts(alloc: Global, arguments: &[u8]) -> Result<(Text, Text, Text), LineFault>
-    ensures { AreTextsOrFault 3 (words_in arguments.now) result (λ texts. texts.0 ∷ texts.1 ∷ texts.2 ∷ []) }
-{
-    let (first, second, third) = three_words(arguments).ok_or(LineFault::Bad)?;
-    Ok((
-        text(alloc, first)?,
-        text(alloc, second)?,
-        text(alloc, third)?,
-    ))
-}
-
-fn text(alloc: Global, word: &[u8]) -> Result<Text, LineFault>
-    requires { IsWord word.now }
-    ensures ok { IfOk result (λ text. text ≡ word.now) }
-    ensures fault { IfErr result (λ fault. fault ≡ LineFault.Memory) }
-{
-    match Text::new(alloc, word) {
-        Ok(text) => Ok(text),
-        Err(_) => Err(LineFault::Memory),
     }
 }

@@ -1,16 +1,19 @@
 //! A file's lines as they were read, before they are parsed: files are read one after another, and may be parsed side by side.
-ghost use Rattle.std.specs.Prelude.{◌≡◌, ◌≤◌, ◌++◌, ◌∷◌, ℕ, List, [], All, length, IfSome, IfOk, IfErr, OnOk, OnErr};
+ghost use Rattle.std.specs.Prelude.{◌≡◌, ◌≤◌, ◌++◌, ◌∷◌, ℕ, List, [], All, length, take, Ok, IfSome, IfOk, IfErr, OnOk, OnErr, OnSome};
+ghost use Rattle.std.specs.Io.KnownBytes.{IsAtEnd};
 ghost use Rattle.command_file.specs.Grammar.{IsCommand};
 ghost use Rattle.command_file.specs.Lines.{lines_of};
-ghost use Rattle.command_file.specs.Files.{most_lines, IsFile, IsFileFault, IsNumbered};
+ghost use Rattle.command_file.specs.Files.{IsFile, IsFileFault, IsNumbered};
+ghost use Rattle.command_file.specs.Reading.{IsOfReading, AreWhole, TakesWhole};
 ghost use Rattle.command_file.specs.Texts.{EndsSo};
 
-use crate::command::Command;
 use crate::fault::FileFault;
-use crate::file::{MOST_LINES, read_file};
 use crate::line::{LineRead, is_at_end, next_line};
+use crate::parse::LONGEST_LINE;
+use crate::script::{MOST_LINES, Script};
+use crate::search::first_place;
 use std::alloc::Global;
-use std::io::BufRead;
+use std::io::{BufRead, ErrorKind};
 use std::marker::Model;
 
 /// The lines that were read of a file, and why the reading ended.
@@ -45,24 +48,73 @@ fn add(text: &mut Vec<u8>, line: &[u8]) -> Result<(), FileFault>
     Ok(())
 }
 
+/// How many bytes whole lines take at the front of these bytes, and how many lines they are: no more than so many, and none
+/// that is too long.
+fn whole_lines(bytes: &[u8], most: u32) -> (usize, u32)
+    ensures whole { AreWhole (take result.0 bytes.now) result.1 }
+    ensures within { result.0 ≤ length bytes.now }
+    ensures few { result.1 ≤ most }
+{
+    let mut end = 0;
+    for count in 0..most {
+        match first_place(b'\n', &bytes[end..]) {
+            Some(at) if at <= LONGEST_LINE => end += at + 1,
+            _ => return (end, count),
+        }
+    }
+    (end, most)
+}
+
+/// Puts the whole lines that the reader shows behind the text, no more than so many, and says how many they are.
+fn take_shown<R: BufRead>(file: &mut R, text: &mut Vec<u8>, most: u32) -> Result<u32, FileFault>
+    ensures lines { IfOk result (λ count. TakesWhole (R.remaining file.old) (R.remaining file.new) text.old.items text.new.items count) }
+    ensures few { IfOk result (λ count. count ≤ most) }
+    ensures err { OnErr result (text.new.items ≡ text.old.items) }
+    ensures fault { IfErr result (λ fault. IsOfReading fault) }
+{
+    let shown = match file.fill_buf() {
+        Ok(shown) => shown,
+        Err(error) => {
+            return if error.kind() == ErrorKind::Interrupted {
+                Ok(0)
+            } else {
+                Err(FileFault::Read)
+            };
+        }
+    };
+    let (end, count) = whole_lines(shown, most);
+    match text.extend_from_slice(&shown[..end]) {
+        Ok(()) => {}
+        Err(_) => return Err(FileFault::Memory),
+    }
+    file.consume(end);
+    Ok(count)
+}
+
 /// Puts the reader's lines into the text, each with an LF behind it, up to the first that is too long, and no more than a
-/// file may have.
+/// file may have. The whole lines that the reader shows are taken at once, and the one that it shows in part by itself.
 fn take_lines<R: BufRead>(alloc: Global, file: &mut R, text: &mut Vec<u8>) -> Result<(), FileFault>
     requires new { text.old.items ≡ [] }
     ensures lines { IfSome (R.remaining file.old) (λ bytes. EndsSo (lines_of bytes) (lines_of text.new.items) result) }
+    ensures end { OnOk result (OnSome (R.remaining file.old) (IsAtEnd (R.remaining file.new))) }
     ensures number { IfErr result (λ fault. IsNumbered fault) }
 {
     let mut line = Vec::new(alloc);
-    for number in 1..=MOST_LINES {
+    let mut count = 0;
+    while count < MOST_LINES {
+        let before = match take_shown(file, text, MOST_LINES - 1 - count) {
+            Ok(more) => count + more,
+            Err(fault) => return Err(fault),
+        };
         let read = match next_line(file, &mut line) {
             Ok(read) => read,
             Err(fault) => return Err(fault),
         };
         match read {
             LineRead::End => return Ok(()),
-            LineRead::TooLong => return Err(FileFault::BadLine(number)),
+            LineRead::TooLong => return Err(FileFault::BadLine(before + 1)),
             LineRead::Line => match add(text, line.as_slice()) {
-                Ok(()) => {}
+                Ok(()) => count = before + 1,
                 Err(_) => return Err(FileFault::Memory),
             },
         }
@@ -75,9 +127,16 @@ fn take_lines<R: BufRead>(alloc: Global, file: &mut R, text: &mut Vec<u8>) -> Re
 }
 
 impl FileText {
-    /// Reads the lines of a file as `read_file` does, and parses none: it goes on behind a bad one.
+    /// Reads the lines of a file, and parses none: it goes on behind a bad one.
+    ///
+    /// The reading stops at the first line that is too long, and behind the last that a file may have looks only whether there
+    /// is one more byte. Where the reader then stands is said only where the reading ended without a fault.
+    ///
+    /// Its end is `FileFault::Read` where a read of the reader fails, other than by an interruption, after which it is tried
+    /// again, and `FileFault::Memory` where a growth is refused. No clause says that they come nowhere else.
     pub fn read<R: BufRead>(alloc: Global, file: &mut R) -> FileText
-        ensures { IfSome (R.remaining file.old) (λ bytes. EndsSo (lines_of bytes) result.lines result.end) }
+        ensures lines { IfSome (R.remaining file.old) (λ bytes. EndsSo (lines_of bytes) result.lines result.end) }
+        ensures end { OnOk result.end (OnSome (R.remaining file.old) (IsAtEnd (R.remaining file.new))) }
     {
         let mut text = Vec::new(alloc);
         let end = take_lines(alloc, file, &mut text);
@@ -85,22 +144,38 @@ impl FileText {
     }
 
     /// The commands that the lines say. The fault of the first bad line comes before that with which the reading ended.
-    pub fn commands(self, alloc: Global) -> Result<Vec<Command>, FileFault>
-        ensures said { IfOk result (λ commands. (all : List (List ℕ)) → EndsSo all self.lines self.end → IsFile all commands.items) }
+    pub fn parse(self, alloc: Global) -> Result<Script, FileFault>
+        ensures said { IfOk result (λ script. (all : List (List ℕ)) → EndsSo all self.lines self.end → IsFile all script) }
+        ensures end { IfOk result (λ _. self.end ≡ Ok tt) }
+        ensures commands { IfOk result (λ script. All IsCommand script) }
         ensures fault { IfErr result (λ fault. (all : List (List ℕ)) → EndsSo all self.lines self.end → IsFileFault all fault) }
-        ensures commands { IfOk result (λ commands. All IsCommand commands.items) }
-        ensures few { IfOk result (λ commands. length commands.items ≤ most_lines) }
         ensures number { IfErr result (λ fault. IsNumbered fault) }
     {
         let FileText { text, end } = self;
-        let mut lines = text.as_slice();
-        let commands = match read_file(alloc, &mut lines) {
-            Ok(commands) => commands,
+        let script = match Script::of_text(alloc, text) {
+            Ok(script) => script,
             Err(fault) => return Err(fault),
         };
         match end {
-            Ok(()) => Ok(commands),
+            Ok(()) => Ok(script),
             Err(fault) => Err(fault),
         }
+    }
+}
+
+/// Reads a file and parses it: the commands that its lines say, in order. The faults are those of the two.
+pub fn read_file<R: BufRead>(alloc: Global, file: &mut R) -> Result<Script, FileFault>
+    // Where the reader tells its bytes.
+    ensures said { IfOk result (λ script. IfSome (R.remaining file.old) (λ bytes. IsFile (lines_of bytes) script)) }
+    ensures fault { IfErr result (λ fault. IfSome (R.remaining file.old) (λ bytes. IsFileFault (lines_of bytes) fault)) }
+    ensures end { OnOk result (OnSome (R.remaining file.old) (IsAtEnd (R.remaining file.new))) }
+
+    // At any reader.
+    ensures commands { IfOk result (λ script. All IsCommand script) }
+    ensures number { IfErr result (λ fault. IsNumbered fault) }
+{
+    match FileText::read(alloc, file).parse(alloc) {
+        Ok(script) => Ok(script),
+        Err(fault) => Err(fault),
     }
 }

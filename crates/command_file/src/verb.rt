@@ -2,11 +2,20 @@
 ghost use Rattle.std.specs.Prelude.{◌≡◌, ◌≢◌, [], ◌∷◌, MatchOption};
 ghost use Rattle.command_file.specs.declared.command.Command.{Command as command};
 ghost use Rattle.command_file.specs.declared.verb.Verb.{Verb as of_texts};
-ghost use Rattle.command_file.specs.Grammar.{words_of, table_words};
-ghost use Rattle.command_file.specs.Words.{name_of, of_key_name, of_pair_name};
+ghost use Rattle.command_file.specs.Grammar.{words_of};
+ghost use Rattle.command_file.specs.Words.{name_of, alone_name};
+ghost use Rattle.command_file.specs.Places.{of_alone, of_key, of_pair};
 
 use crate::command::{Command, MapCommand, TableCommand};
 use far_object::Text;
+
+/// A command of one word.
+#[derive(Clone, Copy)]
+pub(crate) enum Alone {
+    Show,
+    Release,
+    Evict,
+}
 
 /// The first word of a command that has more.
 #[derive(Clone, Copy)]
@@ -34,15 +43,15 @@ pub(crate) enum OfPair {
 }
 
 /// The command that is this word and no more.
-pub(crate) fn alone(word: &[u8]) -> Option<TableCommand>
-    ensures { MatchOption result ((c : command) → words_of c ≢ word.now ∷ []) (λ c. table_words c ≡ word.now ∷ []) }
+pub(crate) fn alone_of(word: &[u8]) -> Option<Alone>
+    ensures { MatchOption result ((c : command) → words_of c ≢ word.now ∷ []) (λ a. word.now ≡ alone_name a) }
 {
     if word == b"show".as_slice() {
-        Some(TableCommand::Show)
+        Some(Alone::Show)
     } else if word == b"release".as_slice() {
-        Some(TableCommand::Release)
+        Some(Alone::Release)
     } else if word == b"evict".as_slice() {
-        Some(TableCommand::Evict)
+        Some(Alone::Evict)
     } else {
         None
     }
@@ -71,9 +80,21 @@ pub(crate) fn verb_of(word: &[u8]) -> Option<Verb>
     }
 }
 
+impl Alone {
+    pub(crate) fn command(self) -> Command
+        ensures { result ≡ of_alone self }
+    {
+        Command::Table(match self {
+            Alone::Show => TableCommand::Show,
+            Alone::Release => TableCommand::Release,
+            Alone::Evict => TableCommand::Evict,
+        })
+    }
+}
+
 impl OfKey {
     pub(crate) fn command(self, key: Text) -> Command
-        ensures { words_of result ≡ of_key_name self ∷ key ∷ [] }
+        ensures { result ≡ of_key self key }
     {
         match self {
             OfKey::Get => Command::Map(MapCommand::Get { key }),
@@ -86,7 +107,7 @@ impl OfKey {
 
 impl OfPair {
     pub(crate) fn command(self, key: Text, value: Text) -> Command
-        ensures { words_of result ≡ of_pair_name self ∷ key ∷ value ∷ [] }
+        ensures { result ≡ of_pair self key value }
     {
         Command::Map(match self {
             OfPair::Put => MapCommand::Put { key, value },

@@ -1,5 +1,5 @@
 //! The words of a line, with exactly one space between.
-ghost use Rattle.std.specs.Prelude.{◌≡◌, ℕ, ◌+◌, ◌↔◌, [], ◌∷◌, All, IsTrue, MatchOption};
+ghost use Rattle.std.specs.Prelude.{◌≡◌, ℕ, ◌+◌, ◌<◌, ◌↔◌, [], ◌∷◌, All, IsTrue, IfSome, length, MatchOption};
 ghost use Rattle.command_file.specs.Grammar.{IsWord, IsWordByte};
 ghost use Rattle.command_file.specs.Words.{words_in, AreWords};
 
@@ -10,7 +10,8 @@ const LONGEST_WORD: usize = 255;
 
 /// The bytes before the first space, and those behind it.
 pub(crate) fn split_once(bytes: &[u8]) -> Option<(&[u8], &[u8])>
-    ensures { MatchOption result (words_in bytes.now ≡ bytes.now ∷ []) (λ parts. words_in bytes.now ≡ parts.0.now ∷ words_in parts.1.now) }
+    ensures parts { MatchOption result (words_in bytes.now ≡ bytes.now ∷ []) (λ parts. words_in bytes.now ≡ parts.0.now ∷ words_in parts.1.now) }
+    ensures shorter { IfSome result (λ parts. length parts.1.now < length bytes.now) }
 {
     let at = first_place(b' ', bytes)?;
     Some((&bytes[..at], &bytes[at + 1..]))

@@ -1,7 +1,7 @@
 //! Worked files, readers that give few bytes at a time, and readers that fail.
 mod expect;
 
-use command_file::{Command, FileFault, FileText, MapCommand, TableCommand, read_file};
+use command_file::{Command, FileFault, FileText, MapCommand, Script, TableCommand, read_file};
 use expect::{holds, made};
 use std::alloc::{AllocError, Global};
 use std::io;
@@ -39,12 +39,12 @@ impl BufRead for Faltering<'_> {
     }
 }
 
-/// The fault of a file of these bytes, parsed as it is read and afterwards; want of memory, which no row wants, where these
-/// differ.
+/// The fault of a file of these bytes, by `read_file` and by the calls of `FileText`; want of memory, which no row wants,
+/// where these differ.
 fn fault_of(alloc: Global, bytes: &[u8]) -> Option<FileFault> {
     let (mut file, mut again) = (bytes, bytes);
     let fault = read_file(alloc, &mut file).err();
-    if FileText::read(alloc, &mut again).commands(alloc).err() == fault {
+    if FileText::read(alloc, &mut again).parse(alloc).err() == fault {
         fault
     } else {
         Some(FileFault::Memory)
@@ -60,7 +60,7 @@ fn fault_of_text(alloc: Global, rest: &'static [u8], failing: u8) -> Option<File
         failing,
         kind: ErrorKind::Other,
     };
-    FileText::read(alloc, &mut file).commands(alloc).err()
+    FileText::read(alloc, &mut file).parse(alloc).err()
 }
 
 /// The letter of a command on the map, and its texts.
@@ -92,32 +92,39 @@ fn shown_table(command: &TableCommand) -> (u8, [&[u8]; 3]) {
     }
 }
 
-/// The commands of a file, a letter for each with its texts behind, each text behind a slash.
-fn shown(alloc: Global, commands: &[Command]) -> Result<Vec<u8>, AllocError> {
-    let mut shown = Vec::new(alloc);
-    for command in commands {
-        let (letter, texts) = match command {
-            Command::Map(command) => shown_map(command),
-            Command::Table(command) => shown_table(command),
-        };
-        shown.push(letter)?;
-        for text in texts {
-            shown.push(b'/')?;
-            shown.extend_from_slice(text)?;
-        }
+/// Puts the letter of the command behind `shown`, and its texts, each behind a slash.
+fn show(shown: &mut Vec<u8>, command: &Command) -> Result<(), AllocError> {
+    let (letter, texts) = match command {
+        Command::Map(command) => shown_map(command),
+        Command::Table(command) => shown_table(command),
+    };
+    shown.push(letter)?;
+    for text in texts {
+        shown.push(b'/')?;
+        shown.extend_from_slice(text)?;
     }
-    Ok(shown)
+    Ok(())
+}
+
+/// The commands of a file, in order.
+fn shown(rt: &impl Abort, alloc: Global, script: &Script) -> Vec<u8> {
+    let mut shown = Vec::new(alloc);
+    for at in 0..script.len() {
+        let command = made(rt, script.command(alloc, at));
+        made(rt, show(&mut shown, &command));
+    }
+    shown
 }
 
 fn assert_shown<R: BufRead>(rt: &impl Abort, alloc: Global, file: &mut R, wanted: &[u8]) {
-    let commands = made(rt, read_file(alloc, file));
-    let found = made(rt, shown(alloc, commands.as_slice()));
+    let script = made(rt, read_file(alloc, file));
+    let found = shown(rt, alloc, &script);
     holds(rt, found.as_slice() == wanted);
 }
 
 #[test]
 fn good_files(rt: HostRuntime) {
-    let rows: [(&[u8], &[u8]); 8] = [
+    let rows: [(&[u8], &[u8]); 13] = [
         (b"", b""),
         (b"\n\n", b""),
         (b"get a", b"g/a//"),
@@ -126,11 +133,34 @@ fn good_files(rt: HostRuntime) {
         (b"get ~!\nget get", b"g/~!//g/get//"),
         (b"hold a\nshow\nrelease\n", b"h/a//s///r///"),
         (b"evict\nwhere evict\nget show", b"e///w/evict//g/show//"),
+        (b"putif abc de fghi\nget z\n", b"i/abc/de/fghig/z//"),
+        (b"putif a bbbb cc", b"i/a/bbbb/cc"),
+        (b"\n\nput aa bbb\n\n\nget cc\n\n", b"p/aa/bbb/g/cc//"),
+        (b"show\n\nwhere abc\n\ndel de", b"s///w/abc//d/de//"),
+        (
+            b"putnew abcd e\nhold fg\nputif h ij klm",
+            b"n/abcd/e/h/fg//i/h/ij/klm",
+        ),
     ];
     for (bytes, wanted) in &rows {
         let mut file = *bytes;
         assert_shown(&rt, rt.alloc(), &mut file, wanted);
     }
+}
+
+#[test]
+fn commands_in_falling_order(rt: HostRuntime) {
+    let mut file = b"put aa bbb\n\nshow\nputif a bb ccc\nget dddd".as_slice();
+    let script = made(&rt, read_file(rt.alloc(), &mut file));
+    let mut found = Vec::new(rt.alloc());
+    for at in (0..script.len()).rev() {
+        let command = made(&rt, script.command(rt.alloc(), at));
+        made(&rt, show(&mut found, &command));
+    }
+    holds(
+        &rt,
+        found.as_slice() == b"g/dddd//i/a/bb/cccs///p/aa/bbb/".as_slice(),
+    );
 }
 
 #[test]
@@ -185,6 +215,33 @@ fn long_words(rt: HostRuntime) {
     );
 }
 
+/// Puts a word of 255 bytes of this letter behind the bytes, and another byte before it.
+fn add_longest_word(bytes: &mut Vec<u8>, before: u8, letter: u8) -> Result<(), AllocError> {
+    bytes.push(before)?;
+    bytes.resize(bytes.len() + 255, letter)
+}
+
+/// The last of these lines is the longest that is good: it has 773 bytes.
+#[test]
+fn longest_commands(rt: HostRuntime) {
+    let rows: [(&[u8], &[u8], &[u8], &[u8]); 3] = [
+        (b"where", b"w", b"k", b"//g/a//"),
+        (b"put", b"p", b"kv", b"/g/a//"),
+        (b"putif", b"i", b"kev", b"g/a//"),
+    ];
+    for (verb, shown_verb, letters, behind) in rows {
+        let mut file = made(&rt, Vec::from_slice(rt.alloc(), verb));
+        let mut wanted = made(&rt, Vec::from_slice(rt.alloc(), shown_verb));
+        for letter in letters {
+            made(&rt, add_longest_word(&mut file, b' ', *letter));
+            made(&rt, add_longest_word(&mut wanted, b'/', *letter));
+        }
+        made(&rt, file.extend_from_slice(b"\nget a"));
+        made(&rt, wanted.extend_from_slice(behind));
+        assert_shown(&rt, rt.alloc(), &mut file.as_slice(), wanted.as_slice());
+    }
+}
+
 #[test]
 fn long_lines(rt: HostRuntime) {
     for len in [1024, 1025, 1026, 2_000_000] {
@@ -203,7 +260,7 @@ fn many_lines(rt: HostRuntime) {
     made(&rt, file.resize(65_535, b'\n'));
     holds(&rt, fault_of(rt.alloc(), file.as_slice()).is_none());
     made(&rt, file.extend_from_slice(b"get a"));
-    holds(&rt, fault_of(rt.alloc(), file.as_slice()).is_none());
+    assert_shown(&rt, rt.alloc(), &mut file.as_slice(), b"g/a//");
     file.truncate(65_535);
     made(&rt, file.extend_from_slice(b"put a"));
     holds(
@@ -278,7 +335,7 @@ fn lines_parsed_after_they_were_read(rt: HostRuntime) {
     }
     let mut file = good;
     let text = FileText::read(rt.alloc(), &mut file);
-    let commands = made(&rt, text.commands(rt.alloc()));
-    let found = made(&rt, shown(rt.alloc(), commands.as_slice()));
+    let script = made(&rt, text.parse(rt.alloc()));
+    let found = shown(&rt, rt.alloc(), &script);
     holds(&rt, found.as_slice() == b"p/a/1/g/b//".as_slice());
 }

@@ -1,9 +1,7 @@
 -- The files that were read, one after another.
-use Rattle.std.proofs.Common.{◌≡◌, ◌≤◌, ◌<◌, ◌+◌, ℕ, length, refl, arith, List, [], ◌∷◌, Option, Some, None, Result, IfSome, map, ap, ◌∙◌, sym, subst, Vec, Global}
-use Rattle.std.specs.Prelude.{vec_len, slice_index_or, remove}
-use Rattle.std.specs.List.{All, AllByRecursion}
+use Rattle.std.proofs.Common.{◌≡◌, ◌<◌, ◌+◌, ℕ, length, refl, arith, List, [], ◌∷◌, Option, Some, None, Result, IfSome, map, ap, ◌∙◌, sym, subst}
+use Rattle.std.specs.Prelude.{slice_index_or, remove}
 use Rattle.std.proofs.lemmas.List.{length-map}
-use Rattle.std.proofs.lemmas.List.Elements.{All-head, All-tail}
 use Rattle.command_file.specs.declared.command.Command.{Command}
 use Rattle.command_file.specs.Lines.{lines_of}
 use Rattle.command_file.specs.declared.fault.FileFault.{FileFault}
@@ -14,9 +12,6 @@ use Rattle.far_driver.specs.declared.fault.RunFault.{RunFault}
 use Rattle.far_driver.specs.declared.fault.RunFault.TheVariants as fault
 use Rattle.far_driver.specs.Faults.{of_file}
 use Rattle.far_driver.specs.Reading.{AreFiles, IsFirst, IsFaultFrom}
-
-abbrev pub File : Type 0
-File = Vec Command Global
 
 -- the first of a list that has one, and the others
 pub removed : {A : Type 0} (xs rest : List A) (x : A) → 0 < length xs → x ≡ slice_index_or xs 0 x → rest ≡ remove xs 0 → xs ≡ x ∷ rest
@@ -34,11 +29,11 @@ known_fault : (k : Option (List ℕ)) (lines : List (List ℕ)) (end : Result (U
 known_fault None lines end f ends says = tt
 known_fault (Some bytes) lines end f ends says = says (lines_of bytes) ends
 
-pub first_file : {B : Type 0} (known : B → Option (List ℕ)) (files rest : List B) (file : B) (all old : List File) (c : File) → files ≡ file ∷ rest → all ≡ c ∷ old
-    → IfSome (known file) (λ bytes. IsFile (lines_of bytes) c.items) → AreFiles (map known rest) (map (λ (f : File). f.items) old) → AreFiles (map known files) (map (λ (f : File). f.items) all)
+pub first_file : {B : Type 0} (known : B → Option (List ℕ)) (files rest : List B) (file : B) (all old : List (List Command)) (c : List Command) → files ≡ file ∷ rest → all ≡ c ∷ old
+    → IfSome (known file) (λ bytes. IsFile (lines_of bytes) c) → AreFiles (map known rest) old → AreFiles (map known files) all
 first_file {B = B} known files rest file all old c files_are all_are one others =
-    subst (λ (fs : List B). AreFiles (map known fs) (map (λ (f : File). f.items) all)) (sym files_are)
-    (subst (λ (cs : List File). AreFiles (map known (file ∷ rest)) (map (λ (f : File). f.items) cs)) (sym all_are) (one, others))
+    subst (λ (fs : List B). AreFiles (map known fs) all) (sym files_are)
+    (subst (λ (cs : List (List Command)). AreFiles (map known (file ∷ rest)) cs) (sym all_are) (one, others))
 
 -- ---- faults
 
@@ -93,14 +88,5 @@ count_same (k ∷ ks) [] h = absurd h
 count_same (k ∷ ks) (f ∷ fs) h = omega (arith, count_same ks fs h.1)
 
 -- there are as many files as readers
-pub same_count : {B : Type 0} (known : B → Option (List ℕ)) (readers : List B) (files : List File) → AreFiles (map known readers) (map (λ (f : File). f.items) files) → length files ≡ length readers
-same_count known readers files h = sym (length-map files (λ (f : File). f.items)) ∙ (count_same (map known readers) (map (λ (f : File). f.items) files) h ∙ length-map readers known)
-
--- the same of what the readers gave
 pub given_count : {B : Type 0} (known : B → Option (List ℕ)) (readers : List B) (files : List (List Command)) → AreFiles (map known readers) files → length files ≡ length readers
 given_count known readers files h = count_same (map known readers) files h ∙ length-map readers known
-
--- each has so many commands at most, said by recursion
-pub by_recursion : (files : List File) → All (λ (f : File). vec_len f ≤ 65536) files → AllByRecursion (λ (f : File). vec_len f ≤ 65536) files
-by_recursion [] h = tt
-by_recursion (f ∷ fs) h = (All-head (λ (f : File). vec_len f ≤ 65536) f fs h, by_recursion fs (All-tail (λ (f : File). vec_len f ≤ 65536) f fs h))

@@ -1,24 +1,23 @@
 //! The files of a run, read in order before anything runs, and parsed side by side.
-ghost use Rattle.std.specs.Prelude.{◌≡◌, ◌≤◌, ◌+◌, ℕ, List, ◌∷◌, [], length, vec_len, map, IfErr, IfOk};
-ghost use Rattle.std.specs.List.{All};
+ghost use Rattle.std.specs.Prelude.{◌≡◌, ◌≤◌, ◌+◌, ℕ, List, ◌∷◌, [], vec_len, map, IfErr, IfOk};
 ghost use Rattle.std.specs.Thread.{IsSync};
-ghost use Rattle.command_file.specs.Files.{most_lines, IsFile, IsFileFault};
+ghost use Rattle.command_file.specs.Files.{IsFile, IsFileFault};
 ghost use Rattle.command_file.specs.Texts.{EndsSo};
 ghost use Rattle.far_driver.specs.Reading.{AreFiles, IsFaultFrom, IsFaultOfOne};
 
 use crate::fault::{RunFault, of_file};
-use command_file::{Command, FileFault, FileText, read_file};
+use command_file::{FileFault, FileText, Script, read_file};
 use std::alloc::Global;
 use std::io::BufRead;
 use std::thread::{Threads, join};
 
 /// The list of these alone.
-fn alone(alloc: Global, commands: Vec<Command>) -> Result<Vec<Vec<Command>>, RunFault>
-    ensures one { IfOk result (λ all. all.items ≡ commands ∷ []) }
+fn alone(alloc: Global, script: Script) -> Result<Vec<Script>, RunFault>
+    ensures one { IfOk result (λ all. all.items ≡ script ∷ []) }
     ensures fault { IfErr result (λ fault. fault ≡ RunFault.Memory) }
 {
     let mut all = Vec::new(alloc);
-    match all.push(commands) {
+    match all.push(script) {
         Ok(()) => Ok(all),
         Err(_) => Err(RunFault::Memory),
     }
@@ -30,13 +29,12 @@ fn read_from<B, R>(
     alloc: Global,
     number: u32,
     mut files: Vec<B>,
-) -> Result<Vec<Vec<Command>>, RunFault>
+) -> Result<Vec<Script>, RunFault>
 where
     B: BufRead + Drop,
     R: Threads + Sync,
     requires { number + vec_len files ≤ 65 }
-    ensures said { IfOk result (λ all. AreFiles (map (λ f. B.remaining f) files.items) (map (λ f. f.items) all.items)) }
-    ensures short { IfOk result (λ all. All (λ f. vec_len f ≤ 65536) all.items) }
+    ensures said { IfOk result (λ all. AreFiles (map (λ f. B.remaining f) files.items) all.items) }
     ensures fault { IfErr result (IsFaultFrom number (map (λ f. B.remaining f) files.items)) }
 {
     if files.is_empty() {
@@ -44,52 +42,49 @@ where
     }
     let mut file = files.remove(0);
     if files.is_empty() {
-        let commands = match read_file(alloc, &mut file) {
-            Ok(commands) => commands,
+        let script = match read_file(alloc, &mut file) {
+            Ok(script) => script,
             Err(fault) => return Err(of_file(number, fault)),
         };
-        return alone(alloc, commands);
+        return alone(alloc, script);
     }
     let text = FileText::read(alloc, &mut file);
     drop(file);
     let (own, others) = join(
         rt,
-        || -> Result<Vec<Command>, FileFault>
-            ensures said { IfOk result (λ commands. (all : List (List ℕ)) → EndsSo all text.lines text.end → IsFile all commands.items) }
+        || -> Result<Script, FileFault>
+            ensures said { IfOk result (λ script. (all : List (List ℕ)) → EndsSo all text.lines text.end → IsFile all script) }
             ensures fault { IfErr result (λ fault. (all : List (List ℕ)) → EndsSo all text.lines text.end → IsFileFault all fault) }
-            ensures few { IfOk result (λ commands. length commands.items ≤ most_lines) }
-        { text.commands(alloc) },
-        || -> Result<Vec<Vec<Command>>, RunFault>
+        { text.parse(alloc) },
+        || -> Result<Vec<Script>, RunFault>
             requires { IsSync R.row × (number + 1 + vec_len files ≤ 65) }
-            ensures said { IfOk result (λ all. AreFiles (map (λ f. B.remaining f) files.items) (map (λ f. f.items) all.items)) }
-            ensures short { IfOk result (λ all. All (λ f. vec_len f ≤ 65536) all.items) }
+            ensures said { IfOk result (λ all. AreFiles (map (λ f. B.remaining f) files.items) all.items) }
             ensures fault { IfErr result (IsFaultFrom (number + 1) (map (λ f. B.remaining f) files.items)) }
         { read_from(rt, alloc, number + 1, files) },
     );
-    let commands = match own {
-        Ok(commands) => commands,
+    let script = match own {
+        Ok(script) => script,
         Err(fault) => return Err(of_file(number, fault)),
     };
     let mut all = match others {
         Ok(all) => all,
         Err(fault) => return Err(fault),
     };
-    match all.insert(0, commands) {
+    match all.insert(0, script) {
         Ok(()) => Ok(all),
         Err(_) => Err(RunFault::Memory),
     }
 }
 
 /// The commands of each file. Each is read before the next, and parsed while those behind it are read and parsed, as far as
-/// threads can be started; the last is parsed on this thread as it is read. All are read, whatever they say. The fault is that
+/// threads can be started; the last is parsed on this thread. All are read, whatever they say. The fault is that
 /// of the first that has one; they are counted from 1.
-pub fn read_files<B, R>(rt: &R, alloc: Global, files: Vec<B>) -> Result<Vec<Vec<Command>>, RunFault>
+pub fn read_files<B, R>(rt: &R, alloc: Global, files: Vec<B>) -> Result<Vec<Script>, RunFault>
 where
     B: BufRead + Drop,
     R: Threads + Sync,
     requires { vec_len files ≤ 64 }
-    ensures said { IfOk result (λ all. AreFiles (map (λ f. B.remaining f) files.items) (map (λ f. f.items) all.items)) }
-    ensures short { IfOk result (λ all. All (λ f. vec_len f ≤ 65536) all.items) }
+    ensures said { IfOk result (λ all. AreFiles (map (λ f. B.remaining f) files.items) all.items) }
     ensures fault { IfErr result (IsFaultOfOne (map (λ f. B.remaining f) files.items)) }
 {
     match read_from(rt, alloc, 1, files) {

@@ -8,6 +8,10 @@ use std::io;
 use std::io::{BufReader, Read};
 use std::rt::Files;
 
+/// How many bytes of a file are read at once: few enough to stay in a processor's first or second cache until its lines are
+/// taken.
+const READ_BYTES: usize = 32_768;
+
 /// An open file, or standard input.
 #[derive(Drop)]
 pub(crate) enum Source<F, I> {
@@ -44,7 +48,7 @@ pub(crate) fn open_sources<R: Files + Input + AllocGlobal>(
                 Err(_) => return Err(ProgramFault::CannotOpen(at as u32 + 1)),
             }
         };
-        let Ok(source) = BufReader::new(rt.alloc(), source) else {
+        let Ok(source) = BufReader::with_capacity(rt.alloc(), READ_BYTES, source) else {
             return Err(ProgramFault::Run(RunFault::Memory));
         };
         let Ok(()) = sources.push(source) else {

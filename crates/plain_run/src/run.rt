@@ -1,5 +1,5 @@
 //! A file's commands, run on a plain table, and what the run writes.
-ghost use Rattle.std.specs.Prelude.{◌≡◌, ◌<◌, ◌≤◌, ◌++◌, List, ℕ, [], ◌∷◌, length, map, codes, IfOk, IfErr, IfSome, OnOk};
+ghost use Rattle.std.specs.Prelude.{◌≡◌, ◌<◌, ◌≤◌, ◌++◌, List, ℕ, [], ◌∷◌, map, codes, IfOk, IfErr, IfSome, OnOk};
 ghost use Rattle.std.specs.Io.KnownBytes.{Appends};
 ghost use Rattle.far_object.specs.Encodings.{enc_text};
 ghost use Rattle.table_core.specs.Maps.{map_of};
@@ -10,25 +10,25 @@ ghost use Rattle.plain_run.specs.Runs.{PlainRan, RunsTo, IsFaultOf, IsOfRunning,
 
 use crate::fault::PlainFault;
 use crate::table::PlainTable;
-use command_file::{Command, read_file};
+use command_file::{Command, Script, read_file};
 use run_lines::{push_line, reply_text, write_contents, write_files};
 use std::alloc::Global;
 use std::io::{BufRead, Write};
 
 /// Runs the commands in order. The result has the lines of their replies.
-fn run(alloc: Global, table: &mut PlainTable, commands: &[Command]) -> Result<Vec<u8>, PlainFault>
+fn run(alloc: Global, table: &mut PlainTable, script: &Script) -> Result<Vec<u8>, PlainFault>
     requires fresh { (log : Log) × IsAt table.old log × (history log ≡ []) × (names_of log ≡ 0) }
-    requires few { length commands.now ≤ 65536 }
-    ensures ran { IfOk result (λ text. RunsTo table.old table.new commands.now text.items) }
-    ensures fault { IfErr result (IsOfRunning commands.now) }
+    ensures ran { IfOk result (λ text. RunsTo table.old table.new script.now text.items) }
+    ensures fault { IfErr result (IsOfRunning script.now) }
 {
     let mut lines = Vec::new(alloc);
-    for (at, command) in commands.iter().enumerate() {
-        let command = match command {
-            Command::Map(command) => command,
-            Command::Table(_) => return Err(PlainFault::AsksTable(at as u32 + 1)),
+    for at in 0..script.len() {
+        let command = match script.command(alloc, at) {
+            Ok(Command::Map(command)) => command,
+            Ok(Command::Table(_)) => return Err(PlainFault::AsksTable(at as u32 + 1)),
+            Err(_) => return Err(PlainFault::Memory),
         };
-        let reply = table.answer(alloc, command);
+        let reply = table.answer(alloc, &command);
         match push_line(&mut lines, reply_text(&reply)) {
             Ok(()) => {}
             Err(_) => return Err(PlainFault::Memory),
@@ -77,8 +77,8 @@ fn write_run<W: Write>(
 ///
 /// The faults come in the order of the work: `File`; `AsksTable` where a command asks the table itself; `Write` where a
 /// write or the last flush fails; `Contents` where there is no memory to put the pairs in order. `Memory` is any other
-/// growth that was refused: for the table, or a reply's line. No clause says when a failed read, `Memory`, `Write` and
-/// `Contents` come. Before the first write nothing is written.
+/// growth that was refused: for the table, a command's texts, or a reply's line. No clause says when a failed read,
+/// `Memory`, `Write` and `Contents` come. Before the first write nothing is written.
 pub fn run_file<R: BufRead, W: Write>(
     alloc: Global,
     buckets: u32,
@@ -93,15 +93,15 @@ pub fn run_file<R: BufRead, W: Write>(
     ensures fault { IfErr result (IsFaultOf (R.remaining file.old)) }
     ensures before { IfErr result (λ fault. KeepsBefore (W.contents out.old) (W.contents out.new) fault) }
 {
-    let commands = match read_file(alloc, file) {
-        Ok(commands) => commands,
+    let script = match read_file(alloc, file) {
+        Ok(script) => script,
         Err(fault) => return Err(PlainFault::File(fault)),
     };
     let mut table = match PlainTable::open(alloc, buckets, limit) {
         Ok(table) => table,
         Err(_) => return Err(PlainFault::Memory),
     };
-    let lines = match run(alloc, &mut table, commands.as_slice()) {
+    let lines = match run(alloc, &mut table, &script) {
         Ok(lines) => lines,
         Err(fault) => return Err(fault),
     };

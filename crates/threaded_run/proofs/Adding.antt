@@ -15,3 +15,9 @@ pub two_parts : {T E : Type 0} (r : Result T E) (old mid new place digits : List
 two_parts (Ok done) old mid new place digits is h =
     (place ++ digits, h ∙ (ap (λ (z : List ℕ). z ++ (digits ++ 10 ∷ [])) is ∙ (append_assoc old place (digits ++ 10 ∷ []) ∙ ap (λ (z : List ℕ). old ++ z) (sym (append_assoc place digits (10 ∷ []))))))
 two_parts (Err e) old mid new place digits is h = tt
+
+-- and the command of which it is the line
+pub of_command : {C T E : Type 0} (r : Result T E) (old new : List ℕ) (Is : C → Type 0) (P : C → List ℕ → Type 0) (c : C) → Is c
+    → OnOk r ((line : List ℕ) × (new ≡ old ++ (line ++ 10 ∷ [])) × P c line) → OnOk r ((d : C) × (line : List ℕ) × Is d × (new ≡ old ++ (line ++ 10 ∷ [])) × P d line)
+of_command (Ok done) old new Is P c is h = (c, h.0, is, h.1, h.2)
+of_command (Err e) old new Is P c is h = tt

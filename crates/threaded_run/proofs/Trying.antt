@@ -1,5 +1,6 @@
 -- One try of a command after another.
-use Rattle.std.proofs.Common.{◌≡◌, ℕ, List, Option, None, Result, Ok, Err, sym, subst, inl, inr, ◌⊎◌}
+use Rattle.std.proofs.Common.{◌≡◌, ℕ, List, Option, None, Result, Ok, Err, refl, sym, subst, inl, inr, ◌⊎◌}
+use Rattle.std.specs.Prelude.{codes}
 use Rattle.far_object.specs.Encodings.{enc_text}
 use Rattle.far_object.specs.Buckets.{bucket}
 use Rattle.table_core.specs.declared.limits.Limits.{Limits}
@@ -9,22 +10,29 @@ use Rattle.version_words.specs.Views.{Goes}
 use Rattle.version_words.proofs.Fronts.{prefix_self, prefix_trans}
 use Rattle.hash_table.specs.declared.refusal.Refusal.{Refusal as TableRefusal}
 use Rattle.hash_table.specs.declared.refusal.Refusal.TheVariants as table
-use Rattle.hash_table.specs.Calls.{SeenInCall, IsUnchanged, IsFinished}
+use Rattle.hash_table.specs.Calls.{IsUnchanged, IsFinished}
 use Rattle.hash_table.specs.Scopes.{ScopeView, shown}
 use Rattle.hash_table.specs.Calls.{IsRefused as IsRefusedCall}
 use Rattle.hash_table.specs.Refusals.{OfGet}
 use Rattle.hash_table.proofs.Fronts.{goes_self, goes_trans, finished_from}
+use Rattle.command_file.specs.declared.command.Command.{Command}
+use Rattle.command_file.specs.declared.command.Command.TheVariants.{Map, Table}
 use Rattle.command_file.specs.declared.command.MapCommand.{MapCommand}
 use Rattle.command_file.specs.declared.command.MapCommand.TheVariants.{Hold}
 use Rattle.run_lines.specs.declared.refusal.Refusal.{Refusal}
 use Rattle.run_lines.specs.declared.refusal.Refusal.TheVariants as refusal
 use Rattle.run_lines.specs.Calls.{Asked, operation_of}
-use Rattle.threaded_run.specs.Replies.{View, Log, MayRefuse, said, IsOfTurn, IsRefused, AnswersWith, Tries}
+use Rattle.threaded_run.specs.Replies.{View, Log, MayRefuse, said, IsOfTurn, IsRefused, AnswersWith, RunsTo, Tries}
 
 module _ (l : Limits) (limit : ℕ) where
   -- a refusal of which nothing else is said
   free : (old new : View) (c : MapCommand) (why : Refusal) → ((log : Log) → MayRefuse l.buckets limit (history log) c why) → Goes old new → IsRefused l limit old new c why
   free old new c why may goes = record { goes = goes; seen = λ _. (old.front, prefix_self old.front, goes.grows, may old.front) }
+
+  -- a command for which there was no memory: no call is made
+  pub unmade : (v : View) (c : Command) → RunsTo l limit v v c (codes "memory")
+  unmade v (Map c) = (Err refusal.Memory, refl, free v v c refusal.Memory (λ _. tt) (goes_self v))
+  unmade v (Table c) = goes_self v
 
   abbrev at : MapCommand → ℕ
   at c = bucket enc_text l.buckets (key_of (operation_of c))

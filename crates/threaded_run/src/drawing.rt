@@ -1,12 +1,11 @@
 //! The passes of a run, which are drawn before a thread starts.
 ghost use Rattle.std.specs.Prelude.{◌≡◌, ◌≤◌, [], length, vec_len, map, IfOk};
-ghost use Rattle.std.specs.List.{AllByRecursion};
 ghost use Rattle.version_words.specs.Views.{calls};
 
 use crate::fault::WorkFault;
 use crate::shared::Seated;
 use crate::worker::Job;
-use command_file::Command;
+use command_file::Script;
 use far_device::Device;
 use far_object::Text;
 use hash_table::{Caller, FarTable};
@@ -38,20 +37,19 @@ pub(crate) fn draw<J: Naming, B: QueueNaming, D: Device, R: Wait>(
     alloc: Global,
     table: &FarTable<Text, Text, J, D>,
     mut seats: Vec<QueueSeat<Text, Text, J, B>>,
-    mut files: Vec<Vec<Command>>,
+    mut files: Vec<Script>,
 ) -> Result<Vec<Job<J, B>>, WorkFault>
     requires seats { vec_len seats ≡ vec_len files }
     requires few { vec_len files ≤ 64 }
-    requires short { AllByRecursion (λ f. vec_len f ≤ 65536) files.items }
-    ensures { IfOk result (λ jobs. map (λ j. j.commands) jobs.items ≡ map (λ f. f.items) files.items) }
+    ensures { IfOk result (λ jobs. map (λ j. j.commands) jobs.items ≡ files.items) }
 {
-    let (Some(commands), Some(seat)) = (files.pop(), seats.pop()) else {
+    let (Some(script), Some(seat)) = (files.pop(), seats.pop()) else {
         return Ok(Vec::new(alloc));
     };
     let number = files.len() as u32 + 1;
     let mut jobs = draw(rt, alloc, table, seats, files)?;
     let caller = enter(rt, table)?;
-    let Ok(()) = jobs.push(Job::new(number, Seated { caller, seat }, commands)) else {
+    let Ok(()) = jobs.push(Job::new(number, Seated { caller, seat }, script)) else {
         return Err(WorkFault::Memory);
     };
     Ok(jobs)

@@ -1,6 +1,5 @@
 //! A whole run over a table and a queue that are open.
 ghost use Rattle.std.specs.Prelude.{◌≡◌, ◌<◌, ◌≤◌, IsTrue, true, ℕ, List, vec_len, map, OnOk, IfErr};
-ghost use Rattle.std.specs.List.{AllByRecursion};
 ghost use Rattle.std.specs.Io.KnownBytes.{Appends};
 ghost use Rattle.run_lines.specs.Runs.{Ran};
 ghost use Rattle.threaded_run.specs.Replies.{MayRefuse};
@@ -12,7 +11,7 @@ use crate::finishing::finish;
 use crate::gate::Gate;
 use crate::shared::Shared;
 use crate::sharing::run_jobs;
-use command_file::Command;
+use command_file::Script;
 use far_device::Device;
 use far_object::Text;
 use hash_table::{Config, FarTable};
@@ -38,7 +37,7 @@ pub(crate) fn run<J, B, D, G, R, W>(
     queue: SpareQueue<Text, Text, J, B>,
     taker: QueueSeat<Text, Text, J, B>,
     seats: Vec<QueueSeat<Text, Text, J, B>>,
-    files: Vec<Vec<Command>>,
+    files: Vec<Script>,
     gate: &G,
     out: &mut W,
 ) -> Result<(), ThreadedFault>
@@ -53,9 +52,8 @@ where
     requires taker { taker.takes ≡ true }
     requires seats { vec_len seats ≡ vec_len files }
     requires few { vec_len files ≤ 64 }
-    requires short { AllByRecursion (λ f. vec_len f ≤ 65536) files.items }
-    ensures ran { OnOk result (IsTrue J.limits.honest → (text : List ℕ) × Ran (MayRefuse J.limits.buckets table.limit) (map (λ f. f.items) files.items) text × Appends (W.contents out.old) (W.contents out.new) text) }
-    ensures before { IfErr result (WritesBefore (map (λ f. f.items) files.items) (W.contents out.old) (W.contents out.new)) }
+    ensures ran { OnOk result (IsTrue J.limits.honest → (text : List ℕ) × Ran (MayRefuse J.limits.buckets table.limit) files.items text × Appends (W.contents out.old) (W.contents out.new) text) }
+    ensures before { IfErr result (WritesBefore files.items (W.contents out.old) (W.contents out.new)) }
 {
     let jobs = match draw(rt, alloc, &table, seats, files) {
         Ok(jobs) => jobs,

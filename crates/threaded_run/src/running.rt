@@ -1,5 +1,6 @@
 //! One command to one line.
-ghost use Rattle.std.specs.Prelude.{◌≡◌, ◌++◌, ◌∷◌, [], ℕ, List, Result, Option, OnOk};
+ghost use Rattle.std.specs.Prelude.{◌≡◌, ◌<◌, ◌++◌, ◌∷◌, [], ℕ, List, Result, Option, length, slice_index_or, OnOk};
+ghost use Rattle.command_file.specs.declared.command.Command.{Command as command};
 ghost use Rattle.command_file.specs.declared.command.Command.TheVariants.{Map, Table};
 ghost use Rattle.run_lines.specs.declared.refusal.Refusal.{Refusal as refusal};
 ghost use Rattle.run_lines.specs.Replies.{line_of};
@@ -11,7 +12,7 @@ use crate::answering::answer;
 use crate::holding::{Held, held_value, open};
 use crate::room::{MOST_TRIES, make_room, said};
 use crate::shared::{Seated, Shared};
-use command_file::{Command, MapCommand, TableCommand};
+use command_file::{Command, MapCommand, Script, TableCommand};
 use far_device::Device;
 use far_object::{Memory, Text};
 use hash_table::{BucketState, Refusal as TableRefusal};
@@ -173,7 +174,7 @@ fn run_table<J: Naming, B: QueueNaming, D: Device, R: Wait>(
 }
 
 /// Runs a command, and adds its line and an LF. `Memory` comes where the line can't be stored; a part of it may stand then.
-pub(crate) fn run_command<'a, J: Naming, B: QueueNaming, D: Device, R: Wait>(
+fn run_command<'a, J: Naming, B: QueueNaming, D: Device, R: Wait>(
     rt: &R,
     alloc: Global,
     shared: &'a Shared<J, B, D>,
@@ -188,5 +189,27 @@ pub(crate) fn run_command<'a, J: Naming, B: QueueNaming, D: Device, R: Wait>(
     match command {
         Command::Map(command) => run_map(rt, alloc, shared, seated, held, lines, command),
         Command::Table(command) => run_table(rt, shared, seated, held, lines, command),
+    }
+}
+
+/// Runs the script's command at this place, and adds its line and an LF. Where there is no memory for its texts it is refused.
+/// `Memory` comes where the line can't be stored; a part of it may stand then.
+pub(crate) fn run_at<'a, J: Naming, B: QueueNaming, D: Device, R: Wait>(
+    rt: &R,
+    alloc: Global,
+    shared: &'a Shared<J, B, D>,
+    seated: &mut Seated<J, B>,
+    held: &mut Held<'a, J>,
+    lines: &mut Vec<u8>,
+    script: &Script,
+    at: usize,
+) -> Result<(), Memory>
+    requires { at < length script.now }
+    ensures { OnOk result ((command : command) × (line : List ℕ) × (command ≡ slice_index_or script.now at command) × (lines.new.items ≡ lines.old.items ++ (line ++ 10 ∷ []))
+        × RunsTo J.limits shared.now.table.limit seated.old.caller.pass seated.new.caller.pass command line) }
+{
+    match script.command(alloc, at) {
+        Ok(command) => run_command(rt, alloc, shared, seated, held, lines, &command),
+        Err(Memory) => push_line(lines, Refusal::Memory.text()),
     }
 }

@@ -1,6 +1,5 @@
 //! From settings, devices and commands to a run: the table and the queue are opened, and their names in types are picked.
 ghost use Rattle.std.specs.Prelude.{◌≡◌, ◌<◌, ◌≤◌, IsTrue, None, ℕ, List, vec_len, map, OnOk, IfErr};
-ghost use Rattle.std.specs.List.{AllByRecursion};
 ghost use Rattle.std.specs.Io.KnownBytes.{Appends};
 ghost use Rattle.version_words.specs.Rows.{limits_of};
 ghost use Rattle.hash_table.specs.Configs.{first_bad_with, sizes_of};
@@ -11,7 +10,7 @@ ghost use Rattle.threaded_run.specs.Runs.{WritesBefore};
 use crate::fault::ThreadedFault;
 use crate::gate::Gate;
 use crate::run::run;
-use command_file::Command;
+use command_file::Script;
 use far_device::Device;
 use far_object::Text;
 use hash_table::{Config, FarTable, OpenFault, Opening};
@@ -30,7 +29,7 @@ fn over_queue<J, B, D, G, R, W>(
     config: Config,
     table: FarTable<Text, Text, J, D>,
     queue: QueueOpening<Text, Text, J>,
-    files: Vec<Vec<Command>>,
+    files: Vec<Script>,
     gate: &G,
     out: &mut W,
 ) -> Result<(), ThreadedFault>
@@ -44,9 +43,8 @@ where
     requires queue { queue.table ≡ B.table }
     requires frames { 0 < config.frames }
     requires few { vec_len files ≤ 64 }
-    requires short { AllByRecursion (λ f. vec_len f ≤ 65536) files.items }
-    ensures ran { OnOk result (IsTrue J.limits.honest → (text : List ℕ) × Ran (MayRefuse J.limits.buckets table.limit) (map (λ f. f.items) files.items) text × Appends (W.contents out.old) (W.contents out.new) text) }
-    ensures before { IfErr result (WritesBefore (map (λ f. f.items) files.items) (W.contents out.old) (W.contents out.new)) }
+    ensures ran { OnOk result (IsTrue J.limits.honest → (text : List ℕ) × Ran (MayRefuse J.limits.buckets table.limit) files.items text × Appends (W.contents out.old) (W.contents out.new) text) }
+    ensures before { IfErr result (WritesBefore files.items (W.contents out.old) (W.contents out.new)) }
 {
     let (queue, taker, seats) = match queue.named::<B>(alloc, files.len() as u32) {
         Ok(named) => named,
@@ -63,7 +61,7 @@ fn over_table<J, D, G, R, W>(
     alloc: Global,
     opening: Opening<Text, Text, D>,
     config: Config,
-    files: Vec<Vec<Command>>,
+    files: Vec<Script>,
     gate: &G,
     out: &mut W,
 ) -> Result<(), ThreadedFault>
@@ -80,9 +78,8 @@ where
     requires frames { 0 < config.frames }
     requires spares { 0 < config.spares }
     requires few { vec_len files ≤ 64 }
-    requires short { AllByRecursion (λ f. vec_len f ≤ 65536) files.items }
-    ensures ran { OnOk result (IsTrue D.HONEST → (text : List ℕ) × Ran (MayRefuse config.buckets config.limit) (map (λ f. f.items) files.items) text × Appends (W.contents out.old) (W.contents out.new) text) }
-    ensures before { IfErr result (WritesBefore (map (λ f. f.items) files.items) (W.contents out.old) (W.contents out.new)) }
+    ensures ran { OnOk result (IsTrue D.HONEST → (text : List ℕ) × Ran (MayRefuse config.buckets config.limit) files.items text × Appends (W.contents out.old) (W.contents out.new) text) }
+    ensures before { IfErr result (WritesBefore files.items (W.contents out.old) (W.contents out.new)) }
 {
     let table = match opening.named::<J>(alloc) {
         Ok(table) => table,
@@ -98,8 +95,7 @@ where
 
 /// Runs each file's commands by a worker of its own, on a table that they share over these devices, one for each lane; then
 /// writes for each file the line `file N` and a line for each command, and behind them the line `contents` and each pair
-/// that the table holds, in key order. There are 1 to 64 files of at most 65,536 commands, and the settings are within
-/// their limits.
+/// that the table holds, in key order. There are 1 to 64 files, and the settings are within their limits.
 ///
 /// The first file's worker has this thread. Each other has one of its own, as far as threads can be started, and so has the
 /// evictor where there is more than one file. Round each command the gate is asked and told, in the worker's thread.
@@ -114,7 +110,7 @@ pub fn run_files<D, G, R, W>(
     alloc: Global,
     config: Config,
     devices: Vec<D>,
-    files: Vec<Vec<Command>>,
+    files: Vec<Script>,
     gate: &G,
     out: &mut W,
 ) -> Result<(), ThreadedFault>
@@ -126,9 +122,8 @@ where
     requires within { first_bad_with (vec_len devices) config ≡ None }
     requires some { 0 < vec_len files }
     requires few { vec_len files ≤ 64 }
-    requires short { AllByRecursion (λ f. vec_len f ≤ 65536) files.items }
-    ensures ran { OnOk result (IsTrue D.HONEST → (text : List ℕ) × Ran (MayRefuse config.buckets config.limit) (map (λ f. f.items) files.items) text × Appends (W.contents out.old) (W.contents out.new) text) }
-    ensures before { IfErr result (WritesBefore (map (λ f. f.items) files.items) (W.contents out.old) (W.contents out.new)) }
+    ensures ran { OnOk result (IsTrue D.HONEST → (text : List ℕ) × Ran (MayRefuse config.buckets config.limit) files.items text × Appends (W.contents out.old) (W.contents out.new) text) }
+    ensures before { IfErr result (WritesBefore files.items (W.contents out.old) (W.contents out.new)) }
 {
     let opening = match Opening::open(alloc, config, devices) {
         Ok(opening) => opening,

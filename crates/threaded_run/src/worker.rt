@@ -1,14 +1,14 @@
 //! One worker: the commands of a file, one after another.
-ghost use Rattle.std.specs.Prelude.{◌≡◌, ◌++◌, ◌∷◌, [], ◌≤◌, ℕ, List, length, IfOk, OnOk};
+ghost use Rattle.std.specs.Prelude.{◌≡◌, [], IfOk};
 ghost use Rattle.version_words.specs.Views.{calls};
 ghost use Rattle.threaded_run.specs.Runs.{EndedIs};
 
 use crate::fault::WorkFault;
 use crate::gate::Gate;
 use crate::holding::Held;
-use crate::running::run_command;
+use crate::running::run_at;
 use crate::shared::{Seated, Shared};
-use command_file::Command;
+use command_file::Script;
 use far_device::Device;
 use far_object::Text;
 use hash_table::Caller;
@@ -23,19 +23,19 @@ use version_words::Naming;
 pub(crate) struct Job<J: Naming, B: QueueNaming> {
     number: u32,
     seated: Seated<J, B>,
-    commands: Vec<Command>,
+    script: Script,
 }
 
 impl<J: Naming, B: QueueNaming> Model for Job<J, B> {
-    ghost use Rattle.std.specs.Prelude.{◌≡◌, ◌≤◌, [], length};
+    ghost use Rattle.std.specs.Prelude.{◌≡◌, []};
     ghost use Rattle.version_words.specs.Views.{calls};
     ghost use Rattle.threaded_run.specs.Runs.{JobView};
 
     ghost Value = { JobView };
 
-    ghost view = { λ j. record { pass = j.seated.caller.pass; commands = j.commands.items } };
+    ghost view = { λ j. record { pass = j.seated.caller.pass; commands = j.script } };
 
-    ghost invariant = { λ j. (calls j.seated.caller.pass ≡ []) × (length j.commands.items ≤ 65536) };
+    ghost invariant = { λ j. calls j.seated.caller.pass ≡ [] };
 }
 
 /// A worker that has ended: its caller, and its lines, each with an LF behind it.
@@ -54,15 +54,14 @@ impl<J: Naming> Model for Ended<J> {
 }
 
 impl<J: Naming, B: QueueNaming> Job<J, B> {
-    pub(crate) fn new(number: u32, seated: Seated<J, B>, commands: Vec<Command>) -> Job<J, B>
+    pub(crate) fn new(number: u32, seated: Seated<J, B>, script: Script) -> Job<J, B>
         requires new { calls seated.caller.pass ≡ [] }
-        requires short { length commands.items ≤ 65536 }
-        ensures { (result.pass ≡ seated.caller.pass) × (result.commands ≡ commands.items) }
+        ensures { (result.pass ≡ seated.caller.pass) × (result.commands ≡ script) }
     {
         Job {
             number,
             seated,
-            commands,
+            script,
         }
     }
 
@@ -79,7 +78,7 @@ impl<J: Naming, B: QueueNaming> Job<J, B> {
         let Job {
             number,
             mut seated,
-            commands,
+            script,
         } = self;
         let mut held = None;
         let ran = work(
@@ -90,7 +89,7 @@ impl<J: Naming, B: QueueNaming> Job<J, B> {
             number,
             &mut seated,
             &mut held,
-            commands.as_slice(),
+            &script,
         );
         match held {
             Some(scope) => scope.close(),
@@ -111,19 +110,18 @@ fn work<'a, J: Naming, B: QueueNaming, D: Device, G: Gate, R: Wait>(
     number: u32,
     seated: &mut Seated<J, B>,
     held: &mut Held<'a, J>,
-    commands: &[Command],
+    script: &Script,
 ) -> Result<Vec<u8>, WorkFault>
-    requires new { calls seated.old.caller.pass ≡ [] }
-    requires short { length commands.now ≤ 65536 }
-    ensures { IfOk result (λ lines. EndedIs J.limits shared.now.table.limit seated.old.caller.pass commands.now (record { pass = seated.new.caller.pass; text = lines.items })) }
+    requires { calls seated.old.caller.pass ≡ [] }
+    ensures { IfOk result (λ lines. EndedIs J.limits shared.now.table.limit seated.old.caller.pass script.now (record { pass = seated.new.caller.pass; text = lines.items })) }
 {
     let mut lines = Vec::new(alloc);
-    for (at, command) in commands.iter().enumerate() {
+    for at in 0..script.len() {
         let call = at as u32 + 1;
         if !gate.before(number, call) {
             return Err(WorkFault::Gate);
         }
-        run_command(rt, alloc, shared, seated, held, &mut lines, command)?;
+        run_at(rt, alloc, shared, seated, held, &mut lines, script, at)?;
         shared.after_command(rt, seated);
         gate.after(number, call);
     }

@@ -1,6 +1,5 @@
 //! Whole runs: worked rows of one file, files that a gate interleaves, and runs that end early.
 ghost use Rattle.std.specs.Prelude.{◌≡◌, ◌<◌, ◌≤◌, None, length, vec_len};
-ghost use Rattle.std.specs.List.{AllByRecursion};
 ghost use Rattle.hash_table.specs.Configs.{first_bad_with};
 
 mod evicting;
@@ -8,7 +7,7 @@ mod expect;
 mod gates;
 mod rows;
 
-use command_file::{Command, read_file};
+use command_file::{Script, read_file};
 use expect::{equal, made};
 use far_device::{FakeDevice, FaultyDevice, WatchedDevice};
 use hash_table::Config;
@@ -53,28 +52,25 @@ fn lane<R: Alloc<A = Global> + Abort>(rt: &R, fails: u64, writes: Arc<AtomicU64>
 }
 
 /// The commands of a file of these bytes.
-fn commands_of<R: Alloc<A = Global> + Abort>(rt: &R, file: &[u8]) -> Vec<Command>
-    ensures few { vec_len result ≤ 65536 }
-{
+fn script_of<R: Alloc<A = Global> + Abort>(rt: &R, file: &[u8]) -> Script {
     let mut left = file;
     match read_file(rt.alloc(), &mut left) {
-        Ok(commands) => commands,
+        Ok(script) => script,
         Err(fault) => panic!(rt; "{fault:?}"),
     }
 }
 
 /// The same of several files, which are 1 to 64.
-fn all_commands<R: Alloc<A = Global> + Abort>(rt: &R, files: &[&[u8]]) -> Vec<Vec<Command>>
+fn all_scripts<R: Alloc<A = Global> + Abort>(rt: &R, files: &[&[u8]]) -> Vec<Script>
     ensures some { 0 < vec_len result }
     ensures few { vec_len result ≤ 64 }
-    ensures short { AllByRecursion (λ f. vec_len f ≤ 65536) result.items }
 {
-    let mut commands = Vec::new(rt.alloc());
+    let mut scripts = Vec::new(rt.alloc());
     for file in files {
-        made(rt, commands.push(commands_of(rt, file)));
+        made(rt, scripts.push(script_of(rt, file)));
     }
-    assert!(rt; !commands.is_empty() && commands.len() <= 64);
-    commands
+    assert!(rt; !scripts.is_empty() && scripts.len() <= 64);
+    scripts
 }
 
 /// The settings of a table with four buckets and one lane.
@@ -124,10 +120,10 @@ fn run_over<G: Gate, R: Alloc<A = Global> + Threads + Wait + Abort + Sync>(
     gate: &G,
 ) -> (Result<(), ThreadedFault>, Vec<u8>) {
     let config = config_of(rt, settings);
-    let commands = all_commands(rt, files);
+    let scripts = all_scripts(rt, files);
     let lanes = alone(rt, lane);
     let mut out = Vec::new(rt.alloc());
-    let ended = run_files(rt, rt.alloc(), config, lanes, commands, gate, &mut out);
+    let ended = run_files(rt, rt.alloc(), config, lanes, scripts, gate, &mut out);
     (ended, out)
 }
 

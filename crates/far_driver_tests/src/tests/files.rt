@@ -1,7 +1,7 @@
 //! Several files, read in order; and the gate that lets every command pass.
 use super::expect::{equal, holds, made};
 use super::inputs::Faltering;
-use command_file::Command;
+use command_file::Script;
 use far_driver::{RunFault, read_files};
 use std::alloc::Global;
 use std::thread::Threads;
@@ -10,7 +10,7 @@ use std::thread::Threads;
 fn read_three<R: Alloc<A = Global> + Threads + Sync>(
     rt: &R,
     files: [&[u8]; 3],
-) -> Result<Vec<Vec<Command>>, RunFault> {
+) -> Result<Vec<Script>, RunFault> {
     match Vec::from_array(rt.alloc(), files) {
         Ok(files) => read_files(rt, rt.alloc(), files),
         Err(_) => Err(RunFault::Memory),
@@ -23,8 +23,8 @@ fn files_in_order(rt: HostRuntime) {
     holds(&rt, made(&rt, read_files(&rt, rt.alloc(), none)).is_empty());
     let all = made(&rt, read_three(&rt, [b"put a 1\n\nget a", b"", b"show\n"]));
     equal(&rt, all.len(), 3);
-    for (commands, wanted) in all.iter().zip([2, 0, 1]) {
-        equal(&rt, commands.len(), wanted);
+    for (script, wanted) in all.iter().zip([2, 0, 1]) {
+        equal(&rt, script.len(), wanted);
     }
 }
 

@@ -6,14 +6,14 @@ use Rattle.command_file.specs.Words.{words_in}
 use Rattle.command_file.proofs.Spelling.{words_in-one, split-at}
 use Rattle.command_file.proofs.words.split_once.Goals as goal
 
-pub returns-in_err-at : goal.returns-in_err-at
-returns-in_err-at c =
+pub returns-in_err-at-clause-parts : goal.returns-in_err-at-clause-parts
+returns-in_err-at-clause-parts c =
     let none : All (λ byte. byte ≢ 32) c.args.bytes.now = search rules in
     let one = words_in-one c.args.bytes.now (All-weaker (λ byte. byte ≢ 32) (λ byte. (byte == 32) ≡ false) (λ byte ne. ne_eqb byte 32 ne) c.args.bytes.now none) in
     rw c.from_residual.ensures one
 
-pub returns : goal.returns
-returns c =
+pub returns-clause-parts : goal.returns-clause-parts
+returns-clause-parts c =
     let bytes = c.args.bytes.now in
     let at = c.in_ok-at.at in
     let inside : at < length bytes = search rules in

@@ -11,21 +11,21 @@ returns-in-Err-own-clause-fault g t c =
     let files_are : c.args.files.items ≡ c.remove-file.result ∷ c.remove-file.new.self.items = removed _ _ _ (search rules) c.remove-file.ensures.value c.remove-file.ensures.items in
     let says : (all : List (List ℕ)) → EndsSo all c.read-text.result.lines c.read-text.result.end → IsFileFault all c.in-Err-own.fault = search rules in
     subst (λ (f : RunFault). IsFaultFrom c.args.number (map (λ f. g.B.Read.remaining f) c.args.files.items) f) (sym {A = RunFault} c.of_file-in-Err-own.ensures)
-    (first_fault (λ f. g.B.Read.remaining f) c.args.files.items c.remove-file.new.self.items c.remove-file.result c.args.number c.read-text.result.lines c.read-text.result.end c.in-Err-own.fault files_are c.read-text.ensures says)
+    (first_fault (λ f. g.B.Read.remaining f) c.args.files.items c.remove-file.new.self.items c.remove-file.result c.args.number c.read-text.result.lines c.read-text.result.end c.in-Err-own.fault files_are c.read-text.ensures.lines says)
 
 pub returns-in-Err-others-clause-fault : goal.returns-in-Err-others-clause-fault
 returns-in-Err-others-clause-fault g t c =
     let files_are : c.args.files.items ≡ c.remove-file.result ∷ c.remove-file.new.self.items = removed _ _ _ (search rules) c.remove-file.ensures.value c.remove-file.ensures.items in
-    let says : (all : List (List ℕ)) → EndsSo all c.read-text.result.lines c.read-text.result.end → IsFile all c.in-Ok-own.commands.items = search rules in
-    let one = known_file (g.B.Read.remaining c.remove-file.result) c.read-text.result.lines c.read-text.result.end c.in-Ok-own.commands.items c.read-text.ensures says in
-    later_fault (λ f. g.B.Read.remaining f) c.args.files.items c.remove-file.new.self.items c.remove-file.result c.args.number c.in-Ok-own.commands.items c.in-Err-others.fault files_are one (search rules)
+    let says : (all : List (List ℕ)) → EndsSo all c.read-text.result.lines c.read-text.result.end → IsFile all c.in-Ok-own.script = search rules in
+    let one = known_file (g.B.Read.remaining c.remove-file.result) c.read-text.result.lines c.read-text.result.end c.in-Ok-own.script c.read-text.ensures.lines says in
+    later_fault (λ f. g.B.Read.remaining f) c.args.files.items c.remove-file.new.self.items c.remove-file.result c.args.number c.in-Ok-own.script c.in-Err-others.fault files_are one (search rules)
 
 pub returns-in-Ok-insert-clause-said : goal.returns-in-Ok-insert-clause-said
 returns-in-Ok-insert-clause-said g t c =
     let files_are : c.args.files.items ≡ c.remove-file.result ∷ c.remove-file.new.self.items = removed _ _ _ (search rules) c.remove-file.ensures.value c.remove-file.ensures.items in
-    let says : (all : List (List ℕ)) → EndsSo all c.read-text.result.lines c.read-text.result.end → IsFile all c.in-Ok-own.commands.items = search rules in
-    let one = known_file (g.B.Read.remaining c.remove-file.result) c.read-text.result.lines c.read-text.result.end c.in-Ok-own.commands.items c.read-text.ensures says in
-    first_file (λ f. g.B.Read.remaining f) c.args.files.items c.remove-file.new.self.items c.remove-file.result c.insert.new.self.items c.in-Ok-others.all.items c.in-Ok-own.commands files_are (search rules) one (search rules)
+    let says : (all : List (List ℕ)) → EndsSo all c.read-text.result.lines c.read-text.result.end → IsFile all c.in-Ok-own.script = search rules in
+    let one = known_file (g.B.Read.remaining c.remove-file.result) c.read-text.result.lines c.read-text.result.end c.in-Ok-own.script c.read-text.ensures.lines says in
+    first_file (λ f. g.B.Read.remaining f) c.args.files.items c.remove-file.new.self.items c.remove-file.result c.insert.new.self.items c.in-Ok-others.all.items c.in-Ok-own.script files_are (search rules) one (search rules)
 
 pub returns-in-Err-clause-fault : goal.returns-in-Err-clause-fault
 returns-in-Err-clause-fault g t c =

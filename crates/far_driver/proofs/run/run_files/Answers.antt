@@ -1,12 +1,9 @@
 use Rattle.std.proofs.Common.{arith}
-use Rattle.far_driver.proofs.Files.{same_count, by_recursion}
+use Rattle.far_driver.proofs.Files.{given_count}
 use Rattle.far_driver.proofs.run.run_files.Goals as goal
 
 pub run_files-requires-clause-some : goal.run_files-requires-clause-some
-run_files-requires-clause-some g c κs lives = omega (arith, same_count (λ f. g.B.Read.remaining f) c.args.files.items c.in-Ok.files.items c.in-Ok.ensures.said, c.requires.some)
+run_files-requires-clause-some g c κs lives = omega (arith, given_count (λ f. g.B.Read.remaining f) c.args.files.items c.in-Ok.files.items c.in-Ok.ensures.said, c.requires.some)
 
 pub run_files-requires-clause-few : goal.run_files-requires-clause-few
-run_files-requires-clause-few g c κs lives = omega (arith, same_count (λ f. g.B.Read.remaining f) c.args.files.items c.in-Ok.files.items c.in-Ok.ensures.said, c.requires.few)
-
-pub run_files-requires-clause-short : goal.run_files-requires-clause-short
-run_files-requires-clause-short g c κs lives = by_recursion c.in-Ok.files.items c.in-Ok.ensures.short
+run_files-requires-clause-few g c κs lives = omega (arith, given_count (λ f. g.B.Read.remaining f) c.args.files.items c.in-Ok.files.items c.in-Ok.ensures.said, c.requires.few)

@@ -13,7 +13,7 @@ returns-clause-ran g c =
     let callers = c.in-Ok-run_jobs.worked.0.items in
     let e = c.into_caller.result in
     let all = c.push.new.self.items in
-    let files = map (λ f. f.items) c.args.files.items in
+    let files = c.args.files.items in
     let texts = map (λ t. t.items) c.as_slice.result.now in
     let worked : WorkedAll l limit jobs (map (λ c. c.pass) callers) texts = subst (λ ts. WorkedAll l limit jobs (map (λ c. c.pass) callers) (map (λ t. t.items) ts)) (sym c.as_slice.ensures.value) c.in-Ok-run_jobs.ensures in
     let pushed : all ≡ callers ++ e ∷ [] = search rules in
@@ -31,7 +31,7 @@ returns-clause-before g c =
     let limit = c.args.table.limit in
     let jobs = c.in-Ok.jobs.items in
     let callers = c.in-Ok-run_jobs.worked.0.items in
-    let files = map (λ f. f.items) c.args.files.items in
+    let files = c.args.files.items in
     let texts = map (λ t. t.items) c.as_slice.result.now in
     let worked : WorkedAll l limit jobs (map (λ c. c.pass) callers) texts = subst (λ ts. WorkedAll l limit jobs (map (λ c. c.pass) callers) (map (λ t. t.items) ts)) (sym c.as_slice.ensures.value) c.in-Ok-run_jobs.ensures in
     before c.finish.result files (g.W.Write.contents c.args.out.now) (g.W.Write.contents c.finish.new.out) (file_texts 1 texts) (lines_before l limit jobs files (map (λ c. c.pass) callers) texts c.in-Ok.ensures worked) c.finish.ensures.fault
