@@ -12,12 +12,13 @@ use std::io::Write;
 use std::rt::Files;
 use std::sync::Wait;
 use std::thread::Threads;
+use std::time::Clock;
 use threaded_run::OpenGate;
 
 /// Runs what the arguments ask for.
 fn run_words<R, W>(rt: &R, words: &[String], out: &mut W) -> Result<(), ProgramFault>
 where
-    R: Files + Input + AllocGlobal + Threads + Wait + Sync,
+    R: Files + Input + AllocGlobal + Threads + Wait + Clock + Sync,
     W: Write,
     ensures usage { are_arguments (map string_bytes words.now) ≡ false → (result ≡ Err ProgramFault.Usage) × (out.new ≡ out.old) }
     ensures ran { OnOk result (RanWords (map string_bytes words.now) (W.contents out.old) (W.contents out.new)) }
@@ -39,7 +40,7 @@ where
 /// work: the arguments, the opening of the files, and then those of `run_files`.
 pub fn run_program<R, W, E>(rt: &R, words: &[String], out: &mut W, err: &mut E) -> u8
 where
-    R: Files + Input + AllocGlobal + Threads + Wait + Sync,
+    R: Files + Input + AllocGlobal + Threads + Wait + Clock + Sync,
     W: Write,
     E: Write,
     ensures status { result ≤ 2 }

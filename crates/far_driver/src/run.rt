@@ -10,6 +10,7 @@ use hash_table::Config;
 use std::io::{BufRead, Write};
 use std::sync::Wait;
 use std::thread::Threads;
+use std::time::Clock;
 use threaded_run::Gate;
 
 /// Runs the files that the readers give, each by a worker of its own, on a table that they share over these devices, and
@@ -31,7 +32,7 @@ pub fn run_files<D, G, R, B, W>(
 where
     D: Device + Send,
     G: Gate,
-    R: Threads + Wait + AllocGlobal + Sync,
+    R: Threads + Wait + Clock + AllocGlobal + Sync,
     B: BufRead + Drop,
     W: Write,
     requires some { 0 < vec_len files }

@@ -19,6 +19,7 @@ use std::io::BufRead;
 use std::process::Abort;
 use std::sync::Wait;
 use std::thread::Threads;
+use std::time::Clock;
 use threaded_run::OpenGate;
 
 /// The settings of the rows.
@@ -36,7 +37,7 @@ fn settings() -> Config {
 }
 
 /// Runs files of these bytes over as many devices as lanes. The result has what was written.
-fn run<R: Threads + Wait + AllocGlobal + Abort + Sync>(
+fn run<R: Threads + Wait + Clock + AllocGlobal + Abort + Sync>(
     rt: &R,
     config: &Config,
     files: &[&'static [u8]],
@@ -45,7 +46,7 @@ fn run<R: Threads + Wait + AllocGlobal + Abort + Sync>(
 }
 
 /// The same of files that these readers give.
-fn run_readers<B: BufRead + Drop, R: Threads + Wait + AllocGlobal + Abort + Sync>(
+fn run_readers<B: BufRead + Drop, R: Threads + Wait + Clock + AllocGlobal + Abort + Sync>(
     rt: &R,
     config: &Config,
     files: Vec<B>,
@@ -58,7 +59,7 @@ fn run_readers<B: BufRead + Drop, R: Threads + Wait + AllocGlobal + Abort + Sync
 }
 
 /// Runs files of these bytes, and checks what is written.
-fn assert_written<R: Threads + Wait + AllocGlobal + Abort + Sync>(
+fn assert_written<R: Threads + Wait + Clock + AllocGlobal + Abort + Sync>(
     rt: &R,
     config: &Config,
     files: &[&'static [u8]],
@@ -70,7 +71,7 @@ fn assert_written<R: Threads + Wait + AllocGlobal + Abort + Sync>(
 }
 
 /// Runs files of these bytes, and checks the fault, and that nothing is written.
-fn assert_fault<R: Threads + Wait + AllocGlobal + Abort + Sync>(
+fn assert_fault<R: Threads + Wait + Clock + AllocGlobal + Abort + Sync>(
     rt: &R,
     config: &Config,
     files: &[&'static [u8]],

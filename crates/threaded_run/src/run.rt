@@ -20,6 +20,7 @@ use std::io::Write;
 use std::sync::atomic::AtomicBool;
 use std::sync::{Mutex, Wait};
 use std::thread::Threads;
+use std::time::Clock;
 use swapper::{Evictor, QueueNaming, QueueSeat, SpareQueue};
 use version_words::Naming;
 
@@ -46,7 +47,7 @@ where
     B: QueueNaming + Send + Sync,
     D: Device + Send,
     G: Gate,
-    R: Threads + Wait + Sync,
+    R: Threads + Wait + Clock + Sync,
     W: Write,
     requires frames { 0 < config.frames }
     requires taker { taker.takes ≡ true }

@@ -40,9 +40,10 @@ impl<J: Naming, B: QueueNaming, D: Device> Shared<J, B, D> {
         }
     }
 
-    /// Has spares reclaimed.
-    pub(crate) fn collect<R: Wait>(&self, rt: &R) {
-        self.evictor.lock(rt).collect(rt, &self.table, &self.queue);
+    /// Has spares reclaimed, and says whether one was.
+    pub(crate) fn collect<R: Wait>(&self, rt: &R) -> bool {
+        let collected = self.evictor.lock(rt).collect(rt, &self.table, &self.queue);
+        collected.reclaimed > 0
     }
 
     /// Hands over the spares that the caller's calls have left, as far as the queue has room.

@@ -15,6 +15,7 @@ use std::alloc::Global;
 use std::sync::Wait;
 use std::sync::atomic::Ordering;
 use std::thread::{Threads, join};
+use std::time::Clock;
 use swapper::QueueNaming;
 use version_words::Naming;
 
@@ -88,7 +89,7 @@ where
     B: QueueNaming + Send + Sync,
     D: Device + Send,
     G: Gate,
-    R: Threads + Wait + Sync,
+    R: Threads + Wait + Clock + Sync,
     ensures { IfOk result (λ r. WorkedAll J.limits shared.now.table.limit jobs.items (map (λ c. c.pass) r.0.items) (map (λ t. t.items) r.1.items)) }
 {
     if jobs.len() < 2 {

@@ -19,6 +19,7 @@ use std::io::Write;
 use std::marker::Brand;
 use std::sync::Wait;
 use std::thread::Threads;
+use std::time::Clock;
 use swapper::{QueueNaming, QueueOpening};
 use version_words::Naming;
 
@@ -38,7 +39,7 @@ where
     B: QueueNaming + Send + Sync,
     D: Device + Send,
     G: Gate,
-    R: Threads + Wait + Sync,
+    R: Threads + Wait + Clock + Sync,
     W: Write,
     requires queue { queue.table ≡ B.table }
     requires frames { 0 < config.frames }
@@ -69,7 +70,7 @@ where
     J: Naming + Send + Sync,
     D: Device + Send,
     G: Gate,
-    R: Threads + Wait + Sync,
+    R: Threads + Wait + Clock + Sync,
     W: Write,
     requires book { opening.row.book ≡ J.book }
     requires boards { opening.row.names ≡ J.names }
@@ -117,7 +118,7 @@ pub fn run_files<D, G, R, W>(
 where
     D: Device + Send,
     G: Gate,
-    R: Threads + Wait + Sync,
+    R: Threads + Wait + Clock + Sync,
     W: Write,
     requires within { first_bad_with (vec_len devices) config ≡ None }
     requires some { 0 < vec_len files }

@@ -16,6 +16,7 @@ use std::process::Abort;
 use std::sync::atomic::AtomicU64;
 use std::sync::{Arc, Wait};
 use std::thread::Threads;
+use std::time::Clock;
 use threaded_run::{Gate, OpenGate, ThreadedFault, run_files};
 
 type Lane = WatchedDevice<FaultyDevice<FakeDevice>>;
@@ -101,7 +102,7 @@ fn alone<R: Alloc<A = Global> + Abort>(rt: &R, lane: Lane) -> Vec<Lane>
 }
 
 /// Runs files of these bytes over one lane and four buckets. The result has what was written.
-fn run<G: Gate, R: Alloc<A = Global> + Threads + Wait + Abort + Sync>(
+fn run<G: Gate, R: Alloc<A = Global> + Threads + Wait + Clock + Abort + Sync>(
     rt: &R,
     settings: Settings,
     files: &[&[u8]],
@@ -112,7 +113,7 @@ fn run<G: Gate, R: Alloc<A = Global> + Threads + Wait + Abort + Sync>(
 }
 
 /// The same over this lane.
-fn run_over<G: Gate, R: Alloc<A = Global> + Threads + Wait + Abort + Sync>(
+fn run_over<G: Gate, R: Alloc<A = Global> + Threads + Wait + Clock + Abort + Sync>(
     rt: &R,
     settings: Settings,
     lane: Lane,
@@ -128,7 +129,7 @@ fn run_over<G: Gate, R: Alloc<A = Global> + Threads + Wait + Abort + Sync>(
 }
 
 /// Runs files, which have to be replied these lines.
-fn expect_written<R: Alloc<A = Global> + Threads + Wait + Abort + Sync>(
+fn expect_written<R: Alloc<A = Global> + Threads + Wait + Clock + Abort + Sync>(
     rt: &R,
     settings: Settings,
     files: &[&[u8]],
@@ -138,7 +139,7 @@ fn expect_written<R: Alloc<A = Global> + Threads + Wait + Abort + Sync>(
 }
 
 /// Runs files, whose run has to end in this way once it has written these lines.
-fn expect_run<G: Gate, R: Alloc<A = Global> + Threads + Wait + Abort + Sync>(
+fn expect_run<G: Gate, R: Alloc<A = Global> + Threads + Wait + Clock + Abort + Sync>(
     rt: &R,
     settings: Settings,
     files: &[&[u8]],

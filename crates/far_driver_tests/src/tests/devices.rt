@@ -12,10 +12,11 @@ use std::str;
 use std::sync::atomic::{AtomicU64, Ordering};
 use std::sync::{Arc, Wait};
 use std::thread::Threads;
+use std::time::Clock;
 use threaded_run::{Gate, OpenGate};
 
 /// Runs one file over this device alone.
-fn run_over<D: Device + Send, G: Gate, R: Threads + Wait + AllocGlobal + Abort + Sync>(
+fn run_over<D: Device + Send, G: Gate, R: Threads + Wait + Clock + AllocGlobal + Abort + Sync>(
     rt: &R,
     device: D,
     file: &[u8],
@@ -35,7 +36,7 @@ fn run_over<D: Device + Send, G: Gate, R: Threads + Wait + AllocGlobal + Abort +
 }
 
 /// Runs one file over this device, and checks how it ends and what is written.
-fn assert_over<D: Device + Send, R: Threads + Wait + AllocGlobal + Abort + Sync>(
+fn assert_over<D: Device + Send, R: Threads + Wait + Clock + AllocGlobal + Abort + Sync>(
     rt: &R,
     device: D,
     file: &[u8],
@@ -188,7 +189,7 @@ fn assert_answered(
 }
 
 /// Runs the file over a device whose call of this number fails, and answers whether one failed.
-fn assert_failing<R: Threads + Wait + AllocGlobal + Abort + Sync>(
+fn assert_failing<R: Threads + Wait + Clock + AllocGlobal + Abort + Sync>(
     rt: &R,
     file: &str,
     fails: u64,
