@@ -88,7 +88,7 @@ alone_placed word v is = record {
   };
 }
 
-pub key_placed : (first rest key : List ℕ) (v : OfKey) (from n : ℕ) → first ≡ of_key_name v → words_in rest ≡ key ∷ [] → IsWord key → n ≡ length key → PlacesWords (first ∷ words_in rest) rest from (place.OfKey v from n)
+pub key_placed : (first rest key : List ℕ) (v : OfKey) (from n : ℕ) → first ≡ of_key_name v → words_in rest ≡ key ∷ [] → IsWord key → n ≡ length key → PlacesWords (first ∷ words_in rest) rest from (place.OfKey v n from)
 key_placed first rest key v from n is words word count =
     let all : rest ≡ key = spelt rest (key ∷ []) words in
     record {
@@ -102,7 +102,7 @@ key_placed first rest key v from n is words word count =
     }
 
 pub pair_placed : (first rest key value : List ℕ) (v : OfPair) (from n m : ℕ) → first ≡ of_pair_name v → words_in rest ≡ key ∷ value ∷ [] → IsWord key → IsWord value → n ≡ length key → m ≡ length value
-    → PlacesWords (first ∷ words_in rest) rest from (place.OfPair v from n m)
+    → PlacesWords (first ∷ words_in rest) rest from (place.OfPair v n m from)
 pair_placed first rest key value v from n m is words word other count counted =
     let all : rest ≡ key ++ 32 ∷ value = spelt rest (key ∷ value ∷ []) words in
     record {
@@ -121,7 +121,7 @@ pair_placed first rest key value v from n m is words word other count counted =
     }
 
 pub put_if_placed : (first rest key expected value : List ℕ) (from n e m : ℕ) → first ≡ name_of verb.PutIf → words_in rest ≡ key ∷ expected ∷ value ∷ [] → IsWord key → IsWord expected → IsWord value
-    → n ≡ length key → e ≡ length expected → m ≡ length value → PlacesWords (first ∷ words_in rest) rest from (place.PutIf from n e m)
+    → n ≡ length key → e ≡ length expected → m ≡ length value → PlacesWords (first ∷ words_in rest) rest from (place.PutIf n e m from)
 put_if_placed first rest key expected value from n e m is words word middle other count counted last =
     let all : rest ≡ key ++ 32 ∷ (expected ++ 32 ∷ value) = spelt rest (key ∷ expected ∷ value ∷ []) words in
     let second : rest ≡ (key ++ 32 ∷ []) ++ (expected ++ 32 ∷ value) = all ∙ sym (append_assoc key (32 ∷ []) (expected ++ 32 ∷ value)) in

@@ -42,16 +42,16 @@ part text from count = take count (drop from text)
 -- the texts of a command stand one behind the other, with a byte between
 abbrev pub command_in : List ℕ → Place → Command
 command_in text (place.Alone verb) = of_alone verb
-command_in text (place.OfKey verb from key) = of_key verb (part text from key)
-command_in text (place.OfPair verb from key value) = of_pair verb (part text from key) (part text (from + key + 1) value)
-command_in text (place.PutIf from key expected value) = Map (PutIf (part text from key) (part text (from + key + 1) expected) (part text (from + key + expected + 2) value))
+command_in text (place.OfKey verb key from) = of_key verb (part text from key)
+command_in text (place.OfPair verb key value from) = of_pair verb (part text from key) (part text (from + key + 1) value)
+command_in text (place.PutIf key expected value from) = Map (PutIf (part text from key) (part text (from + key + 1) expected) (part text (from + key + expected + 2) value))
 
 -- where its last word ends
 abbrev pub end_of : Place → ℕ
 end_of (place.Alone verb) = 0
-end_of (place.OfKey verb from key) = from + key
-end_of (place.OfPair verb from key value) = from + key + value + 1
-end_of (place.PutIf from key expected value) = from + key + expected + value + 2
+end_of (place.OfKey verb key from) = from + key
+end_of (place.OfPair verb key value from) = from + key + value + 1
+end_of (place.PutIf key expected value from) = from + key + expected + value + 2
 
 -- all of them end within so many bytes
 abbrev pub AreWithin : ℕ → List Place → Type 0

@@ -68,26 +68,26 @@ fn place_words(first: &[u8], rest: &[u8], from: usize) -> Option<Place>
             let key = one_word(rest)?;
             Some(Place::OfKey {
                 verb,
-                from,
                 key: key.len() as u8,
+                from,
             })
         }
         Verb::OfPair(verb) => {
             let (key, value) = two_words(rest)?;
             Some(Place::OfPair {
                 verb,
-                from,
                 key: key.len() as u8,
                 value: value.len() as u8,
+                from,
             })
         }
         Verb::PutIf => {
             let (key, expected, value) = three_words(rest)?;
             Some(Place::PutIf {
-                from,
                 key: key.len() as u8,
                 expected: expected.len() as u8,
                 value: value.len() as u8,
+                from,
             })
         }
     }

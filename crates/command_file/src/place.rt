@@ -7,26 +7,27 @@ use crate::verb::{Alone, OfKey, OfPair};
 use far_object::{Memory, Text};
 use std::alloc::Global;
 
-/// A command's verb, where the first of its texts begins, and the length of each. Between two of them stands a byte.
+/// A command's verb, the length of each of its texts, and where the first of them begins. Between two of them stands a byte.
+/// The place comes last, so that a command takes 16 bytes.
 #[derive(Clone, Copy)]
 pub(crate) enum Place {
     Alone(Alone),
     OfKey {
         verb: OfKey,
-        from: usize,
         key: u8,
+        from: usize,
     },
     OfPair {
         verb: OfPair,
-        from: usize,
         key: u8,
         value: u8,
+        from: usize,
     },
     PutIf {
-        from: usize,
         key: u8,
         expected: u8,
         value: u8,
+        from: usize,
     },
 }
 
@@ -49,15 +50,15 @@ impl Place {
     {
         match self {
             Place::Alone(verb) => Ok(verb.command()),
-            Place::OfKey { verb, from, key } => {
+            Place::OfKey { verb, key, from } => {
                 let key = copy(alloc, text, from, key)?;
                 Ok(verb.command(key))
             }
             Place::OfPair {
                 verb,
-                from,
                 key,
                 value,
+                from,
             } => {
                 let second = from + usize::from(key) + 1;
                 let key = copy(alloc, text, from, key)?;
@@ -65,10 +66,10 @@ impl Place {
                 Ok(verb.command(key, value))
             }
             Place::PutIf {
-                from,
                 key,
                 expected,
                 value,
+                from,
             } => {
                 let second = from + usize::from(key) + 1;
                 let third = second + usize::from(expected) + 1;
