@@ -2,7 +2,7 @@
 //!
 //! # A command takes no memory until it is asked for
 //!
-//! A command with its texts takes three times as much memory as its line, in pieces of which each is asked for and given back
+//! A command with its texts takes more than twice as much memory as its line, in pieces of which each is asked for and given back
 //! by itself. A file may have 65,536 of them, which wait until they are run. So a script keeps the file's text, which was read
 //! in any case, and of each command where its words lie there: 16 bytes. The command itself is made when it is run, and given
 //! back before the next.
