@@ -8,6 +8,7 @@ pub mod Progress
 pub mod Unique
 pub mod Written
 pub mod Texts
+pub mod Windows
 pub mod Placing
 pub mod Cutting
 pub mod Scanning

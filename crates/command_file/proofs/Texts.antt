@@ -1,17 +1,16 @@
 -- The lines that were taken from a reader, and what they spell.
-use Rattle.std.proofs.Common.{◌≡◌, ◌≢◌, ℕ, ◌+◌, ◌≤◌, Bool, true, false, cond, eqb, List, [], ◌∷◌, ◌++◌, length, take, drop, get_or, take-append-drop, length-drop, ◌<◌, refl, sym, ap, subst, ◌∙◌, arith, append_assoc, append-nil, length-append}
+use Rattle.std.proofs.Common.{◌≡◌, ◌≢◌, ℕ, ◌+◌, ◌≤◌, Bool, true, false, cond, eqb, List, [], ◌∷◌, ◌++◌, length, take, refl, sym, ap, subst, ◌∙◌, arith, append_assoc, append-nil, length-append}
 use Rattle.std.proofs.lemmas.Bool.{eqb-false}
 use mathlib.Core.List.{IsPrefix}
 use Rattle.std.specs.Prelude.{Result, Option, Some, None, IfSome, ⊤, Ok, Err, IsTrue, ◌↔◌}
 use Rattle.std.specs.List.{AllByRecursion, onto_first}
 use Rattle.std.specs.Io.KnownBytes.{IsAtEnd}
-use Rattle.std.proofs.lemmas.List.{take_at, take-append-le, length-take-le, take_more}
-use Rattle.std.proofs.Math.Seq.{take-append-add}
+use Rattle.std.proofs.lemmas.List.{take_at, take-append-le}
 use Rattle.std.proofs.lemmas.List.Elements.{All-cons, All-nil}
 use Rattle.command_file.specs.declared.fault.FileFault.{FileFault}
 use Rattle.command_file.specs.declared.fault.FileFault.TheVariants.{BadLine, TooManyLines, Read, Memory}
 use Rattle.command_file.specs.Lines.{lines_of}
-use Rattle.command_file.specs.Reading.{HasNoFeed, TakesLine, BeginsTooLong, IsOfReading, spelled, AreWhole, TakesWhole}
+use Rattle.command_file.specs.Reading.{HasNoFeed, TakesLine, BeginsTooLong, IsOfReading, spelled, TakesWhole}
 use Rattle.command_file.specs.declared.command.Command.{Command}
 use Rattle.command_file.specs.Grammar.{IsGood}
 use Rattle.command_file.specs.Files.{most_lines, IsFile, IsBadLine, IsTooMany, IsFileFault}
@@ -82,14 +81,14 @@ taken_line (Some bytes) (Some now) (Some rest) number text line more far takes i
 
 -- ---- many lines at once
 
-spelled_append : (lines more : List (List ℕ)) → spelled (lines ++ more) ≡ spelled lines ++ spelled more
+pub spelled_append : (lines more : List (List ℕ)) → spelled (lines ++ more) ≡ spelled lines ++ spelled more
 spelled_append [] more = refl
 spelled_append (line ∷ lines) more =
     ap (λ (l : List ℕ). line ++ 10 ∷ l) (spelled_append lines more) ∙ sym (append_assoc line (10 ∷ spelled lines) (spelled more))
 
-free_append : (lines more : List (List ℕ)) → AllByRecursion HasNoFeed lines → AllByRecursion HasNoFeed more → AllByRecursion HasNoFeed (lines ++ more)
-free_append [] more free new = new
-free_append (line ∷ lines) more free new = (free.0, free_append lines more free.1 new)
+pub all_append : (P : List ℕ → Type 0) (lines more : List (List ℕ)) → AllByRecursion P lines → AllByRecursion P more → AllByRecursion P (lines ++ more)
+all_append P [] more all new = new
+all_append P (line ∷ lines) more all new = (all.0, all_append P lines more all.1 new)
 
 -- whole lines at the front of bytes are the first of their lines
 lines_of-whole : (lines : List (List ℕ)) (rest : List ℕ) → AllByRecursion HasNoFeed lines → lines_of (spelled lines ++ rest) ≡ lines ++ lines_of rest
@@ -111,34 +110,7 @@ taken_whole (Some bytes) (Some now) (Some rest) number next count text more far 
       is = far.is ∙ ap (λ l. far.before ++ l) first ∙ sym (append_assoc far.before w.lines (lines_of rest));
       counted = omega (arith, far.counted, w.counted, length-append far.before w.lines, sum);
       text_is = takes.put ∙ ap (λ (l : List ℕ). text ++ l) w.is ∙ ap (λ (t : List ℕ). t ++ spelled w.lines) far.text_is ∙ sym (spelled_append far.before w.lines);
-      free = free_append far.before w.lines far.free w.free;
-    }
-
--- whole lines among bytes, up to this place
-pub record Whole (bytes : List ℕ) (end count : ℕ) : Type 0 where
-  pub whole : AreWhole (take end bytes) count
-  pub within : end ≤ length bytes
-
-pub whole_none : (bytes : List ℕ) → Whole bytes 0 0
-whole_none bytes = record { whole = record { lines = []; free = tt; is = refl; counted = refl }; within = omega arith }
-
--- one more, which ends at the first LF behind it
-pub whole_more : (bytes : List ℕ) (end count at : ℕ) → Whole bytes end count → at < length (drop end bytes) → get_or (drop end bytes) at 0 ≡ 10 → HasNoFeed (take at (drop end bytes)) → Whole bytes (end + (at + 1)) (count + 1)
-whole_more bytes end count at w inside feed free =
-    let line = take at (drop end bytes) in
-    let front : take end bytes ++ drop end bytes ≡ bytes = take-append-drop end bytes in
-    let next : take (at + 1) (drop end bytes) ≡ line ++ 10 ∷ [] = take_more (drop end bytes) at 0 inside ∙ ap (λ b. line ++ b ∷ []) feed in
-    let all : take (end + (at + 1)) bytes ≡ take end bytes ++ take (at + 1) (drop end bytes) =
-    ap (take (end + (at + 1))) (sym front)
-    ∙ subst (λ n. take (n + (at + 1)) (take end bytes ++ drop end bytes) ≡ take end bytes ++ take (at + 1) (drop end bytes)) (length-take-le end bytes w.within) (take-append-add (take end bytes) (drop end bytes) (at + 1)) in
-    record {
-      whole = record {
-        lines = w.whole.lines ++ line ∷ [];
-        free = free_push w.whole.lines line w.whole.free free;
-        is = all ∙ ap (λ (l : List ℕ). take end bytes ++ l) next ∙ ap (λ (l : List ℕ). l ++ (line ++ 10 ∷ [])) w.whole.is ∙ sym (spelled_more w.whole.lines line);
-        counted = omega (arith, w.whole.counted, length-append w.whole.lines (line ∷ []));
-      };
-      within = omega (arith, inside, w.within, length-drop end bytes);
+      free = all_append HasNoFeed far.before w.lines far.free w.free;
     }
 
 -- ---- where the taking ends

@@ -49,10 +49,15 @@ abbrev pub spelled : List (List ℕ) → List ℕ
 spelled [] = []
 spelled (line ∷ lines) = line ++ 10 ∷ spelled lines
 
--- the bytes are so many lines, each with an LF behind it
+-- the line is no longer than a line may be
+abbrev pub IsShort : List ℕ → Type 0
+IsShort line = length line ≤ 1024
+
+-- the bytes are so many lines, none too long and each with an LF behind it
 pub record AreWhole (bytes : List ℕ) (count : ℕ) : Type 0 where
   pub lines : List (List ℕ)
   pub free : AllByRecursion HasNoFeed lines
+  pub short : AllByRecursion IsShort lines
   pub is : bytes ≡ spelled lines
   pub counted : length lines ≡ count
 

@@ -11,6 +11,7 @@ mod script;
 mod search;
 mod text;
 mod verb;
+mod whole;
 mod words;
 
 pub use command::{Command, MapCommand, TableCommand};

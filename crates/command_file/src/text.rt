@@ -1,17 +1,16 @@
 //! A file's lines as they were read, before they are parsed: files are read one after another, and may be parsed side by side.
-ghost use Rattle.std.specs.Prelude.{◌≡◌, ◌≤◌, ◌++◌, ◌∷◌, ℕ, List, [], All, length, take, Ok, IfSome, IfOk, IfErr, OnOk, OnErr, OnSome};
+ghost use Rattle.std.specs.Prelude.{◌≡◌, ◌≤◌, ◌++◌, ◌∷◌, ℕ, List, [], All, length, Ok, IfSome, IfOk, IfErr, OnOk, OnErr, OnSome};
 ghost use Rattle.std.specs.Io.KnownBytes.{IsAtEnd};
 ghost use Rattle.command_file.specs.Grammar.{IsCommand};
 ghost use Rattle.command_file.specs.Lines.{lines_of};
 ghost use Rattle.command_file.specs.Files.{IsFile, IsFileFault, IsNumbered};
-ghost use Rattle.command_file.specs.Reading.{IsOfReading, AreWhole, TakesWhole};
+ghost use Rattle.command_file.specs.Reading.{IsOfReading, TakesWhole};
 ghost use Rattle.command_file.specs.Texts.{EndsSo};
 
 use crate::fault::FileFault;
 use crate::line::{LineRead, is_at_end, next_line};
-use crate::parse::LONGEST_LINE;
 use crate::script::{MOST_LINES, Script};
-use crate::search::first_place;
+use crate::whole::whole_lines;
 use std::alloc::Global;
 use std::io::{BufRead, ErrorKind};
 use std::marker::Model;
@@ -46,23 +45,6 @@ fn add(text: &mut Vec<u8>, line: &[u8]) -> Result<(), FileFault>
     text.extend_from_slice(line)?;
     text.push(b'\n')?;
     Ok(())
-}
-
-/// How many bytes whole lines take at the front of these bytes, and how many lines they are: no more than so many, and none
-/// that is too long.
-fn whole_lines(bytes: &[u8], most: u32) -> (usize, u32)
-    ensures whole { AreWhole (take result.0 bytes.now) result.1 }
-    ensures within { result.0 ≤ length bytes.now }
-    ensures few { result.1 ≤ most }
-{
-    let mut end = 0;
-    for count in 0..most {
-        match first_place(b'\n', &bytes[end..]) {
-            Some(at) if at <= LONGEST_LINE => end += at + 1,
-            _ => return (end, count),
-        }
-    }
-    (end, most)
 }
 
 /// Puts the whole lines that the reader shows behind the text, no more than so many, and says how many they are.

@@ -8,13 +8,19 @@ use std::io;
 use std::io::{BufRead, BufReader, ErrorKind, Read};
 use std::process::Abort;
 
+/// More looks than a test has.
+const NEVER: u32 = u32::MAX;
+
+/// How many bytes a reader shows at once: few, about as many as the longest line has, and all.
+const SHOWN: [usize; 5] = [7, 1024, 1025, 1026, usize::MAX];
+
 /// Gives `size` bytes at a time, and fails at the look with the number `failing`, counted from 0.
 #[derive(Drop)]
 struct Faltering<'a> {
     rest: &'a [u8],
     size: usize,
-    looks: u8,
-    failing: u8,
+    looks: u32,
+    failing: u32,
     kind: ErrorKind,
 }
 
@@ -52,7 +58,7 @@ fn fault_of(alloc: Global, bytes: &[u8]) -> Option<FileFault> {
 }
 
 /// The fault of a file whose look of this number fails, parsed after it was read.
-fn fault_of_text(alloc: Global, rest: &'static [u8], failing: u8) -> Option<FileFault> {
+fn fault_of_text(alloc: Global, rest: &'static [u8], failing: u32) -> Option<FileFault> {
     let mut file = Faltering {
         rest,
         size: 5,
@@ -61,6 +67,22 @@ fn fault_of_text(alloc: Global, rest: &'static [u8], failing: u8) -> Option<File
         kind: ErrorKind::Other,
     };
     FileText::read(alloc, &mut file).parse(alloc).err()
+}
+
+/// How many commands a file says, or its fault, and how many of its bytes were left where the reading ended.
+fn read_shown(alloc: Global, rest: &[u8], size: usize) -> (Result<usize, FileFault>, usize) {
+    let mut file = Faltering {
+        rest,
+        size,
+        looks: 0,
+        failing: NEVER,
+        kind: ErrorKind::Other,
+    };
+    let found = match FileText::read(alloc, &mut file).parse(alloc) {
+        Ok(script) => Ok(script.len()),
+        Err(fault) => Err(fault),
+    };
+    (found, file.rest.len())
 }
 
 /// The letter of a command on the map, and its texts.
@@ -254,6 +276,86 @@ fn long_lines(rt: HostRuntime) {
     }
 }
 
+/// A line of so many bytes behind so many empty ones, and a good one behind it.
+fn file_of_long(alloc: Global, empty: usize, len: u16) -> Result<Vec<u8>, AllocError> {
+    let mut file = Vec::new(alloc);
+    file.resize(empty, b'\n')?;
+    file.resize(file.len() + usize::from(len), b'a')?;
+    file.extend_from_slice(b"\nget a\n")?;
+    Ok(file)
+}
+
+/// The reading goes on behind a line of 1,024 bytes, and stops at a longer one, wherever they begin.
+#[test]
+fn long_lines_behind_others(rt: HostRuntime) {
+    for empty in [0, 1, 2, 1023, 1024, 1025, 1026, 2049, 2050] {
+        let bad = Err(FileFault::BadLine(empty as u32 + 1));
+        for size in SHOWN {
+            let file = made(&rt, file_of_long(rt.alloc(), empty, 1024));
+            let found = read_shown(rt.alloc(), file.as_slice(), size);
+            holds(&rt, found == (bad, 0));
+            let file = made(&rt, file_of_long(rt.alloc(), empty, 1025));
+            let (found, left) = read_shown(rt.alloc(), file.as_slice(), size);
+            holds(&rt, found == bad && 6 < left);
+        }
+    }
+}
+
+/// A line of so many bytes, and so many of six bytes, and those as `shown` shows them.
+fn file_of_short(
+    alloc: Global,
+    first: usize,
+    count: usize,
+) -> Result<(Vec<u8>, Vec<u8>), AllocError> {
+    let mut file = Vec::from_slice(alloc, b"get ")?;
+    let mut wanted = Vec::from_slice(alloc, b"g/")?;
+    for _ in 0..first {
+        file.push(b'a')?;
+        wanted.push(b'a')?;
+    }
+    wanted.extend_from_slice(b"//")?;
+    file.push(b'\n')?;
+    for _ in 0..count {
+        file.extend_from_slice(b"get b\n")?;
+        wanted.extend_from_slice(b"g/b//")?;
+    }
+    Ok((file, wanted))
+}
+
+/// Lines of six bytes, which end at each place about 1,025 bytes.
+#[test]
+fn short_lines_behind_one_another(rt: HostRuntime) {
+    for first in 1..7 {
+        let (file, wanted) = made(&rt, file_of_short(rt.alloc(), first, 400));
+        for size in SHOWN {
+            let mut shown = Faltering {
+                rest: file.as_slice(),
+                size,
+                looks: 0,
+                failing: NEVER,
+                kind: ErrorKind::Other,
+            };
+            assert_shown(&rt, rt.alloc(), &mut shown, wanted.as_slice());
+        }
+    }
+}
+
+/// As many lines as a file may have, one less and one more.
+#[test]
+fn most_lines(rt: HostRuntime) {
+    let (file, _) = made(&rt, file_of_short(rt.alloc(), 1, 65_536));
+    let bytes = file.as_slice();
+    let len = bytes.len();
+    for size in [7, 1025, 32_768, usize::MAX] {
+        let found = read_shown(rt.alloc(), &bytes[..len.saturating_sub(12)], size);
+        holds(&rt, found == (Ok(65_535), 0));
+        let found = read_shown(rt.alloc(), &bytes[..len.saturating_sub(6)], size);
+        holds(&rt, found == (Ok(65_536), 0));
+        let found = read_shown(rt.alloc(), bytes, size);
+        holds(&rt, found == (Err(FileFault::TooManyLines), 6));
+    }
+}
+
 #[test]
 fn many_lines(rt: HostRuntime) {
     let mut file = Vec::new(rt.alloc());
@@ -327,9 +429,9 @@ fn lines_parsed_after_they_were_read(rt: HostRuntime) {
             fault_of_text(rt.alloc(), good, failing) == Some(FileFault::Read),
         );
     }
-    holds(&rt, fault_of_text(rt.alloc(), good, 255).is_none());
+    holds(&rt, fault_of_text(rt.alloc(), good, NEVER).is_none());
     // The first line is bad, whether the reading behind it fails or not.
-    for failing in [2, 255] {
+    for failing in [2, NEVER] {
         let found = fault_of_text(rt.alloc(), b"bad\nget b\n", failing);
         holds(&rt, found == Some(FileFault::BadLine(1)));
     }

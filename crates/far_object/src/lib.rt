@@ -29,5 +29,6 @@ pub use laws::{
     values_are_where_encodings_begin,
 };
 pub use object::{Entry, MOST_PAIRS, Object};
+pub use order::order as compare_bytes;
 pub use text::Text;
 pub use traits::FarObject;

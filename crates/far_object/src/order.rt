@@ -6,9 +6,9 @@ ghost use Rattle.std.specs.Cmp.Lexicographic.{slice_cmp};
 
 use std::cmp::Ordering;
 
-/// How the lists compare, as `cmp` would tell. Eight bytes compare as the numbers that they spell
-/// with the highest byte first.
-pub(crate) fn order(own: &[u8], other: &[u8]) -> Ordering
+/// How the lists compare, as `cmp` would tell: so encodings in memory are put in order. Eight bytes compare
+/// as the numbers that they spell with the highest byte first.
+pub fn order(own: &[u8], other: &[u8]) -> Ordering
     ensures { result ≡ slice_cmp nat_cmp own.now other.now }
 {
     let mut left = own;

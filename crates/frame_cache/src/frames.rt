@@ -163,12 +163,12 @@ impl<K: FarObject, V: FarObject, J: Naming> Frames<K, V, J> {
         None
     }
 
-    // The first frame of those that the 64 words from `64 * at` name.
-    fn reserve_below(&self, at: u32) -> Option<Reserved<'_, K, V, J>>
+    // The first frame of those that the 64 words from `64 * at` name, but for the first so many of the words.
+    fn reserve_below(&self, at: u32, passed_over: u32) -> Option<Reserved<'_, K, V, J>>
         requires { at < 1000 }
         ensures { IfSome result (λ reserved. reserved < self.now) }
     {
-        let mut bits = self.vacant.words(at as usize);
+        let mut bits = self.vacant.words(at as usize) & u64::MAX.wrapping_shl(passed_over);
         for _ in 0..WORD {
             if bits == 0 {
                 return None;
@@ -189,7 +189,7 @@ impl<K: FarObject, V: FarObject, J: Naming> Frames<K, V, J> {
         ensures here { IfOk result (λ reserved. reserved < self.now) }
     {
         for at in 0..UPPER_WORDS {
-            if let Some(reserved) = self.reserve_below(at) {
+            if let Some(reserved) = self.reserve_below(at, 0) {
                 return Ok(reserved);
             }
         }
@@ -206,6 +206,23 @@ impl<K: FarObject, V: FarObject, J: Naming> Frames<K, V, J> {
             }
         }
         Err(NoFrame)
+    }
+
+    /// As `reserve`, but the frames from this one on are looked at first, and before it those that are named by the same 64
+    /// bits; then all. Callers who begin far from one another take and clear bits of their own, and don't wait for one
+    /// another. No clause says which frame comes.
+    pub fn reserve_from(&self, frame: u32) -> Result<Reserved<'_, K, V, J>, NoFrame>
+        ensures here { IfOk result (λ reserved. reserved < self.now) }
+    {
+        let word = frame / WORD;
+        let mut passed_over = word % WORD;
+        for at in word / WORD..UPPER_WORDS {
+            if let Some(reserved) = self.reserve_below(at, passed_over) {
+                return Ok(reserved);
+            }
+            passed_over = 0;
+        }
+        self.reserve()
     }
 
     // Frames are looked for one by one from now on, before none is said to be free.

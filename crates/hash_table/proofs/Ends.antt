@@ -1,12 +1,10 @@
 -- The pairs of all buckets at one front of all passes.
-use Rattle.std.proofs.Common.{◌≡◌, ◌≢◌, ℕ, zero, suc, ◌+◌, ◌<◌, ◌==◌, Bool, true, false, IsTrue, List, [], ◌∷◌, ◌++◌, length, slice_index_or, slice_set, refl, ap, sym, ◌∙◌, subst, arith}
-use Rattle.std.proofs.lemmas.Bool.Decides.{nat_tests}
-use Rattle.std.proofs.lemmas.List.{get_or_default, get_or-set_other, get_or-set_same, get_or_append_left, get_or-append-add, append-nil, append_assoc, length-append, length-set, length-map}
+use Rattle.std.proofs.Common.{◌≡◌, ℕ, zero, suc, ◌+◌, ◌<◌, Bool, IsTrue, List, [], ◌∷◌, ◌++◌, length, slice_index_or, slice_set, refl, ap, sym, ◌∙◌, subst, arith}
+use Rattle.std.proofs.lemmas.List.{get_or_append_left, get_or-append-add, append-nil, append_assoc, length-append, length-map}
 use Rattle.std.proofs.lemmas.List.Sorted.{length_permutation}
-use Rattle.std.specs.List.Sorted.{IsPermutation, IsSortedBy}
-use Rattle.std.specs.Ordering.{is_lt}
+use Rattle.std.specs.List.Sorted.{IsPermutation}
 use mathlib.Core.List.{IsPrefix}
-use Rattle.far_object.specs.Buckets.{key_cmp}
+use Rattle.far_pairs.specs.Bundles.{all_of}
 use Rattle.table_core.specs.Laws.{BucketsMakeMap}
 use Rattle.table_core.specs.declared.event.Event.{Event}
 use Rattle.table_core.specs.declared.limits.Limits.{Limits}
@@ -19,7 +17,7 @@ use Rattle.version_words.specs.Laws.{SameHistory}
 use Rattle.version_words.specs.Views.{PassView, Goes, IsWhole, AreNone, AreApart, calls_of}
 use Rattle.version_words.proofs.Fronts.{prefix_self, prefix_trans}
 use Rattle.hash_table.specs.declared.caller.Caller.{Caller}
-use Rattle.hash_table.specs.Closes.{IsClosed, ClosesSorted, AreBack, AreTold, AllSeen, ArePairs, HistoryStays, pairs_from, passes}
+use Rattle.hash_table.specs.Closes.{ClosesSorted, AreBack, AreTold, AllSeen, ArePairs, HistoryStays, pairs_from, passes}
 use Rattle.hash_table.proofs.Fronts.{goes_self, goes_trans}
 
 -- ---- parts of joined lists
@@ -51,18 +49,23 @@ module _ {K V : Type 0} (ek : K → List ℕ) (ev : V → List ℕ) (l : Limits)
   pub gathered_none : (is_honest : Bool) (mark : List (Event K V)) (start : PassView K V) (from : ℕ) → IsPrefix mark start.front → Gathered is_honest mark start start [] from 0
   gathered_none is_honest mark start from told = record { goes = goes_self start; told = told; pairs = λ _ _ _ _. refl }
 
-  pub gathered_more : (is_honest : Bool) (mark : List (Event K V)) (start now next : PassView K V) (items more all : List (K × V)) (from n : ℕ) → Gathered is_honest mark start now items from n → Goes now next → all ≡ items ++ more
-      → (IsTrue is_honest → more ≡ part next.front (from + n)) → Gathered is_honest mark start next all from (n + 1)
-  gathered_more is_honest mark start now next items more all from n so goes is seen = record {
+  pub gathered_next : (is_honest : Bool) (mark : List (Event K V)) (start now next : PassView K V) (items all : List (K × V)) (from n : ℕ) → Gathered is_honest mark start now items from n → Goes now next
+      → (IsTrue is_honest → all ≡ items ++ part next.front (from + n)) → Gathered is_honest mark start next all from (n + 1)
+  gathered_next is_honest mark start now next items all from n so goes seen = record {
     goes = goes_trans so.goes goes;
     told = prefix_trans mark now.front next.front so.told goes.grows;
     pairs = λ honest log later stays.
         let told : IsPrefix mark next.front = prefix_trans mark now.front next.front so.told goes.grows in
         let old : items ≡ pairs_from ek ev l log from n = so.pairs honest log (prefix_trans now.front next.front log goes.grows later) stays in
         let at : history next.front ≡ history log = stays next.front told later ∙ sym (stays log (prefix_trans mark next.front log told later) (prefix_self log)) in
-        let new : more ≡ part log (from + n) = seen honest ∙ ap (λ (h : List (ℕ × Operation K V)). at_bucket ek l.buckets (from + n) (map_of ek ev h)) at in
-        is ∙ (ap (λ (z : List (K × V)). z ++ more) old ∙ (ap (λ (z : List (K × V)). pairs_from ek ev l log from n ++ z) new ∙ sym (joined_more (λ i. part log (from + i)) n)));
+        let new : part next.front (from + n) ≡ part log (from + n) = ap (λ (h : List (ℕ × Operation K V)). at_bucket ek l.buckets (from + n) (map_of ek ev h)) at in
+        seen honest ∙ (ap (λ (z : List (K × V)). z ++ part next.front (from + n)) old ∙ (ap (λ (z : List (K × V)). pairs_from ek ev l log from n ++ z) new ∙ sym (joined_more (λ i. part log (from + i)) n)));
   }
+
+  pub gathered_more : (is_honest : Bool) (mark : List (Event K V)) (start now next : PassView K V) (items more all : List (K × V)) (from n : ℕ) → Gathered is_honest mark start now items from n → Goes now next → all ≡ items ++ more
+      → (IsTrue is_honest → more ≡ part next.front (from + n)) → Gathered is_honest mark start next all from (n + 1)
+  gathered_more is_honest mark start now next items more all from n so goes is seen =
+      gathered_next is_honest mark start now next items all from n so goes (λ honest. is ∙ ap (λ (z : List (K × V)). items ++ z) (seen honest))
 
   whole_from : (log : List (Event K V)) (old new : PassView K V) → Goes old new → IsWhole log new → IsWhole log old
   whole_from log old new goes whole = record {
@@ -138,6 +141,14 @@ module _ {K V : Type 0} (ek : K → List ℕ) (ev : V → List ℕ) (l : Limits)
         → (IsTrue l.honest → (log : List (Event K V)) → IsPrefix now.pass.front log → HistoryStays mark log → items ≡ pairs_from ek ev l log from count) → ArePairs ek ev l mark (slice_set olds 0 now) from count items
     pairs_by_first mark [] now from count items some so = absurd (omega (arith, some))
     pairs_by_first mark (c ∷ cs) now from count items some so = record { are = λ honest log seen stays. so honest log (seen.each 0 now (omega arith)) stays }
+
+    -- the same of the one bundle of a list
+    pub bundle_by_first : (mark : List (Event K V)) (olds : List (Caller K V J)) (now : Caller K V J) (from count : ℕ) (none bundles : List (List (K × V))) (bundle : List (K × V)) → none ≡ [] → bundles ≡ none ++ bundle ∷ [] → 0 < length olds
+        → (IsTrue l.honest → (log : List (Event K V)) → IsPrefix now.pass.front log → HistoryStays mark log → bundle ≡ pairs_from ek ev l log from count) → ArePairs ek ev l mark (slice_set olds 0 now) from count (all_of bundles)
+    bundle_by_first mark olds now from count none bundles bundle empty is some so =
+        let alone : all_of bundles ≡ bundle =
+        ap (λ (z : List (List (K × V))). all_of z) is ∙ (ap (λ (z : List (List (K × V))). all_of (z ++ bundle ∷ [])) empty ∙ append-nil bundle) in
+        pairs_by_first mark olds now from count (all_of bundles) some (λ honest log later stays. alone ∙ so honest log later stays)
 
     pub pairs_by_both : (mark : List (Event K V)) (xs ys : List (Caller K V J)) (from half rest : ℕ) (one more all : List (K × V)) → ArePairs ek ev l mark xs from half one → ArePairs ek ev l mark ys (from + half) rest more → all ≡ one ++ more
         → ArePairs ek ev l mark (xs ++ ys) from (half + rest) all

@@ -1,21 +1,26 @@
 //! The pairs of all buckets, read at the end of a table: by one caller, or by several side by side.
-ghost use Rattle.std.specs.Prelude.{◌≡◌, ◌+◌, ◌++◌, ◌<◌, ◌≤◌, IsTrue, IfOk, IfErr, List, length};
+ghost use Rattle.std.specs.Prelude.{◌≡◌, ◌+◌, ◌++◌, ◌<◌, ◌≤◌, IsTrue, IfOk, IfErr, OnOk, List, length};
 ghost use Rattle.std.specs.Thread.{IsSync, IsSend};
 ghost use mathlib.Core.List.{IsPrefix};
+ghost use Rattle.far_pairs.specs.Bundles.{all_of};
 ghost use Rattle.table_core.specs.declared.event.Event.{Event};
+ghost use Rattle.table_core.specs.Maps.{at_bucket, map_of};
+ghost use Rattle.table_core.specs.Logs.{history};
 ghost use Rattle.version_words.specs.Views.{Goes};
 ghost use Rattle.hash_table.specs.Closes.{AreBack, AreTold, ArePairs, HistoryStays, pairs_from};
 ghost use Rattle.hash_table.specs.Stages.{IsUnreadFar};
 
 use crate::caller::Caller;
 use crate::refusal::Refusal;
+use crate::stages::seen::{Place, split};
 use crate::table::FarTable;
 use far_device::Device;
 use far_object::FarObject;
+use far_pairs::Bundle;
 use std::alloc::Global;
 use std::sync::Wait;
 use std::thread::{Threads, join_mut};
-use version_words::{Mark, Naming};
+use version_words::{Mark, Naming, empty_holds};
 
 /// So many buckets at most are read by one caller alone: fewer are not worth a thread.
 pub(crate) const PART: u32 = 16_384;
@@ -77,6 +82,106 @@ impl<K: FarObject, V: FarObject, J: Naming, D: Device> FarTable<K, V, J, D> {
             Err(refusal) => Err(refusal),
         }
     }
+
+    // Puts the pairs of a bucket, read by one try, behind those of the bundle.
+    fn bundle_bucket<R: Wait>(
+        &self,
+        rt: &R,
+        alloc: Global,
+        caller: &mut Caller<K, V, J>,
+        bucket: u32,
+        bundle: &mut Bundle<K, V>,
+    ) -> Result<(), Refusal>
+        requires bucket { bucket < J.limits.buckets }
+        ensures goes { Goes caller.old.pass caller.new.pass }
+        ensures limbo { caller.new.limbo ≡ caller.old.limbo }
+        ensures pairs { OnOk result (IsTrue J.limits.honest → bundle.new ≡ bundle.old ++ at_bucket K.enc J.limits.buckets bucket (map_of K.enc V.enc (history caller.new.pass.front))) }
+        ensures why { IfErr result (λ e. IsUnreadFar J.limits.honest e) }
+    {
+        let word = self.words.look(&mut caller.pass, bucket);
+        let object = match split(word) {
+            Place::Nothing => {
+                empty_holds::<K, V>();
+                return Ok(());
+            }
+            Place::Frame(frame) => {
+                let Ok(scope) = self.enter_frame(&caller.pass, bucket, word, frame) else {
+                    return Err(Refusal::Missed);
+                };
+                let added = bundle.add(scope.object());
+                scope.close();
+                return match added {
+                    Ok(()) => Ok(()),
+                    Err(_) => Err(Refusal::Memory),
+                };
+            }
+            Place::Device => match self.read_device(rt, alloc, &caller.pass, bucket, word) {
+                Ok(object) => object,
+                Err(refusal) => return Err(refusal),
+            },
+        };
+        match bundle.add(&object) {
+            Ok(()) => Ok(()),
+            Err(_) => Err(Refusal::Memory),
+        }
+    }
+
+    // As `read_range`, in a bundle.
+    fn bundle_range<R: Wait>(
+        &self,
+        rt: &R,
+        alloc: Global,
+        caller: &mut Caller<K, V, J>,
+        mark: &Mark<K, V, J>,
+        from: u32,
+        count: u32,
+    ) -> Result<Bundle<K, V>, Refusal>
+        requires within { from + count ≤ J.limits.buckets }
+        requires told { IsPrefix mark.now caller.old.pass.front }
+        ensures goes { Goes caller.old.pass caller.new.pass }
+        ensures limbo { caller.new.limbo ≡ caller.old.limbo }
+        ensures pairs { IfOk result (λ bundle. IsTrue J.limits.honest → (log : List (Event K V)) → IsPrefix caller.new.pass.front log → HistoryStays mark.now log
+            → bundle ≡ pairs_from K.enc V.enc J.limits log from count) }
+        ensures why { IfErr result (λ e. IsUnreadFar J.limits.honest e) }
+    {
+        let _buckets = self.words.buckets();
+        let mut bundle = Bundle::new(alloc);
+        for i in 0..count {
+            match self.bundle_bucket(rt, alloc, caller, from + i, &mut bundle) {
+                Ok(()) => {}
+                Err(refusal) => return Err(refusal),
+            }
+        }
+        Ok(bundle)
+    }
+
+    // The same, read by the first of the callers: the one bundle of a list.
+    fn bundle_by_first<R: Wait>(
+        &self,
+        rt: &R,
+        alloc: Global,
+        callers: &mut [Caller<K, V, J>],
+        mark: &Mark<K, V, J>,
+        from: u32,
+        count: u32,
+    ) -> Result<Vec<Bundle<K, V>>, Refusal>
+        requires within { from + count ≤ J.limits.buckets }
+        requires some { 0 < length callers.old }
+        requires told { AreTold mark.now callers.old }
+        ensures back { AreBack callers.old callers.new }
+        ensures pairs { IfOk result (λ v. ArePairs K.enc V.enc J.limits mark.now callers.new from count (all_of v.items)) }
+        ensures why { IfErr result (λ e. IsUnreadFar J.limits.honest e) }
+    {
+        let bundle = match self.bundle_range(rt, alloc, &mut callers[0], mark, from, count) {
+            Ok(bundle) => bundle,
+            Err(refusal) => return Err(refusal),
+        };
+        let mut alone = Vec::new(alloc);
+        match alone.push(bundle) {
+            Ok(()) => Ok(alone),
+            Err(_) => Err(Refusal::Memory),
+        }
+    }
 }
 
 impl<K, V, J, D> FarTable<K, V, J, D>
@@ -86,8 +191,8 @@ where
     J: Naming + Send + Sync,
     D: Device + Send,
 {
-    // The same, where the first half of the callers reads the first half of the buckets, and the others read the other
-    // half beside them.
+    // As `bundle_by_first`, where the first half of the callers reads the first half of the buckets, and the others read the
+    // other half beside them: the bundles of the parts, in the order of the buckets.
     #[cycle(parts)]
     pub(crate) fn read_parts<R: Threads + Wait + Sync>(
         &self,
@@ -97,16 +202,16 @@ where
         mark: &Mark<K, V, J>,
         from: u32,
         count: u32,
-    ) -> Result<Vec<(K, V)>, Refusal>
+    ) -> Result<Vec<Bundle<K, V>>, Refusal>
         requires within { from + count ≤ J.limits.buckets }
         requires some { 0 < length callers.old }
         requires told { AreTold mark.now callers.old }
         ensures back { AreBack callers.old callers.new }
-        ensures pairs { IfOk result (λ v. ArePairs K.enc V.enc J.limits mark.now callers.new from count v.items) }
+        ensures pairs { IfOk result (λ v. ArePairs K.enc V.enc J.limits mark.now callers.new from count (all_of v.items)) }
         ensures why { IfErr result (λ e. IsUnreadFar J.limits.honest e) }
     {
         if count <= PART || callers.len() < 2 {
-            return self.read_by_first(rt, alloc, callers, mark, from, count);
+            return self.bundle_by_first(rt, alloc, callers, mark, from, count);
         }
         let _buckets = self.words.buckets();
         let half = count / 2;
@@ -128,38 +233,38 @@ where
         from: u32,
         half: u32,
         rest: u32,
-    ) -> Result<Vec<(K, V)>, Refusal>
+    ) -> Result<Vec<Bundle<K, V>>, Refusal>
         requires within { from + half + rest ≤ J.limits.buckets }
         requires parts { (0 < half) × (0 < rest) }
         requires some { (0 < length own.old) × (0 < length others.old) }
         requires told { AreTold mark.now own.old × AreTold mark.now others.old }
         ensures back { AreBack own.old own.new × AreBack others.old others.new }
-        ensures pairs { IfOk result (λ v. ArePairs K.enc V.enc J.limits mark.now (own.new ++ others.new) from (half + rest) v.items) }
+        ensures pairs { IfOk result (λ v. ArePairs K.enc V.enc J.limits mark.now (own.new ++ others.new) from (half + rest) (all_of v.items)) }
         ensures why { IfErr result (λ e. IsUnreadFar J.limits.honest e) }
     {
         let _buckets = self.words.buckets();
         let middle = from + half;
-        let mut near = || -> Result<Vec<(K, V)>, Refusal>
+        let mut near = || -> Result<Vec<Bundle<K, V>>, Refusal>
             requires { IsSync R.row × IsSend K.row × IsSync K.row × IsSend V.row × IsSync V.row × IsSend J.row × IsSync J.row × IsSend D.row
                 × (from + half ≤ J.limits.buckets) × (0 < length own.now) × AreTold mark.now own.now }
             ensures back { AreBack own.entry.now own.exit.now }
-            ensures pairs { IfOk result (λ v. ArePairs K.enc V.enc J.limits mark.entry.now own.exit.now from half v.items) }
+            ensures pairs { IfOk result (λ v. ArePairs K.enc V.enc J.limits mark.entry.now own.exit.now from half (all_of v.items)) }
             ensures why { IfErr result (λ e. IsUnreadFar J.limits.honest e) }
         { self.read_parts(rt, alloc, own, mark, from, half) };
-        let mut far = || -> Result<Vec<(K, V)>, Refusal>
+        let mut far = || -> Result<Vec<Bundle<K, V>>, Refusal>
             requires { IsSync R.row × IsSend K.row × IsSync K.row × IsSend V.row × IsSync V.row × IsSend J.row × IsSync J.row × IsSend D.row
                 × (middle + rest ≤ J.limits.buckets) × (0 < length others.now) × AreTold mark.now others.now }
             ensures back { AreBack others.entry.now others.exit.now }
-            ensures pairs { IfOk result (λ v. ArePairs K.enc V.enc J.limits mark.entry.now others.exit.now middle rest v.items) }
+            ensures pairs { IfOk result (λ v. ArePairs K.enc V.enc J.limits mark.entry.now others.exit.now middle rest (all_of v.items)) }
             ensures why { IfErr result (λ e. IsUnreadFar J.limits.honest e) }
         { self.read_parts(rt, alloc, others, mark, middle, rest) };
         let (first, second) = join_mut(rt, &mut near, &mut far);
         let mut all = match first {
-            Ok(pairs) => pairs,
+            Ok(bundles) => bundles,
             Err(refusal) => return Err(refusal),
         };
         let mut more = match second {
-            Ok(pairs) => pairs,
+            Ok(bundles) => bundles,
             Err(refusal) => return Err(refusal),
         };
         match all.append(&mut more) {

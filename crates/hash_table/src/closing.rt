@@ -9,19 +9,20 @@ ghost use Rattle.std.specs.Prelude.{◌≡◌, ◌<◌, ℕ, IsTrue, IfOk, IfErr
 ghost use Rattle.std.specs.List.Sorted.{IsPermutation, IsSortedBy};
 ghost use Rattle.std.specs.Ordering.{is_lt};
 ghost use Rattle.far_object.specs.Buckets.{key_cmp};
+ghost use Rattle.far_pairs.specs.Bundles.{all_of};
 ghost use Rattle.hash_table.specs.Closes.{IsClosed, ClosesSorted, IsCloseFault, AreBack};
 ghost use Rattle.hash_table.specs.Stages.{IsUnreadFar};
 
-use crate::all_pairs::PART;
 use crate::caller::Caller;
 use crate::refusal::Refusal;
 use crate::table::FarTable;
 use far_device::Device;
 use far_object::FarObject;
+use far_pairs::Bundle;
 use std::alloc::Global;
 use std::fmt::{Debug, Display, Formatter};
 use std::sync::Wait;
-use std::thread::{Threads, join};
+use std::thread::Threads;
 use std::{error, fmt};
 use table_core::buckets_make_map;
 use version_words::{GatherFault, Mark, Naming, same_history};
@@ -39,6 +40,12 @@ pub enum CloseFault<K: FarObject, V: FarObject, J: Naming> {
     Damaged,
     /// A frame or a lane did not give the name. Another try may find it.
     Missed,
+}
+
+/// The memory of a table that was closed. To drop it takes a while: 35,000 objects some ten milliseconds.
+#[derive(Drop)]
+pub struct ClosedTable<K: FarObject, V: FarObject, J: Naming, D: Device> {
+    table: FarTable<K, V, J, D>,
 }
 
 impl<K: FarObject, V: FarObject, J: Naming> CloseFault<K, V, J> {
@@ -167,8 +174,8 @@ where
         rt: &R,
         alloc: Global,
         callers: &mut [Caller<K, V, J>],
-    ) -> Result<Vec<(K, V)>, CloseFault<K, V, J>>
-        ensures closed { IfOk result (λ v. ClosesSorted K.enc V.enc J.limits callers.old v.items) }
+    ) -> Result<Vec<Bundle<K, V>>, CloseFault<K, V, J>>
+        ensures closed { IfOk result (λ v. ClosesSorted K.enc V.enc J.limits callers.old (all_of v.items)) }
         ensures fault { IfErr result (λ e. IsCloseFault K.enc V.enc J.limits (length callers.old) e) }
         ensures back { AreBack callers.old callers.new }
     {
@@ -183,52 +190,41 @@ where
             return Ok(Vec::new(alloc));
         }
         let buckets = self.words.buckets();
-        let pairs = match self.read_parts(rt, alloc, callers, &first, 0, buckets) {
-            Ok(pairs) => pairs,
+        let bundles = match self.read_parts(rt, alloc, callers, &first, 0, buckets) {
+            Ok(bundles) => bundles,
             Err(refusal) => return Err(unread(refusal)),
         };
         match self.words.gather(alloc, callers) {
-            Ok(_) => Ok(pairs),
+            Ok(_) => Ok(bundles),
             Err(GatherFault::Missing(mark)) => Err(CloseFault::PassMissing(mark)),
             Err(GatherFault::Memory) => Err(CloseFault::Memory),
         }
     }
 
-    /// `close` by as many threads as can be started, and at most four: a table of more than 16,384 buckets is read by
-    /// several callers side by side, and gives its memory back while the pairs are sorted.
+    /// As `close`, for a large table: by as many threads as can be started, and at most four, where it has more than 16,384
+    /// buckets. The pairs come as they are written, in no order: `far_pairs::in_key_order` lends them in key order. What is
+    /// left of the table is its memory, which the caller lets go where nothing waits for it.
     pub fn close_on_threads<R: Threads + Wait + Sync>(
         self,
         rt: &R,
         alloc: Global,
         mut callers: Vec<Caller<K, V, J>>,
     ) -> Result<
-        Vec<(K, V)>,
+        (Vec<Bundle<K, V>>, ClosedTable<K, V, J, D>),
         (
             CloseFault<K, V, J>,
             FarTable<K, V, J, D>,
             Vec<Caller<K, V, J>>,
         ),
     >
-        ensures closed { IfOk result (λ v. IsClosed K.enc V.enc J.limits callers.items v.items) }
+        ensures closed { IfOk result (λ c. ClosesSorted K.enc V.enc J.limits callers.items (all_of c.0.items)) }
         ensures fault { IfErr result (λ e. IsCloseFault K.enc V.enc J.limits (vec_len callers) e.0) }
         ensures table { IfErr result (λ e. e.1 ≡ self) }
         ensures back { IfErr result (λ e. AreBack callers.items e.2.items) }
     {
-        let pairs = match self.close_callers_on_threads(rt, alloc, &mut callers) {
-            Ok(pairs) => pairs,
-            Err(fault) => return Err((fault, self, callers)),
-        };
-        if self.words.buckets() <= PART {
-            return Ok(sorted(pairs));
+        match self.close_callers_on_threads(rt, alloc, &mut callers) {
+            Ok(bundles) => Ok((bundles, ClosedTable { table: self })),
+            Err(fault) => Err((fault, self, callers)),
         }
-        let (_, pairs) = join(
-            rt,
-            || drop(self),
-            || -> Vec<(K, V)>
-                ensures permutation { IsPermutation pairs.items result.items }
-                ensures rising { IsSortedBy (λ a b. is_lt (key_cmp K.enc a.0 b.0)) result.items }
-            { sorted(pairs) },
-        );
-        Ok(pairs)
     }
 }

@@ -23,10 +23,32 @@ use version_words::{Naming, Spare};
 pub enum Recycling {
     /// It keeps none.
     Off,
-    /// It has none, and keeps the next one that it empties.
-    Wanting,
+    /// It has had none, and keeps the next one that it empties. Where it needs one before, it looks behind this part of all
+    /// frames first, in 2^32nds.
+    Begun(u32),
+    /// It has none, and keeps the next one that it empties. Where it needs one before, it looks from this one on first.
+    Wanting(u32),
     /// It has the frame of this number.
     Kept(u32),
+}
+
+impl Recycling {
+    // Whether the next frame that is emptied is kept.
+    fn wants(self) -> bool {
+        matches!(self, Recycling::Begun(_) | Recycling::Wanting(_))
+    }
+}
+
+// Behind which part of all frames the caller of this pass looks for its first one, in 2^32nds: the bits of the number in
+// their other order, so that the parts of two, of four and of eight callers that were drawn one after another lie as far
+// apart as they can.
+fn part_of(pass: u32) -> u32 {
+    pass.wrapping_sub(1).reverse_bits()
+}
+
+// The frame behind this part of so many.
+fn frame_behind(part: u32, frames: u32) -> u32 {
+    (u64::from(part).wrapping_mul(u64::from(frames)) >> 32) as u32
 }
 
 impl<K: FarObject, V: FarObject, J: Naming> Caller<K, V, J> {
@@ -42,7 +64,8 @@ impl<K: FarObject, V: FarObject, J: Naming> Caller<K, V, J> {
         ensures limbo { self.new.limbo ≡ self.old.limbo }
     {
         if self.limbo.recycling() == Recycling::Off {
-            self.limbo.set_recycling(Recycling::Wanting);
+            let part = part_of(self.pass.number());
+            self.limbo.set_recycling(Recycling::Begun(part));
         }
     }
 }
@@ -61,7 +84,7 @@ impl<K: FarObject, V: FarObject, J: Naming, D: Device> FarTable<K, V, J, D> {
         caller.limbo.set_recycling(Recycling::Off);
     }
 
-    /// A free frame: the one that the caller has, where it still is free, or else any.
+    /// A free frame: the one that the caller has, where it still is free, or else one behind the last that it had, or else any.
     pub(crate) fn reserve(
         &self,
         limbo: &mut Limbo<K, V, J>,
@@ -69,20 +92,28 @@ impl<K: FarObject, V: FarObject, J: Naming, D: Device> FarTable<K, V, J, D> {
         ensures here { IfOk result (λ reserved. reserved < self.now.frames) }
         ensures limbo { limbo.new ≡ limbo.old }
     {
-        if let Recycling::Kept(frame) = limbo.recycling() {
-            limbo.set_recycling(Recycling::Wanting);
-            if let Some(reserved) = self.frames.reserve_kept(frame) {
-                return Ok(reserved);
+        let from = match limbo.recycling() {
+            Recycling::Off => return self.frames.reserve(),
+            Recycling::Begun(part) => frame_behind(part, self.frames.count()),
+            Recycling::Wanting(last) => last,
+            Recycling::Kept(frame) => {
+                limbo.set_recycling(Recycling::Wanting(frame));
+                if let Some(reserved) = self.frames.reserve_kept(frame) {
+                    return Ok(reserved);
+                }
+                frame
             }
-        }
-        self.frames.reserve()
+        };
+        let reserved = self.frames.reserve_from(from)?;
+        limbo.set_recycling(Recycling::Wanting(reserved.frame()));
+        Ok(reserved)
     }
 
     /// Leaves the frame free: for the caller where it keeps the next one, and else for all.
     pub(crate) fn cancel(&self, limbo: &mut Limbo<K, V, J>, reserved: Reserved<'_, K, V, J>)
         ensures limbo { limbo.new ≡ limbo.old }
     {
-        if limbo.recycling() == Recycling::Wanting {
+        if limbo.recycling().wants() {
             limbo.set_recycling(Recycling::Kept(reserved.keep()));
         } else {
             reserved.cancel();
@@ -99,7 +130,7 @@ impl<K: FarObject, V: FarObject, J: Naming, D: Device> FarTable<K, V, J, D> {
         ensures back { IfErr result (λ s. s ≡ spare) }
         ensures limbo { limbo.new ≡ limbo.old }
     {
-        if limbo.recycling() != Recycling::Wanting {
+        if !limbo.recycling().wants() {
             return self.frames.reclaim(spare);
         }
         let frame = place_of(spare.word());

@@ -4,7 +4,6 @@ ghost use Rattle.std.specs.Io.KnownBytes.{Appends};
 ghost use Rattle.run_lines.specs.Output.{written, pair_line, file_texts};
 
 use crate::pair::Pair;
-use far_object::Text;
 use itoa::Buffer;
 use std::io;
 use std::io::Write;
@@ -32,12 +31,12 @@ pub fn write_files<W: Write>(out: &mut W, texts: &[Vec<u8>]) -> io::Result<()>
 }
 
 /// Writes a pair as a line.
-fn write_pair<W: Write>(out: &mut W, pair: &(Text, Text)) -> io::Result<()>
-    ensures { OnOk result (Appends (W.contents out.old) (W.contents out.new) (pair_line pair.now ++ 10 ∷ [])) }
+fn write_pair<W: Write, P: Pair>(out: &mut W, pair: &P) -> io::Result<()>
+    ensures { OnOk result (Appends (W.contents out.old) (W.contents out.new) (pair_line (P.texts_of pair.now) ++ 10 ∷ [])) }
 {
-    out.write_all(pair.0.as_bytes())?;
+    out.write_all(pair.key())?;
     out.write_all(b" ")?;
-    out.write_all(pair.1.as_bytes())?;
+    out.write_all(pair.value())?;
     out.write_all(b"\n")
 }
 
@@ -46,7 +45,7 @@ fn write_pairs<W: Write, P: Pair>(out: &mut W, pairs: &[P]) -> io::Result<()>
     ensures { OnOk result (Appends (W.contents out.old) (W.contents out.new) (written (map (λ e. pair_line (P.texts_of e)) pairs.now))) }
 {
     for pair in pairs {
-        write_pair(out, pair.texts())?;
+        write_pair(out, pair)?;
     }
     Ok(())
 }

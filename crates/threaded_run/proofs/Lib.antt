@@ -4,3 +4,4 @@ pub mod Working
 pub mod Ending
 pub mod Adding
 pub mod Settings
+mod Contents

@@ -4,7 +4,7 @@ ghost use Rattle.std.specs.Prelude.{◌<◌};
 use crate::tests::encodings::encoding;
 use crate::tests::expect::holds;
 use crate::tests::text;
-use far_object::{FarObject, Text};
+use far_object::{FarObject, Text, compare_bytes};
 use std::alloc::Global;
 use std::cmp::Ordering;
 use std::process::Abort;
@@ -23,6 +23,11 @@ fn compares(rt: &impl Abort, alloc: Global, own: &[u8], other: &[u8], outcome: O
     holds(rt, own.compare(&other) == outcome);
     let written = encoding(rt, alloc, &other);
     holds(rt, own.compare_to_bytes(written.as_slice()) == outcome);
+    let encoded = encoding(rt, alloc, &own);
+    holds(
+        rt,
+        compare_bytes(encoded.as_slice(), written.as_slice()) == outcome,
+    );
 }
 
 /// The lists are alike before this place, and there the first is lower. What is behind the place

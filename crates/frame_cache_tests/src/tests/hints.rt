@@ -29,3 +29,38 @@ fn free_frames_are_counted(rt: HostRuntime) -> Result<(), Fail> {
     ];
     played(&rt, 3, &script)
 }
+
+#[test]
+fn a_look_from_a_frame_begins_where_its_bits_lie(rt: HostRuntime) -> Result<(), Fail> {
+    let script = [
+        (Step::ReserveBehind(0, 0), Said::Reserved(0, 4_099)),
+        (Step::ReserveBehind(63, 0), Said::Reserved(0, 4_099)),
+        (Step::ReserveBehind(64, 0), Said::Reserved(64, 4_099)),
+        (Step::ReserveBehind(4_095, 0), Said::Reserved(4_032, 4_099)),
+        (Step::ReserveBehind(4_099, 0), Said::Reserved(4_096, 4_099)),
+        (Step::ReserveBehind(4_160, 0), Said::Reserved(0, 4_099)),
+        (Step::ReserveBehind(u32::MAX, 0), Said::Reserved(0, 4_099)),
+    ];
+    played(&rt, 4_100, &script)
+}
+
+#[test]
+fn a_look_from_a_frame_goes_on_and_begins_anew(rt: HostRuntime) -> Result<(), Fail> {
+    let script = [
+        (Step::ReserveBehind(4_032, 63), Said::Reserved(4_095, 4_033)),
+        (Step::ReserveBehind(4_032, 64), Said::Reserved(4_096, 4_032)),
+        (Step::ReserveBehind(4_032, 65), Said::Reserved(0, 4_031)),
+        (Step::ReserveBehind(4_096, 1), Said::Reserved(0, 4_095)),
+    ];
+    played(&rt, 4_097, &script)
+}
+
+#[test]
+fn a_look_from_a_frame_finds_none_where_all_are_taken(rt: HostRuntime) -> Result<(), Fail> {
+    let script = [
+        (Step::ReserveBehind(1, 1), Said::Reserved(1, 0)),
+        (Step::ReserveBehind(1, 2), Said::Nothing),
+        (Step::Reserve, Said::Reserved(0, 1)),
+    ];
+    played(&rt, 2, &script)
+}

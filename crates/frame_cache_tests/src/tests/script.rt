@@ -28,6 +28,8 @@ pub enum Step {
     Reserve,
     /// Reserves a frame beside another, and cancels both.
     ReserveBeside,
+    /// Reserves a frame from this one on, behind so many others, and cancels all.
+    ReserveBehind(u32, u32),
     /// Puts a version under the bucket's next name into the first free frame, and holds the spare of that frame.
     Fill(Pair),
     /// Draws the bucket's next name, gives it up at this place, and holds the spare.
@@ -162,6 +164,9 @@ impl Step {
             Step::Touched(frame) => Said::Is(user.frames.touched(frame)),
             Step::Reserve => Said::reserved(user.reserve()),
             Step::ReserveBeside => Said::both(user.reserve_beside()),
+            Step::ReserveBehind(frame, others) => {
+                Said::reserved(user.reserve_behind(frame, others))
+            }
             Step::Fill(pair) => Said::filled(user.fill(pair)),
             Step::Draw(pair, place) => Said::name(user.draw(pair, place)),
             Step::Look(frame, name) => Said::shown(user.look(frame, name)),

@@ -204,6 +204,18 @@ impl<J: Naming> User<J> {
         Some(told)
     }
 
+    /// Reserves so many frames from this one on, and tells of one more what `reserve` tells.
+    pub fn reserve_behind(&self, frame: u32, others: u32) -> Option<(u32, u32)> {
+        let reserved = self.frames.reserve_from(frame).ok()?;
+        let told = if others == 0 {
+            Some((reserved.frame(), self.frames.free()))
+        } else {
+            self.reserve_behind(frame, others - 1)
+        };
+        reserved.cancel();
+        told
+    }
+
     pub fn fill(&mut self, pair: Pair) -> Option<(u32, u64)> {
         let object = self.object(pair)?;
         let filled = fill(&self.words, &mut self.pass, &self.frames, pair.0, object)?;

@@ -4,11 +4,12 @@ ghost use Rattle.std.specs.Prelude.{◌≡◌, true};
 ghost use Rattle.version_words.specs.Rows.{limits_of};
 ghost use Rattle.hash_table.specs.Configs.{sizes_of};
 
-use super::closing::{Faulty, equal_pairs, failing_at, refusal_of};
+use super::closing::{Faulty, failing_at, refusal_of};
 use super::expect::{equal, made};
 use super::{User, entered, opened, settings, user_of};
 use far_device::{Device, FakeDevice};
 use far_object::Text;
+use far_pairs::{Bundle, in_key_order};
 use hash_table::{CloseFault, Config, FarTable, Opening, Refusal};
 use std::alloc::Global;
 use std::marker::Brand;
@@ -31,8 +32,13 @@ fn wide() -> Config {
 /// Letters whose keys lie in the four quarters of the buckets, in this order.
 const LETTERS: &[u8] = b"hbga";
 
-/// The pairs of these in key order: a letter, and its place among them.
-const SORTED: &[(u8, u32)] = &[(b'a', 3), (b'b', 1), (b'g', 2), (b'h', 0)];
+/// The pairs of these in key order, as they are written: a letter's key, and its place among them.
+const WRITTEN: &[(&[u8], &[u8])] = &[
+    (b"\x00\x04aaaa", b"\x00\x013"),
+    (b"\x00\x04bbbb", b"\x00\x011"),
+    (b"\x00\x04gggg", b"\x00\x012"),
+    (b"\x00\x04hhhh", b"\x00\x010"),
+];
 
 /// A letter's key: four times the letter.
 fn key_of(letter: u8) -> [u8; 4] {
@@ -95,6 +101,15 @@ fn all_pairs<J: Naming + Send + Sync, R: Threads + Wait + Sync + Abort>(
     closes(rt, alloc, table, callers);
 }
 
+/// The pairs, in key order, are those of the letters.
+fn equal_lent<R: Threads + Sync + Abort>(rt: &R, alloc: Global, bundles: &[Bundle<Text, Text>]) {
+    let lent = made(rt, in_key_order(rt, alloc, bundles));
+    equal(rt, lent.len(), WRITTEN.len());
+    for (pair, wanted) in lent.iter().zip(WRITTEN) {
+        equal(rt, (pair.key(), pair.value()), *wanted);
+    }
+}
+
 /// Hands in all callers.
 fn closes<J: Naming + Send + Sync, R: Threads + Wait + Sync + Abort>(
     rt: &R,
@@ -103,7 +118,7 @@ fn closes<J: Naming + Send + Sync, R: Threads + Wait + Sync + Abort>(
     callers: Vec<Caller<J>>,
 ) {
     match table.close_on_threads(rt, alloc, callers) {
-        Ok(pairs) => equal_pairs(rt, &pairs, SORTED),
+        Ok((bundles, _memory)) => equal_lent(rt, alloc, bundles.as_slice()),
         Err(_) => panic!(rt; "not closed"),
     }
 }

@@ -39,6 +39,21 @@ pub fn put_by_another<J: Naming, D: Device>(
     }
 }
 
+/// The same by one who recycles.
+pub fn put_by_a_recycler<J: Naming, D: Device>(
+    user: &User<'_, J, D>,
+    key: &[u8],
+    value: u32,
+) -> Answer {
+    match User::enter(user.alloc, user.table) {
+        Some(mut another) => {
+            another.caller.recycle();
+            another.try_put(key, value)
+        }
+        None => Err(Refusal::Memory),
+    }
+}
+
 fn four_frames() -> Config {
     Config {
         frames: 4,
@@ -118,4 +133,26 @@ fn a_put_that_finds_its_frame_gone_takes_another(rt: HostRuntime) {
         (Step::Seen(2), Said::Frame(0, 6)),
     ];
     played(&rt, opened(&rt, three), &script);
+}
+
+#[test]
+fn callers_who_recycle_begin_far_from_one_another(rt: HostRuntime) {
+    let many = Config {
+        frames: 1_024,
+        ..settings()
+    };
+    let script = [
+        (Step::Recycle, Said::Nothing),
+        (Step::TryPut(b'a', 1), Said::Nothing),
+        (Step::PutByRecycler(b'b', 1), Said::Nothing),
+        (Step::PutByRecycler(b'c', 1), Said::Nothing),
+        (Step::PutByAnother(b'd', 1), Said::Nothing),
+        (Step::TryPut(b'a', 2), Said::Value(1)),
+        (Step::Seen(0), Said::Frame(0, 1)),
+        (Step::Seen(512), Said::Frame(1, 2)),
+        (Step::Seen(256), Said::Frame(2, 3)),
+        (Step::Seen(1), Said::Frame(3, 4)),
+        (Step::Seen(2), Said::Frame(0, 5)),
+    ];
+    played(&rt, opened(&rt, many), &script);
 }

@@ -5,7 +5,7 @@ ghost use Rattle.hash_table.specs.Configs.{sizes_of};
 
 use super::expect::{equal, made};
 use super::held::put_under_reader;
-use super::recycling::{put_and_reclaim, put_by_another};
+use super::recycling::{put_and_reclaim, put_by_a_recycler, put_by_another};
 use super::{Answer, User, user_of};
 use far_device::Device;
 use far_object::Text;
@@ -38,6 +38,8 @@ pub enum Step {
     PutUnderReader,
     /// Another caller, who enters for this, puts a value.
     PutByAnother(u8, u32),
+    /// The same by one who recycles.
+    PutByRecycler(u8, u32),
     /// Puts 1, 2 and so on up to this value, and reclaims each spare.
     PutsAndReclaims(u8, u32),
     Recycle,
@@ -170,6 +172,7 @@ impl Step {
             Step::SwapOut(frame) => Said::done(user.swap_out(rt, frame)),
             Step::PutUnderReader => Said::done(put_under_reader(rt, user)),
             Step::PutByAnother(key, value) => Said::value(put_by_another(user, &[key], value)),
+            Step::PutByRecycler(key, value) => Said::value(put_by_a_recycler(user, &[key], value)),
             Step::PutsAndReclaims(key, most) => {
                 Said::Count(put_and_reclaim(rt, user, &[key], most))
             }

@@ -1,12 +1,14 @@
-use Rattle.std.proofs.Common.{rules, ◌≡◌, ◌+◌, ◌++◌, ◌<◌, ◌≤◌, ◌∙◌, List, length, ℕ, ◌-◌, ◌/◌, ◌*◌, ap, sym, subst, arith}
+use Rattle.std.proofs.Common.{rules, ◌≡◌, ◌+◌, ◌∙◌, List, ◌-◌, ◌/◌, ap, arith}
 use mathlib.Core.List.{IsPrefix}
-use Rattle.hash_table.specs.Closes.{AreBack, AreTold, ArePairs}
+use Rattle.far_pairs.specs.Bundles.{all_of}
+use Rattle.far_pairs.proofs.Ordering.{all_both}
 use Rattle.hash_table.proofs.Ends.{back_both, pairs_by_both, each_left, each_right}
 use Rattle.hash_table.proofs.table.+parts.Goals as goal
 
 pub FarTable::read_both-returns-in-Ok-append-clause-pairs : goal.FarTable::read_both-returns-in-Ok-append-clause-pairs
 FarTable::read_both-returns-in-Ok-append-clause-pairs g t c =
-    pairs_by_both g.K.FarObject.enc g.V.FarObject.enc g.J.Naming.limits c.args.mark.now c.own-1.given.0 c.others-1.given.0 c.args.from c.args.half c.args.rest c.in-Ok.pairs.items c.in-Ok-second.pairs.items c.append.new.self.items (search rules) (search rules) c.in-Ok-append.ensures.items
+    pairs_by_both g.K.FarObject.enc g.V.FarObject.enc g.J.Naming.limits c.args.mark.now c.own-1.given.0 c.others-1.given.0 c.args.from c.args.half c.args.rest (all_of c.in-Ok.bundles.items) (all_of c.in-Ok-second.bundles.items) (all_of c.append.new.self.items) (search rules) (search rules)
+    (ap (λ (z : List (List (g.row.K.Denot × g.row.V.Denot))). all_of z) c.in-Ok-append.ensures.items ∙ all_both c.in-Ok.bundles.items c.in-Ok-second.bundles.items)
 
 pub FarTable::read_parts-read_both-requires-after_bounds : goal.FarTable::read_parts-read_both-requires-after_bounds
 FarTable::read_parts-read_both-requires-after_bounds g t c κs within =

@@ -1,6 +1,3 @@
-use Rattle.std.proofs.Common.{ℕ, List, [], ◌∷◌, ◌++◌, subst}
-use Rattle.std.specs.Io.KnownBytes.{Appends}
-use Rattle.run_lines.specs.Output.{pair_line}
 use Rattle.run_lines.proofs.Written.{nothing, more_pairs, all_pairs}
 use Rattle.run_lines.proofs.writing.write_pairs.Goals as goal
 
@@ -9,10 +6,8 @@ loop-pair-init g c = nothing (g.W.Write.contents c.args.out.now)
 
 pub loop-pair-preserved : goal.loop-pair-preserved
 loop-pair-preserved g c =
-    let wrote : Appends (g.W.Write.contents c.loop-pair.out) (g.W.Write.contents c.write_pair.new.out) (pair_line (g.P.Pair.texts_of c.pair-item.result) ++ 10 ∷ []) =
-    subst (λ (e : List ℕ × List ℕ). Appends (g.W.Write.contents c.loop-pair.out) (g.W.Write.contents c.write_pair.new.out) (pair_line e ++ 10 ∷ [])) c.texts.ensures c.in_ok-write_pair.ensures in
     more_pairs g.P.Pair.texts_of (g.W.Write.contents c.args.out.now) (g.W.Write.contents c.loop-pair.out) (g.W.Write.contents c.write_pair.new.out) c.args.pairs.now c.loop-pair.pair-index c.pair-item.result
-    c.loop-pair-test.true c.pair-item.is c.loop-pair.invariant wrote
+    c.loop-pair-test.true c.pair-item.is c.loop-pair.invariant c.in_ok-write_pair.ensures
 
 pub returns : goal.returns
 returns g c = all_pairs g.P.Pair.texts_of (g.W.Write.contents c.args.out.now) (g.W.Write.contents c.loop-pair.out) c.args.pairs.now c.loop-pair.pair-index c.loop-pair-test.false c.loop-pair.invariant

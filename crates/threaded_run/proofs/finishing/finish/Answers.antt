@@ -11,9 +11,9 @@ use Rattle.threaded_run.proofs.Ending.{ended}
 use Rattle.threaded_run.proofs.finishing.finish.Goals as goal
 
 -- the pairs of the closed table
-by : {J T E : Type 0} (l : Limits) (live : T × Vec (Caller (List ℕ) (List ℕ) J) Global) (closed : Result (Vec (List ℕ × List ℕ) Global) E) (P : Texts → Type 0)
+by : {J T C E : Type 0} (l : Limits) (live : T × Vec (Caller (List ℕ) (List ℕ) J) Global) (closed : Result (Vec Texts Global × C) E) (P : Texts → Type 0)
     → Closes l (Some live) (Some closed) → Holds closed P → (pairs : Texts) × IsClosed enc_text enc_text l live.1.items pairs × P pairs
-by l live (Ok pairs) P closes holds = (pairs.items, closes, holds)
+by l live (Ok closed) P closes holds = (holds.0, closes holds.0 holds.1 holds.2, holds.3)
 by l live (Err fault) P closes holds = absurd holds
 
 -- the fault of the end, where that is so of each

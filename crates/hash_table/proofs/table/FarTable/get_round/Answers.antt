@@ -1,7 +1,6 @@
-use Rattle.std.proofs.Common.{sym, subst}
+use Rattle.std.proofs.Common.{subst}
 use mathlib.Core.List.{IsPrefix}
-use Rattle.table_core.specs.declared.operation.Operation.TheVariants.{Get}
-use Rattle.hash_table.proofs.Fronts.{goes_trans, finished_from}
+use Rattle.hash_table.proofs.Fronts.{goes_trans}
 use Rattle.hash_table.proofs.table.FarTable.get_round.Goals as goal
 
 pub returns-in-Ok-get_far-clause-limbo : goal.returns-in-Ok-get_far-clause-limbo
