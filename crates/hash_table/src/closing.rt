@@ -42,7 +42,7 @@ pub enum CloseFault<K: FarObject, V: FarObject, J: Naming> {
     Missed,
 }
 
-/// The memory of a table that was closed. To drop it takes a while: 35,000 objects some ten milliseconds.
+/// The memory of a table that was closed. To drop it takes a while, since each object is given back by itself.
 #[derive(Drop)]
 pub struct ClosedTable<K: FarObject, V: FarObject, J: Naming, D: Device> {
     table: FarTable<K, V, J, D>,
