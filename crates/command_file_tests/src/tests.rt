@@ -1,7 +1,9 @@
 //! Worked files, readers that give few bytes at a time, and readers that fail.
 mod expect;
 
-use command_file::{Command, FileFault, FileText, MapCommand, Script, TableCommand, read_file};
+use command_file::{
+    Command, FileFault, FileText, MapCommand, Script, TableCommand, read_file, read_file_into,
+};
 use expect::{holds, made};
 use std::alloc::{AllocError, Global};
 use std::io;
@@ -440,4 +442,22 @@ fn lines_parsed_after_they_were_read(rt: HostRuntime) {
     let script = made(&rt, text.parse(rt.alloc()));
     let found = shown(&rt, rt.alloc(), &script);
     holds(&rt, found.as_slice() == b"p/a/1/g/b//".as_slice());
+}
+
+// What a room held is no part of the text that is read into it, whether the text is shorter or longer.
+#[test]
+fn text_read_into_a_room(rt: HostRuntime) {
+    for held in [b"".as_slice(), b"x", b"del c\ndel d\ndel e\ndel f\n"] {
+        let mut file: &[u8] = b"put a 1\nget b\n";
+        let room = made(&rt, Vec::from_slice(rt.alloc(), held));
+        let text = FileText::read_into(rt.alloc(), room, &mut file);
+        let script = made(&rt, text.parse(rt.alloc()));
+        let found = shown(&rt, rt.alloc(), &script);
+        holds(&rt, found.as_slice() == b"p/a/1/g/b//".as_slice());
+
+        let mut bad: &[u8] = b"get a\nget";
+        let room = made(&rt, Vec::from_slice(rt.alloc(), held));
+        let found = read_file_into(rt.alloc(), room, &mut bad).err();
+        holds(&rt, found == Some(FileFault::BadLine(2)));
+    }
 }

@@ -6,7 +6,7 @@ ghost use Rattle.far_driver.specs.Runs.{RanWords};
 use crate::arguments::read_arguments;
 use crate::lanes::open_lanes;
 use crate::run::run_files;
-use crate::sources::open_sources;
+use crate::sources::{lengths_of, open_sources};
 use crate::status::ProgramFault;
 use std::io::Write;
 use std::rt::Files;
@@ -27,8 +27,17 @@ where
         return Err(ProgramFault::Usage);
     };
     let sources = open_sources(rt, arguments.files)?;
+    let lengths = lengths_of(rt.alloc(), sources.as_slice())?;
     let devices = open_lanes(rt.alloc(), arguments.config.lanes)?;
-    run_files(rt, arguments.config, devices, sources, &OpenGate, out)?;
+    run_files(
+        rt,
+        arguments.config,
+        devices,
+        sources,
+        lengths.as_slice(),
+        &OpenGate,
+        out,
+    )?;
     Ok(())
 }
 

@@ -15,7 +15,7 @@ use threaded_run::Gate;
 
 /// Runs the files that the readers give, each by a worker of its own, on a table that they share over these devices, and
 /// writes the replies and the contents: `threaded_run::run_files` says how. There are 1 to 64 files. All are read, in order,
-/// before anything runs. Round each command the gate is asked and told.
+/// before anything runs; their lengths may be told, as `read_files` says. Round each command the gate is asked and told.
 ///
 /// The faults come in the order of the work: `BadConfig`, whatever the readers, where a setting is outside its limits or
 /// there are not as many devices as lanes; `BadLine`, `TooManyLines` and `Read` of the first file that has one; `Device`,
@@ -26,6 +26,7 @@ pub fn run_files<D, G, R, B, W>(
     config: Config,
     devices: Vec<D>,
     files: Vec<B>,
+    lengths: &[usize],
     gate: &G,
     out: &mut W,
 ) -> Result<(), RunFault>
@@ -45,7 +46,7 @@ where
     if let Some(field) = config.first_bad_with(devices.len()) {
         return Err(RunFault::BadConfig(field));
     }
-    let files = match read_files(rt, rt.alloc(), files) {
+    let files = match read_files(rt, rt.alloc(), files, lengths) {
         Ok(files) => files,
         Err(fault) => return Err(fault),
     };

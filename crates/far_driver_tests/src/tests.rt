@@ -54,7 +54,7 @@ fn run_readers<B: BufRead + Drop, R: Threads + Wait + Clock + AllocGlobal + Abor
     assert!(rt; !files.is_empty() && files.len() <= 64);
     let devices = made(rt, open_lanes(rt.alloc(), config.lanes));
     let mut out = Vec::new(rt.alloc());
-    let ended = run_files(rt, *config, devices, files, &OpenGate, &mut out);
+    let ended = run_files(rt, *config, devices, files, &[], &OpenGate, &mut out);
     (ended, out)
 }
 

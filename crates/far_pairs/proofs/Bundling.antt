@@ -89,7 +89,7 @@ module _ {K V : Type 0} (ek : K → List ℕ) (ev : V → List ℕ) (AK : K → 
       pub reads : pairs_in ek ev dk dv count bytes ≡ es
       pub bundle : IsBundle ek ev dk dv AK AV count bytes
 
-    holds : (count : ℕ) (bytes : List ℕ) (es : List (K × V)) → count ≡ length es → bytes ≡ body_of ek ev es → Admitted es → Holds count bytes es
+    pub holds : (count : ℕ) (bytes : List ℕ) (es : List (K × V)) → count ≡ length es → bytes ≡ body_of ek ev es → Admitted es → Holds count bytes es
     holds count bytes es counted is admitted =
         let reads : pairs_in ek ev dk dv count bytes ≡ es = ap (λ n. pairs_in ek ev dk dv n bytes) counted ∙ (ap (λ z. pairs_in ek ev dk dv (length es) z) is ∙ read_all es admitted) in
         record {

@@ -24,9 +24,13 @@ module _ {K V : Type 0} (ek : K → List ℕ) (ev : V → List ℕ) where
   abbrev pub written : K × V → List ℕ × List ℕ
   written e = (ek e.0, ev e.1)
 
+  -- no pair's key comes before that of the pair in front of it, by their bytes
+  abbrev pub Rises : List (K × V) → Type 0
+  Rises pairs = IsSortedBy (λ a b. is_lt (key_cmp ek a.0 b.0)) pairs
+
   -- these are the pairs as they are written, in rising order of their keys' bytes
   pub record AreInOrder (pairs : List (K × V)) (lent : List (List ℕ × List ℕ)) : Type 0 where
     pub all : List (K × V)
     pub same : IsPermutation pairs all
-    pub rising : IsSortedBy (λ a b. is_lt (key_cmp ek a.0 b.0)) all
+    pub rising : Rises all
     pub are : lent ≡ map written all

@@ -1,10 +1,11 @@
 //! Pairs as they are written.
-ghost use Rattle.std.specs.Prelude.{◌≡◌, ◌+◌, ◌++◌, ◌≤◌, [], length, map, OnOk, OnErr};
+ghost use Rattle.std.specs.Prelude.{◌≡◌, ◌+◌, ◌++◌, ◌≤◌, [], length, map, IfOk, OnOk, OnErr};
+ghost use Rattle.std.specs.List.Sorted.{IsPermutation};
 ghost use Rattle.far_object.specs.Decoded.{BeginsWith};
-ghost use Rattle.far_pairs.specs.Bundles.{written};
+ghost use Rattle.far_pairs.specs.Bundles.{written, Rises};
 
 use crate::lent::LentPair;
-use far_object::{FarObject, Memory, Object};
+use far_object::{FarObject, Memory, Object, compare_bytes};
 use std::alloc::Global;
 use std::marker::{Model, PhantomData};
 
@@ -98,5 +99,28 @@ impl<K: FarObject, V: FarObject> Bundle<K, V> {
             rest = &rest[size..];
         }
         Ok(())
+    }
+
+    /// The same pairs in the order of their keys' encodings, in a bundle of its own. So pairs that were gathered by several
+    /// threads are sorted by these, each over bytes that its processor has at hand, and what is then read in key order lies in
+    /// a few rows. `Memory` comes where a growth is refused.
+    pub fn in_order(&self, alloc: Global) -> Result<Bundle<K, V>, Memory>
+        ensures same { IfOk result (λ bundle. IsPermutation self.now bundle) }
+        ensures rising { IfOk result (λ bundle. Rises K.enc V.enc bundle) }
+    {
+        let mut lent = Vec::new(alloc);
+        self.lend(&mut lent)?;
+        lent.sort_unstable_by(|one, other| compare_bytes(one.key(), other.key()));
+        let mut bytes = Vec::with_capacity(alloc, self.bytes.len())?;
+        for pair in &lent {
+            bytes.extend_from_slice(pair.key())?;
+            bytes.extend_from_slice(pair.value())?;
+        }
+        Ok(Bundle {
+            bytes,
+            count: self.count,
+            key: PhantomData,
+            value: PhantomData,
+        })
     }
 }

@@ -102,6 +102,31 @@ fn an_empty_object_adds_nothing(rt: HostRuntime) {
 }
 
 #[test]
+fn a_bundle_is_written_again_in_order(rt: HostRuntime) {
+    let bundle = bundle_of(
+        &rt,
+        rt.alloc(),
+        &[(b"d", b"1"), (b"aa", b"2"), (b"a", b"3"), (b"", b"")],
+    );
+    let sorted = made(&rt, bundle.in_order(rt.alloc()));
+    equal(&rt, sorted.len(), 4);
+    let mut lent = Vec::new(rt.alloc());
+    made(&rt, sorted.lend(&mut lent));
+    equal_pairs(
+        &rt,
+        &lent,
+        &[
+            (&[0, 0], &[0, 0]),
+            (&[0, 1, 97], &[0, 1, 51]),
+            (&[0, 1, 100], &[0, 1, 49]),
+            (&[0, 2, 97, 97], &[0, 1, 50]),
+        ],
+    );
+    let empty: Bundle<Text, Text> = Bundle::new(rt.alloc());
+    equal(&rt, made(&rt, empty.in_order(rt.alloc())).len(), 0);
+}
+
+#[test]
 fn no_pair_has_an_order(rt: HostRuntime) {
     let none: [Bundle<Text, Text>; 0] = [];
     equal_pairs(&rt, &made(&rt, in_key_order(&rt, rt.alloc(), &none)), &[]);

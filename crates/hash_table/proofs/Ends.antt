@@ -1,7 +1,7 @@
 -- The pairs of all buckets at one front of all passes.
 use Rattle.std.proofs.Common.{◌≡◌, ℕ, zero, suc, ◌+◌, ◌<◌, Bool, IsTrue, List, [], ◌∷◌, ◌++◌, length, slice_index_or, slice_set, refl, ap, sym, ◌∙◌, subst, arith}
 use Rattle.std.proofs.lemmas.List.{get_or_append_left, get_or-append-add, append-nil, append_assoc, length-append, length-map}
-use Rattle.std.proofs.lemmas.List.Sorted.{length_permutation}
+use Rattle.std.proofs.lemmas.List.Sorted.{length_permutation, IsPermutation-refl, IsPermutation-trans, IsPermutation-append_left, IsPermutation-append_right}
 use Rattle.std.specs.List.Sorted.{IsPermutation}
 use mathlib.Core.List.{IsPrefix}
 use Rattle.far_pairs.specs.Bundles.{all_of}
@@ -21,6 +21,9 @@ use Rattle.hash_table.specs.Closes.{ClosesSorted, AreBack, AreTold, AllSeen, Are
 use Rattle.hash_table.proofs.Fronts.{goes_self, goes_trans}
 
 -- ---- parts of joined lists
+
+both_moved : {X : Type 0} (xs xs2 ys ys2 : List X) → IsPermutation xs xs2 → IsPermutation ys ys2 → IsPermutation (xs ++ ys) (xs2 ++ ys2)
+both_moved xs xs2 ys ys2 one other = IsPermutation-trans (xs ++ ys) (xs2 ++ ys) (xs2 ++ ys2) (IsPermutation-append_left ys xs xs2 one) (IsPermutation-append_right xs2 ys ys2 other)
 
 joined_same : {X : Type 0} (f g : ℕ → List X) (n : ℕ) → ((i : ℕ) → f i ≡ g i) → joined f n ≡ joined g n
 joined_same f g zero same = refl
@@ -140,24 +143,27 @@ module _ {K V : Type 0} (ek : K → List ℕ) (ev : V → List ℕ) (l : Limits)
     pub pairs_by_first : (mark : List (Event K V)) (olds : List (Caller K V J)) (now : Caller K V J) (from count : ℕ) (items : List (K × V)) → 0 < length olds
         → (IsTrue l.honest → (log : List (Event K V)) → IsPrefix now.pass.front log → HistoryStays mark log → items ≡ pairs_from ek ev l log from count) → ArePairs ek ev l mark (slice_set olds 0 now) from count items
     pairs_by_first mark [] now from count items some so = absurd (omega (arith, some))
-    pairs_by_first mark (c ∷ cs) now from count items some so = record { are = λ honest log seen stays. so honest log (seen.each 0 now (omega arith)) stays }
+    pairs_by_first mark (c ∷ cs) now from count items some so = record { are = λ honest log seen stays. subst (λ (z : List (K × V)). IsPermutation z items) (so honest log (seen.each 0 now (omega arith)) stays) (IsPermutation-refl items) }
 
-    -- the same of the one bundle of a list
-    pub bundle_by_first : (mark : List (Event K V)) (olds : List (Caller K V J)) (now : Caller K V J) (from count : ℕ) (none bundles : List (List (K × V))) (bundle : List (K × V)) → none ≡ [] → bundles ≡ none ++ bundle ∷ [] → 0 < length olds
+    -- the same of the one bundle of a list, whose pairs were put in another order
+    pub bundle_by_first : (mark : List (Event K V)) (olds : List (Caller K V J)) (now : Caller K V J) (from count : ℕ) (none bundles : List (List (K × V))) (bundle sorted : List (K × V)) → none ≡ [] → bundles ≡ none ++ sorted ∷ [] → IsPermutation bundle sorted → 0 < length olds
         → (IsTrue l.honest → (log : List (Event K V)) → IsPrefix now.pass.front log → HistoryStays mark log → bundle ≡ pairs_from ek ev l log from count) → ArePairs ek ev l mark (slice_set olds 0 now) from count (all_of bundles)
-    bundle_by_first mark olds now from count none bundles bundle empty is some so =
-        let alone : all_of bundles ≡ bundle =
-        ap (λ (z : List (List (K × V))). all_of z) is ∙ (ap (λ (z : List (List (K × V))). all_of (z ++ bundle ∷ [])) empty ∙ append-nil bundle) in
-        pairs_by_first mark olds now from count (all_of bundles) some (λ honest log later stays. alone ∙ so honest log later stays)
+    bundle_by_first mark olds now from count none bundles bundle sorted empty is moved some so =
+        let first = pairs_by_first mark olds now from count bundle some so in
+        let alone : all_of bundles ≡ sorted =
+        ap (λ (z : List (List (K × V))). all_of z) is ∙ (ap (λ (z : List (List (K × V))). all_of (z ++ sorted ∷ [])) empty ∙ append-nil sorted) in
+        record { are = λ honest log seen stays. IsPermutation-trans (pairs_from ek ev l log from count) bundle (all_of bundles) (first.are honest log seen stays) (subst (λ (z : List (K × V)). IsPermutation bundle z) (sym alone) moved) }
 
     pub pairs_by_both : (mark : List (Event K V)) (xs ys : List (Caller K V J)) (from half rest : ℕ) (one more all : List (K × V)) → ArePairs ek ev l mark xs from half one → ArePairs ek ev l mark ys (from + half) rest more → all ≡ one ++ more
         → ArePairs ek ev l mark (xs ++ ys) from (half + rest) all
     pairs_by_both mark xs ys from half rest one more all first second is = record {
       are = λ honest log seen stays.
-          let near : one ≡ pairs_from ek ev l log from half = first.are honest log (record { each = each_left (λ (c : Caller K V J). IsPrefix c.pass.front log) xs ys seen.each }) stays in
-          let far : more ≡ pairs_from ek ev l log (from + half) rest = second.are honest log (record { each = each_right (λ (c : Caller K V J). IsPrefix c.pass.front log) xs ys seen.each }) stays in
-          is ∙ (ap (λ (z : List (K × V)). z ++ more) near ∙ (ap (λ (z : List (K × V)). pairs_from ek ev l log from half ++ z) far
-          ∙ joined_both (λ i. part log (from + i)) (λ i. part log (from + half + i)) half rest (λ i. ap (λ b. part log b) (let e : from + half + i ≡ from + (half + i) = omega arith in e))));
+          let near = first.are honest log (record { each = each_left (λ (c : Caller K V J). IsPrefix c.pass.front log) xs ys seen.each }) stays in
+          let far = second.are honest log (record { each = each_right (λ (c : Caller K V J). IsPrefix c.pass.front log) xs ys seen.each }) stays in
+          let parts : pairs_from ek ev l log from half ++ pairs_from ek ev l log (from + half) rest ≡ pairs_from ek ev l log from (half + rest) =
+          joined_both (λ i. part log (from + i)) (λ i. part log (from + half + i)) half rest (λ i. ap (λ b. part log b) (let e : from + half + i ≡ from + (half + i) = omega arith in e)) in
+          subst (λ (z : List (K × V)). IsPermutation z all) parts (subst (λ (z : List (K × V)). IsPermutation (pairs_from ek ev l log from half ++ pairs_from ek ev l log (from + half) rest) z) (sym is)
+          (both_moved (pairs_from ek ev l log from half) one (pairs_from ek ev l log (from + half) rest) more near far));
     }
 
     -- ---- all passes at a front behind all looks
@@ -228,7 +234,7 @@ module _ {K V : Type 0} (ek : K → List ℕ) (ev : V → List ℕ) (l : Limits)
             apart = apart;
             whole = whole;
             no_other = no_other;
-            pairs_are = λ honest. law (history second) l.buckets sorted buckets (subst (λ (z : List (K × V)). IsPermutation z sorted) (are.are honest second seen stays ∙ joined_same (λ i. part second (0 + i)) (λ b. part second b) l.buckets (λ i. ap (λ b. part second b) (let e : 0 + i ≡ i = omega arith in e))) moved) up;
+            pairs_are = λ honest. law (history second) l.buckets sorted buckets (IsPermutation-trans _ pairs sorted (subst (λ (z : List (K × V)). IsPermutation z pairs) (joined_same (λ i. part second (0 + i)) (λ b. part second b) l.buckets (λ i. ap (λ b. part second b) (let e : 0 + i ≡ i = omega arith in e))) (are.are honest second seen stays)) moved) up;
           }
         where
           slice_index_or_head : (cs : List (Caller K V J)) → 0 < length cs → Caller K V J

@@ -42,9 +42,9 @@ module _ {K V : Type 0} (ek : K → List ℕ) (ev : V → List ℕ) (l : Limits)
   pairs_from log from count = joined (λ i. at_bucket ek l.buckets (from + i) (map_of ek ev (history log))) count
 
 module _ {K V J : Type 0} (ek : K → List ℕ) (ev : V → List ℕ) (l : Limits) where
-  -- the pairs of so many buckets from this one on are those of each log that begins with what the callers have seen, and that has the mark's history
+  -- these are the pairs of so many buckets from this one on, in any order, of each log that begins with what the callers have seen, and that has the mark's history
   pub record ArePairs (mark : List (Event K V)) (callers : List (Caller K V J)) (from count : ℕ) (items : List (K × V)) : Type 0 where
-    pub are : IsTrue l.honest → (log : List (Event K V)) → AllSeen callers log → HistoryStays mark log → items ≡ pairs_from ek ev l log from count
+    pub are : IsTrue l.honest → (log : List (Event K V)) → AllSeen callers log → HistoryStays mark log → IsPermutation (pairs_from ek ev l log from count) items
 
   -- a lawful log begins with the front of every caller, has as many passes, which all differ, their calls and no others, and the pairs are its map
   pub record IsClosed (callers : List (Caller K V J)) (pairs : List (K × V)) : Type 0 where

@@ -155,7 +155,7 @@ impl<K: FarObject, V: FarObject, J: Naming, D: Device> FarTable<K, V, J, D> {
         Ok(bundle)
     }
 
-    // The same, read by the first of the callers: the one bundle of a list.
+    // The same in key order, read by the first of the callers: the one bundle of a list.
     fn bundle_by_first<R: Wait>(
         &self,
         rt: &R,
@@ -176,8 +176,12 @@ impl<K: FarObject, V: FarObject, J: Naming, D: Device> FarTable<K, V, J, D> {
             Ok(bundle) => bundle,
             Err(refusal) => return Err(refusal),
         };
+        let sorted = match bundle.in_order(alloc) {
+            Ok(sorted) => sorted,
+            Err(_) => return Err(Refusal::Memory),
+        };
         let mut alone = Vec::new(alloc);
-        match alone.push(bundle) {
+        match alone.push(sorted) {
             Ok(()) => Ok(alone),
             Err(_) => Err(Refusal::Memory),
         }

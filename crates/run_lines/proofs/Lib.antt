@@ -1,3 +1,4 @@
+pub mod Lined
 pub mod Calls
 pub mod Replying
 pub mod Written

@@ -18,7 +18,7 @@ both (Some xs) (Some ys) None x y p q = absurd q
 both (Some xs) (Some ys) (Some zs) x y p q = q ∙ (ap (λ (z : List ℕ). z ++ y) p ∙ append_assoc xs x y)
 
 -- one more element of a list, whose first i have been written
-taken : {A : Type 0} (xs : List A) (i : ℕ) (x : A) → i < length xs → x ≡ get_or xs i x → take (i + 1) xs ≡ take i xs ++ x ∷ []
+pub taken : {A : Type 0} (xs : List A) (i : ℕ) (x : A) → i < length xs → x ≡ get_or xs i x → take (i + 1) xs ≡ take i xs ++ x ∷ []
 taken xs i x lt at = rw add-one (take-suc xs i x lt) ∙ ap (λ y. take i xs ++ y ∷ []) (sym at)
 
 -- ---- pairs

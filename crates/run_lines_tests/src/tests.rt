@@ -3,7 +3,7 @@ mod expect;
 
 use expect::{equal, holds, made};
 use far_object::Text;
-use run_lines::{Refusal, push_line, reply_text, write_contents, write_files};
+use run_lines::{PairLines, Refusal, push_line, reply_text, write_contents, write_files};
 use std::alloc::Global;
 use std::io;
 use std::io::{ErrorKind, Write};
@@ -97,6 +97,43 @@ fn little_room(rt: HostRuntime) {
     }
 }
 
+// Pairs whose keys are the numbers below this one.
+fn numbered(rt: &impl Abort, alloc: Global, count: u32) -> Vec<(Text, Text)> {
+    let mut pairs = Vec::new(alloc);
+    for number in 0..count {
+        let text = made(rt, format!(in alloc; "{number}"));
+        made(rt, pairs.push(pair(rt, alloc, text.as_bytes(), b"value")));
+    }
+    pairs
+}
+
+#[test]
+fn lines_of_pairs_are_those_written_one_by_one(rt: HostRuntime) {
+    for count in [0, 1, 2, 2_047, 2_048, 5_000] {
+        let pairs = numbered(&rt, rt.alloc(), count);
+        let lines = made(&rt, PairLines::of(&rt, rt.alloc(), pairs.as_slice()));
+        let mut at_once = Vec::new(rt.alloc());
+        made(&rt, lines.write_contents(&mut at_once));
+        let mut one_by_one = Vec::new(rt.alloc());
+        made(&rt, write_contents(&mut one_by_one, pairs.as_slice()));
+        holds(&rt, at_once.as_slice() == one_by_one.as_slice());
+    }
+}
+
+#[test]
+fn lines_of_pairs_with_little_room(rt: HostRuntime) {
+    let pairs = numbered(&rt, rt.alloc(), 2);
+    let lines = made(&rt, PairLines::of(&rt, rt.alloc(), pairs.as_slice()));
+    let wanted = b"contents\n0 value\n1 value\n".as_slice();
+    for room in 0..=wanted.len() {
+        let mut bytes = [0u8; 32];
+        let mut out = &mut bytes[..room];
+        let ended = lines.write_contents(&mut out);
+        equal(&rt, ended.is_ok(), room == wanted.len());
+        holds(&rt, bytes[..room] == wanted[..room]);
+    }
+}
+
 /// Takes what it is given, and can't be flushed.
 #[derive(Drop)]
 struct Unflushed;
@@ -115,4 +152,6 @@ impl Write for Unflushed {
 fn failing_flush(rt: HostRuntime) {
     let none: [(Text, Text); 0] = [];
     holds(&rt, write_contents(&mut Unflushed, &none).is_err());
+    let lines = made(&rt, PairLines::of(&rt, rt.alloc(), &none));
+    holds(&rt, lines.write_contents(&mut Unflushed).is_err());
 }

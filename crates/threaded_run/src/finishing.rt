@@ -1,5 +1,5 @@
 //! The end of a run: the table is closed, and the lines and the contents are written.
-ghost use Rattle.std.specs.Prelude.{◌++◌, ◌∷◌, ℕ, List, Option, map, codes, OnOk, IfErr};
+ghost use Rattle.std.specs.Prelude.{◌≡◌, ◌++◌, ◌∷◌, ℕ, List, Option, map, codes, IfOk, OnOk, IfErr};
 ghost use Rattle.std.specs.Io.KnownBytes.{Appends};
 ghost use Rattle.far_object.specs.Encodings.{enc_text};
 ghost use Rattle.far_pairs.specs.Bundles.{all_of};
@@ -8,14 +8,14 @@ ghost use Rattle.run_lines.specs.Output.{written, pair_line, file_texts};
 ghost use Rattle.hash_table.specs.Closes.{IsClosed};
 ghost use Rattle.std.specs.Thread.{IsSync, IsSend};
 ghost use Rattle.threaded_run.specs.Runs.{EndsAt};
-ghost use Rattle.threaded_run.specs.Ends.{Closes, InOrder, Holds};
+ghost use Rattle.threaded_run.specs.Ends.{Closes, AreLinesOf, Holds};
 
 use crate::fault::ThreadedFault;
 use far_device::Device;
 use far_object::{Memory, Text};
 use far_pairs::{Bundle, in_key_order};
 use hash_table::{Caller, CloseFault, ClosedTable, FarTable};
-use run_lines::{Refusal, write_contents, write_files};
+use run_lines::{PairLines, Refusal, write_files};
 use std::alloc::Global;
 use std::io;
 use std::io::Write;
@@ -36,18 +36,53 @@ fn refusal_of<J: Naming>(fault: CloseFault<Text, Text, J>) -> Refusal {
 /// The table and all callers, until the table is closed.
 type Live<J, D> = Option<(FarTable<Text, Text, J, D>, Vec<Caller<Text, Text, J>>)>;
 
-/// What a close answers.
-type Closed<J, D> = Result<
-    (Vec<Bundle<Text, Text>>, ClosedTable<Text, Text, J, D>),
-    (
-        CloseFault<Text, Text, J>,
-        FarTable<Text, Text, J, D>,
-        Vec<Caller<Text, Text, J>>,
-    ),
->;
+/// The lines of the pairs, in key order.
+fn spell<R: Threads + Sync>(
+    rt: &R,
+    alloc: Global,
+    bundles: &[Bundle<Text, Text>],
+) -> Result<PairLines, Refusal>
+    ensures { IfOk result (AreLinesOf (all_of bundles.now)) }
+{
+    let pairs = match in_key_order(rt, alloc, bundles) {
+        Ok(pairs) => pairs,
+        Err(Memory) => return Err(Refusal::Memory),
+    };
+    match PairLines::of(rt, alloc, pairs.as_slice()) {
+        Ok(lines) => Ok(lines),
+        Err(Memory) => Err(Refusal::Memory),
+    }
+}
 
-/// Closes the table, where it is open.
-fn close<J, D, R>(rt: &R, alloc: Global, live: &mut Live<J, D>) -> Option<Closed<J, D>>
+/// The same, while the table's memory is given back on a thread of its own.
+fn spell_beside<J, D, R>(
+    rt: &R,
+    alloc: Global,
+    bundles: &[Bundle<Text, Text>],
+    table: ClosedTable<Text, Text, J, D>,
+) -> Result<PairLines, Refusal>
+where
+    J: Naming + Send + Sync,
+    D: Device + Send,
+    R: Threads + Sync,
+    ensures { IfOk result (AreLinesOf (all_of bundles.now)) }
+{
+    let mut left = Some(table);
+    let mut dropping = || drop(left.take());
+    let mut spelling = || -> Result<PairLines, Refusal>
+        requires { IsSync R.row }
+        ensures { IfOk result (AreLinesOf (all_of bundles.entry.now)) }
+    { spell(rt, alloc, bundles) };
+    let (_, lines) = join_mut(rt, &mut dropping, &mut spelling);
+    lines
+}
+
+/// Closes the table, where it is open, and gives the lines of what it held.
+fn close<J, D, R>(
+    rt: &R,
+    alloc: Global,
+    live: &mut Live<J, D>,
+) -> Option<Result<PairLines, Refusal>>
 where
     J: Naming + Send + Sync,
     D: Device + Send,
@@ -55,94 +90,34 @@ where
     ensures { Closes J.limits live.old result }
 {
     let (table, callers) = live.take()?;
-    Some(table.close_on_threads(rt, alloc, callers))
-}
-
-/// Writes the pairs in key order behind what was written, or flushes where they can't be put in order.
-fn write_bundles<R, W>(
-    rt: &R,
-    alloc: Global,
-    bundles: &[Bundle<Text, Text>],
-    out: &mut W,
-) -> Result<(), ThreadedFault>
-where
-    R: Threads + Sync,
-    W: Write,
-    ensures written { OnOk result ((front : Option (List ℕ)) (lines : List ℕ) → Appends front (W.contents out.old) lines
-        → InOrder (all_of bundles.now) (λ pairs. Appends front (W.contents out.new) (lines ++ written (codes "contents" ∷ map pair_line pairs)))) }
-    ensures fault { IfErr result (λ fault. (front : Option (List ℕ)) (lines : List ℕ) → Appends front (W.contents out.old) lines → EndsAt front (W.contents out.new) lines fault) }
-{
-    match in_key_order(rt, alloc, bundles) {
-        Ok(pairs) => match write_contents(out, pairs.as_slice()) {
-            Ok(()) => Ok(()),
-            Err(_) => Err(ThreadedFault::Write),
-        },
-        Err(Memory) => match out.flush() {
-            Ok(()) => Err(ThreadedFault::Contents(Refusal::Memory)),
-            Err(_) => Err(ThreadedFault::Write),
-        },
+    match table.close_on_threads(rt, alloc, callers) {
+        Ok((bundles, table)) => Some(spell_beside(rt, alloc, bundles.as_slice(), table)),
+        Err((fault, _table, _callers)) => Some(Err(refusal_of(fault))),
     }
 }
 
-/// The same, while the table's memory is given back on a thread of its own.
-fn write_beside<J, D, R, W>(
-    rt: &R,
-    alloc: Global,
-    bundles: &[Bundle<Text, Text>],
-    table: ClosedTable<Text, Text, J, D>,
+/// Writes the contents of a closed table behind what was written, or flushes where they can't be read.
+fn write_closed<W: Write>(
+    closed: Result<PairLines, Refusal>,
     out: &mut W,
 ) -> Result<(), ThreadedFault>
-where
-    J: Naming + Send + Sync,
-    D: Device + Send,
-    R: Threads + Sync,
-    W: Write,
-    ensures written { OnOk result ((front : Option (List ℕ)) (lines : List ℕ) → Appends front (W.contents out.old) lines
-        → InOrder (all_of bundles.now) (λ pairs. Appends front (W.contents out.new) (lines ++ written (codes "contents" ∷ map pair_line pairs)))) }
-    ensures fault { IfErr result (λ fault. (front : Option (List ℕ)) (lines : List ℕ) → Appends front (W.contents out.old) lines → EndsAt front (W.contents out.new) lines fault) }
-{
-    let mut left = Some(table);
-    let mut dropping = || drop(left.take());
-    let mut writing = || -> Result<(), ThreadedFault>
-        requires { IsSync R.row }
-        ensures written { OnOk result ((front : Option (List ℕ)) (lines : List ℕ) → Appends front (W.contents out.entry.now) lines
-            → InOrder (all_of bundles.entry.now) (λ pairs. Appends front (W.contents out.exit.now) (lines ++ written (codes "contents" ∷ map pair_line pairs)))) }
-        ensures fault { IfErr result (λ fault. (front : Option (List ℕ)) (lines : List ℕ) → Appends front (W.contents out.entry.now) lines → EndsAt front (W.contents out.exit.now) lines fault) }
-    { write_bundles(rt, alloc, bundles, out) };
-    let (_, wrote) = join_mut(rt, &mut dropping, &mut writing);
-    wrote
-}
-
-/// Writes, behind what was written, what a closed table held, or flushes where it can't be read.
-fn write_closed<J, D, R, W>(
-    rt: &R,
-    alloc: Global,
-    closed: Closed<J, D>,
-    out: &mut W,
-) -> Result<(), ThreadedFault>
-where
-    J: Naming + Send + Sync,
-    D: Device + Send,
-    R: Threads + Sync,
-    W: Write,
-    ensures written { OnOk result ((front : Option (List ℕ)) (lines : List ℕ) → Appends front (W.contents out.old) lines
-        → Holds closed (λ pairs. Appends front (W.contents out.new) (lines ++ written (codes "contents" ∷ map pair_line pairs)))) }
+    ensures written { OnOk result (Holds closed (λ lines. Appends (W.contents out.old) (W.contents out.new) (codes "contents" ++ 10 ∷ lines))) }
     ensures fault { IfErr result (λ fault. (front : Option (List ℕ)) (lines : List ℕ) → Appends front (W.contents out.old) lines → EndsAt front (W.contents out.new) lines fault) }
 {
     match closed {
-        Ok((bundles, table)) => match write_beside(rt, alloc, bundles.as_slice(), table, out) {
+        Ok(lines) => match lines.write_contents(out) {
             Ok(()) => Ok(()),
-            Err(fault) => Err(fault),
+            Err(_) => Err(ThreadedFault::Write),
         },
-        Err((fault, _table, _callers)) => match out.flush() {
-            Ok(()) => Err(ThreadedFault::Contents(refusal_of(fault))),
+        Err(refusal) => match out.flush() {
+            Ok(()) => Err(ThreadedFault::Contents(refusal)),
             Err(_) => Err(ThreadedFault::Write),
         },
     }
 }
 
-/// Closes the table on a thread of its own, while this one writes the lines of the files, and then what the table held. Where
-/// that can't be read the lines are written all the same.
+/// Closes the table and makes the lines of what it held on threads of their own, while this one writes the lines of the files;
+/// then it writes what the table held. Where that can't be read the lines are written all the same.
 pub(crate) fn finish<J, D, R, W>(
     rt: &R,
     alloc: Global,
@@ -161,20 +136,20 @@ where
     ensures fault { IfErr result (EndsAt (W.contents out.old) (W.contents out.new) (file_texts 1 (map (λ t. t.items) texts.now))) }
 {
     let mut live = Some((table, callers));
-    let mut closing = || -> Option<Closed<J, D>>
+    let mut closing = || -> Option<Result<PairLines, Refusal>>
         requires { IsSync R.row × IsSend J.row × IsSync J.row × IsSend D.row }
         ensures { Closes J.limits live.entry result }
     { close(rt, alloc, &mut live) };
     let mut writing = || -> io::Result<()>
         ensures { OnOk result (Appends (W.contents out.entry.now) (W.contents out.exit.now) (file_texts 1 (map (λ t. t.items) texts.entry.now))) }
     { write_files(out, texts) };
-    let (closed, lines) = join_mut(rt, &mut closing, &mut writing);
-    match lines {
+    let (closed, wrote) = join_mut(rt, &mut closing, &mut writing);
+    match wrote {
         Ok(()) => {}
         Err(_) => return Err(ThreadedFault::Write),
     }
     let Some(closed) = closed else {
         unreachable!();
     };
-    write_closed(rt, alloc, closed, out)
+    write_closed(closed, out)
 }

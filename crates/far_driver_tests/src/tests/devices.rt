@@ -31,7 +31,7 @@ fn run_over<D: Device + Send, G: Gate, R: Threads + Wait + Clock + AllocGlobal +
     let files = made(rt, Vec::from_array(rt.alloc(), [file]));
     assert_eq!(rt; files.len(), 1);
     let mut out = Vec::new(rt.alloc());
-    let ended = run_files(rt, config, devices, files, gate, &mut out);
+    let ended = run_files(rt, config, devices, files, &[], gate, &mut out);
     (ended, out)
 }
 

@@ -6,21 +6,55 @@ use far_driver::{RunFault, read_files};
 use std::alloc::Global;
 use std::thread::Threads;
 
-/// Reads three files of these bytes.
+/// Reads three files of these bytes, of which these lengths are told.
+fn read_three_of<R: Alloc<A = Global> + Threads + Sync>(
+    rt: &R,
+    files: [&[u8]; 3],
+    lengths: &[usize],
+) -> Result<Vec<Script>, RunFault> {
+    match Vec::from_array(rt.alloc(), files) {
+        Ok(files) => read_files(rt, rt.alloc(), files, lengths),
+        Err(_) => Err(RunFault::Memory),
+    }
+}
+
+/// Reads three files of these bytes, of whose lengths nothing is told.
 fn read_three<R: Alloc<A = Global> + Threads + Sync>(
     rt: &R,
     files: [&[u8]; 3],
 ) -> Result<Vec<Script>, RunFault> {
-    match Vec::from_array(rt.alloc(), files) {
-        Ok(files) => read_files(rt, rt.alloc(), files),
-        Err(_) => Err(RunFault::Memory),
+    read_three_of(rt, files, &[])
+}
+
+#[test]
+fn lengths_change_nothing(rt: HostRuntime) {
+    let files: [&[u8]; 3] = [b"put a 1\n\nget a", b"", b"show\n"];
+    let told: [&[usize]; 6] = [
+        &[15, 0, 5],
+        &[0],
+        &[0, 262_143],
+        &[0, 262_144],
+        &[300_000, 300_000, 300_000, 300_000],
+        &[0, 0, usize::MAX],
+    ];
+    for lengths in told {
+        let all = made(&rt, read_three_of(&rt, files, lengths));
+        equal(&rt, all.len(), 3);
+        for (script, wanted) in all.iter().zip([2, 0, 1]) {
+            equal(&rt, script.len(), wanted);
+        }
+        let bad = read_three_of(&rt, [b"show", b"put", b"get"], lengths).err();
+        holds(&rt, bad == Some(RunFault::BadLine(2, 1)));
     }
 }
 
 #[test]
 fn files_in_order(rt: HostRuntime) {
     let none: Vec<&[u8]> = Vec::new(rt.alloc());
-    holds(&rt, made(&rt, read_files(&rt, rt.alloc(), none)).is_empty());
+    holds(
+        &rt,
+        made(&rt, read_files(&rt, rt.alloc(), none, &[])).is_empty(),
+    );
     let all = made(&rt, read_three(&rt, [b"put a 1\n\nget a", b"", b"show\n"]));
     equal(&rt, all.len(), 3);
     for (script, wanted) in all.iter().zip([2, 0, 1]) {
@@ -52,7 +86,7 @@ fn second_file_fails(rt: HostRuntime) {
         let mut files = Vec::new(rt.alloc());
         made(&rt, files.push(Faltering::new(b"get a", 255)));
         made(&rt, files.push(Faltering::new(b"get a\n", failing)));
-        let found = read_files(&rt, rt.alloc(), files).err();
+        let found = read_files(&rt, rt.alloc(), files, &[]).err();
         equal(&rt, found, Some(RunFault::Read(2)));
     }
 }

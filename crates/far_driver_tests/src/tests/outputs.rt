@@ -52,7 +52,7 @@ fn each_write_fails(rt: HostRuntime) {
             calls: 0,
             failing,
         };
-        let ended = run_files(&rt, settings(), devices, files, &OpenGate, &mut out);
+        let ended = run_files(&rt, settings(), devices, files, &[], &OpenGate, &mut out);
         if ended == Ok(()) {
             holds(&rt, out.kept.as_slice() == wanted);
             break;
