@@ -29,6 +29,10 @@ THREE = [
     ["put e 3", "putif a 1 4", "evict", "putnew a 5", "get c", "get d"],
 ]
 RUNS = [("the simple file", [SIMPLE]), ("the file of all commands", [ALL]), ("three files", THREE)]
+# The last file is so long that memory for it is made ready while the first is read. Its commands would ask for memory more
+# than a thousand times, so that only the growths of the reading, and some behind it, are refused.
+LONG = [["put a 1"], ["put b 2", *[f"putif c {'x' * 255} {'y' * 255}"] * 520]]
+MOST_READING = 60
 
 
 def judge(files, status, out, err):
@@ -59,11 +63,11 @@ def run_refused(program, library, settings, files, refused):
     return ended, int(requests[1]) if requests else None
 
 
-def sweep(program, library, files, ends):
-    """Refuses each growth in turn, and gives how often the runs ended in which way, and how many ended wrongly."""
+def sweep(program, library, files, ends, most=None):
+    """Refuses each growth in turn, or so many, and gives how often the runs ended in which way, and how many ended wrongly."""
     ways = collections.Counter()
     wrong = 0
-    for number in range(1, MOST_RUNS + 1):
+    for number in range(1, (most or MOST_RUNS) + 1):
         ended, requests = run_refused(program, library, SETTINGS, files, f"{number}{ends}")
         said, passes = judge(files, *ended)
         if not passes or requests is None:
@@ -72,6 +76,8 @@ def sweep(program, library, files, ends):
         if requests is not None and requests < number:
             return number - 1, ways, wrong + (said != "unseen")
         ways[said] += 1
+    if most:
+        return most, ways, wrong
     print(f"WRONG: after {MOST_RUNS} runs a growth is still refused, or no run told how many there were")
     return MOST_RUNS, ways, wrong + 1
 
@@ -83,6 +89,10 @@ def main(program, library):
             more, ways, faults = sweep(program, library, files, ends)
             print(f"{name}, refusing {what}: {more} growths, {faults} runs wrong; {dict(ways)}")
             runs, wrong = runs + more, wrong + faults
+    for ends, what in (("", "alone"), ("..", "and all behind it")):
+        more, ways, faults = sweep(program, library, LONG, ends, MOST_READING)
+        print(f"a long file, refusing each of the first {MOST_READING} growths {what}: {faults} runs wrong; {dict(ways)}")
+        runs, wrong = runs + more, wrong + faults
     print(f"{runs} growths refused, {wrong} runs wrong")
     sys.exit(1 if wrong else 0)
 
