@@ -1,9 +1,9 @@
 #!/usr/bin/env bash
-# Refuses requests for memory, each in turn: those of the proved program on one file, on another and on three, and the first
-# of a long file, whose replies have to come from a history, and those of each public call that can answer want of memory, which the programs growths and
-# table_growths make. refused_growths.py and refused_calls.py say what may come, and the status is 1 where something else
-# does. FARTABLE=PATH takes that program, in place of what bin/fartable proves and builds, CALLS=PATH that one for growths,
-# and TABLE_CALLS=PATH that one for table_growths.
+# Refuses requests for memory, each in turn: those of the proved program on one file, on another and on three, and the
+# first of a long file, whose replies have to come from a history, and those of each public call that can answer want of
+# memory, which the programs growths and table_growths make. refused_growths.py and refused_calls.py say what may come,
+# and the status is 1 where something else does. FARTABLE=PATH takes that program, in place of what bin/fartable proves
+# and builds, CALLS=PATH that one for growths, and TABLE_CALLS=PATH that one for table_growths.
 set -euo pipefail
 
 tests=$(cd "$(dirname "$(readlink -f "${BASH_SOURCE[0]}")")" && pwd)
