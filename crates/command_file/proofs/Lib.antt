@@ -12,3 +12,4 @@ pub mod Windows
 pub mod Placing
 pub mod Cutting
 pub mod Scanning
+pub mod Joining

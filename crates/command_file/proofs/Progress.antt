@@ -10,7 +10,7 @@ use Rattle.command_file.specs.Files.{most_lines, SayAll, IsFile, IsBadLine, IsTo
 
 -- ---- lines and what they say
 
-say-append : (lines more : List (List ℕ)) (commands others : List Command) → SayAll lines commands → SayAll more others → SayAll (lines ++ more) (commands ++ others)
+pub say-append : (lines more : List (List ℕ)) (commands others : List Command) → SayAll lines commands → SayAll more others → SayAll (lines ++ more) (commands ++ others)
 say-append [] more [] others say says = says
 say-append [] more (command ∷ commands) others say says = absurd say
 say-append ([] ∷ lines) more commands others say says = say-append lines more commands others say says
@@ -30,6 +30,14 @@ commands_from_say [] (command ∷ commands) say = absurd say
 commands_from_say ([] ∷ lines) commands say = commands_from_say lines commands say
 commands_from_say ((byte ∷ bytes) ∷ lines) [] say = absurd say
 commands_from_say ((byte ∷ bytes) ∷ lines) (command ∷ commands) say = All-cons IsCommand command commands say.0.admitted (commands_from_say lines commands say.1)
+
+-- a line says one command at most
+pub few_from_say : (lines : List (List ℕ)) (commands : List Command) → SayAll lines commands → length commands ≤ length lines
+few_from_say [] [] say = omega arith
+few_from_say [] (command ∷ commands) say = absurd say
+few_from_say ([] ∷ lines) commands say = omega (arith, few_from_say lines commands say)
+few_from_say ((byte ∷ bytes) ∷ lines) [] say = absurd say
+few_from_say ((byte ∷ bytes) ∷ lines) (command ∷ commands) say = omega (arith, few_from_say lines commands say.1)
 
 pub file_commands : (lines : List (List ℕ)) (commands : List Command) → IsFile lines commands → All IsCommand commands
 file_commands lines commands file = commands_from_say lines commands file.say
@@ -61,9 +69,12 @@ read_line lines rest others line number commands more far first says = record {
 
 -- ---- the ends
 
+pub read_lines : (lines rest : List (List ℕ)) (number : ℕ) (commands : List Command) (far : IsRead lines rest number commands) → rest ≡ [] → lines ≡ far.before
+read_lines lines rest number commands far none = far.is ∙ ap (λ l. far.before ++ l) none ∙ append-nil far.before
+
 pub read_all : (lines rest : List (List ℕ)) (number : ℕ) (commands : List Command) → IsRead lines rest number commands → number ≤ 65537 → rest ≡ [] → IsFile lines commands
 read_all lines rest number commands far within none =
-    let all : lines ≡ far.before = far.is ∙ ap (λ l. far.before ++ l) none ∙ append-nil far.before in
+    let all = read_lines lines rest number commands far none in
     record { few = omega (arith, far.counted, ap length all); say = subst (λ l. SayAll l commands) (sym all) far.say }
 
 pub bad_line : (lines rest others : List (List ℕ)) (line : List ℕ) (number : ℕ) (commands : List Command)

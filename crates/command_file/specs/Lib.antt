@@ -5,5 +5,6 @@ pub mod Laws
 pub mod Words
 pub mod Places
 pub mod Scripts
+pub mod Parts
 pub mod Reading
 pub mod Texts

@@ -6,24 +6,21 @@
 //! by itself. A file may have 65,536 of them, which wait until they are run. So a script keeps the file's text, which was read
 //! in any case, and of each command where its words lie there: 16 bytes. The command itself is made when it is run, and given
 //! back before the next.
-ghost use Rattle.std.specs.Prelude.{◌≡◌, ◌<◌, ◌≤◌, [], ◌++◌, ℕ, List, All, length, map, slice_index_or, IfOk, IfErr, MatchOption};
+ghost use Rattle.std.specs.Prelude.{◌≡◌, ◌<◌, ◌≤◌, All, length, slice_index_or, IfOk, IfErr};
 ghost use Rattle.command_file.specs.Grammar.{IsCommand};
 ghost use Rattle.command_file.specs.Lines.{lines_of};
 ghost use Rattle.command_file.specs.Files.{most_lines, IsFile, IsFileFault, IsNumbered};
-ghost use Rattle.command_file.specs.Places.{command_in, AreWithin};
-ghost use Rattle.command_file.specs.Scripts.{BeginsSo};
+ghost use Rattle.command_file.specs.Parts.{PlacesLines};
 
 use crate::command::Command;
 use crate::fault::FileFault;
-use crate::parse::{Line, place_line};
+use crate::part::{Part, place_lines};
 use crate::place::Place;
-use crate::search::first_place;
+use crate::side_by_side::place_on_threads;
 use far_object::Memory;
 use std::alloc::Global;
 use std::marker::Model;
-
-/// The most lines of a file.
-pub(crate) const MOST_LINES: u32 = 65_536;
+use std::thread::Threads;
 
 /// The commands of a file, in order. Contracts see the list of them.
 #[derive(Drop)]
@@ -45,51 +42,17 @@ impl Model for Script {
     ghost invariant = { λ s. AreWithin (length s.text.items) s.places.items × (length s.places.items ≤ most_lines) };
 }
 
-/// The first line of the bytes, without its LF, and what stands behind it; none where there is no byte.
-fn first_line(bytes: &[u8]) -> Option<(&[u8], &[u8])>
-    ensures { MatchOption result (bytes.now ≡ []) (λ parts. BeginsSo bytes.now parts.0.now parts.1.now) }
-{
-    if bytes.is_empty() {
-        return None;
-    }
-    match first_place(b'\n', bytes) {
-        Some(at) => Some((&bytes[..at], &bytes[at + 1..])),
-        None => Some((bytes, &bytes[bytes.len()..])),
-    }
-}
-
-/// Where the commands lie that the text's lines say.
-fn place_lines(alloc: Global, text: &[u8]) -> Result<Vec<Place>, FileFault>
-    ensures said { IfOk result (λ places. IsFile (lines_of text.now) (map (command_in text.now) places.items)) }
-    ensures within { IfOk result (λ places. AreWithin (length text.now) places.items) }
-    ensures few { IfOk result (λ places. length places.items ≤ most_lines) }
-    ensures fault { IfErr result (λ fault. IsFileFault (lines_of text.now) fault) }
-    ensures number { IfErr result (λ fault. IsNumbered fault) }
-{
-    let mut places = Vec::new(alloc);
-    let mut rest = text;
-    for number in 1..=MOST_LINES {
-        let Some((line, behind)) = first_line(rest) else {
-            return Ok(places);
-        };
-        match place_line(line, text.len() - rest.len()) {
-            Line::Empty => {}
-            Line::Command(place) => match places.push(place) {
-                Ok(()) => {}
-                Err(_) => return Err(FileFault::Memory),
-            },
-            Line::Bad => return Err(FileFault::BadLine(number)),
-        }
-        rest = behind;
-    }
-    if rest.is_empty() {
-        Ok(places)
-    } else {
-        Err(FileFault::TooManyLines)
-    }
-}
-
 impl Script {
+    /// The commands of the text, which lie in it as those of its one part.
+    fn of_part(text: Vec<u8>, part: Part) -> Script
+        requires { PlacesLines text.items 0 part.places.items part.lines }
+        ensures said { IsFile (lines_of text.items) result }
+        ensures commands { All IsCommand result }
+    {
+        let Part { places, .. } = part;
+        Script { text, places }
+    }
+
     /// The commands that the text's lines say. `FileFault::BadLine` names the first that is bad, `FileFault::TooManyLines`
     /// comes where all that a file may have are good and there are more, and `FileFault::Memory` where a growth is refused.
     pub(crate) fn of_text(alloc: Global, text: Vec<u8>) -> Result<Script, FileFault>
@@ -98,8 +61,25 @@ impl Script {
         ensures fault { IfErr result (λ fault. IsFileFault (lines_of text.items) fault) }
         ensures number { IfErr result (λ fault. IsNumbered fault) }
     {
-        match place_lines(alloc, text.as_slice()) {
-            Ok(places) => Ok(Script { text, places }),
+        match place_lines(alloc, text.as_slice(), 0) {
+            Ok(part) => Ok(Script::of_part(text, part)),
+            Err(fault) => Err(fault),
+        }
+    }
+
+    /// The same, where a long text is cut into parts that are parsed side by side.
+    pub(crate) fn of_text_on_threads<R: Threads + Sync>(
+        rt: &R,
+        alloc: Global,
+        text: Vec<u8>,
+    ) -> Result<Script, FileFault>
+        ensures said { IfOk result (λ script. IsFile (lines_of text.items) script) }
+        ensures commands { IfOk result (λ script. All IsCommand script) }
+        ensures fault { IfErr result (λ fault. IsFileFault (lines_of text.items) fault) }
+        ensures number { IfErr result (λ fault. IsNumbered fault) }
+    {
+        match place_on_threads(rt, alloc, text.as_slice()) {
+            Ok(part) => Ok(Script::of_part(text, part)),
             Err(fault) => Err(fault),
         }
     }

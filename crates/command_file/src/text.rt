@@ -9,11 +9,13 @@ ghost use Rattle.command_file.specs.Texts.{EndsSo};
 
 use crate::fault::FileFault;
 use crate::line::{LineRead, is_at_end, next_line};
-use crate::script::{MOST_LINES, Script};
+use crate::part::MOST_LINES;
+use crate::script::Script;
 use crate::whole::whole_lines;
 use std::alloc::Global;
 use std::io::{BufRead, ErrorKind};
 use std::marker::Model;
+use std::thread::Threads;
 
 /// The lines that were read of a file, and why the reading ended.
 #[derive(Drop)]
@@ -150,6 +152,31 @@ impl FileText {
         match end {
             Ok(()) => Ok(script),
             Err(fault) => Err(fault),
+        }
+    }
+
+    /// As `parse`, and with its clauses, by several threads where the text is long: it is cut at ends of lines into up to four
+    /// parts, which are parsed side by side, as far as threads can be started. That pays where other threads have nothing to do.
+    ///
+    /// `FileFault::BadLine` names the first bad line of the whole text. `FileFault::TooManyLines` and `FileFault::Read` come where
+    /// the reading ended with them and the lines before are good, and `FileFault::Memory` so, too, or where a growth is refused:
+    /// one of a part's list of commands, or that which puts two parts' lists together.
+    pub fn parse_on_threads<R: Threads + Sync>(
+        self,
+        rt: &R,
+        alloc: Global,
+    ) -> Result<Script, FileFault>
+        ensures said { IfOk result (λ script. (all : List (List ℕ)) → EndsSo all self.lines self.end → IsFile all script) }
+        ensures end { IfOk result (λ _. self.end ≡ Ok tt) }
+        ensures commands { IfOk result (λ script. All IsCommand script) }
+        ensures fault { IfErr result (λ fault. (all : List (List ℕ)) → EndsSo all self.lines self.end → IsFileFault all fault) }
+        ensures number { IfErr result (λ fault. IsNumbered fault) }
+    {
+        let FileText { text, end } = self;
+        match (Script::of_text_on_threads(rt, alloc, text), end) {
+            (Ok(script), Ok(())) => Ok(script),
+            (Ok(_), Err(fault)) => Err(fault),
+            (Err(fault), _) => Err(fault),
         }
     }
 }

@@ -9,6 +9,7 @@ use std::alloc::{AllocError, Global};
 use std::io;
 use std::io::{BufRead, BufReader, ErrorKind, Read};
 use std::process::Abort;
+use std::thread::Threads;
 
 /// More looks than a test has.
 const NEVER: u32 = u32::MAX;
@@ -460,4 +461,104 @@ fn text_read_into_a_room(rt: HostRuntime) {
         let found = read_file_into(rt.alloc(), room, &mut bad).err();
         holds(&rt, found == Some(FileFault::BadLine(2)));
     }
+}
+
+/// Puts the line of this number behind the file: every fifth is empty, and the others say each another command.
+fn add_numbered(file: &mut Vec<u8>, number: u32) -> Result<(), AllocError> {
+    if number.is_multiple_of(5) {
+        file.push(b'\n')?;
+        return Ok(());
+    }
+    file.extend_from_slice(b"put ")?;
+    for shift in [12, 8, 4, 0] {
+        file.push(b'a' + ((number >> shift) & 15) as u8)?;
+    }
+    file.extend_from_slice(b" value\n")
+}
+
+/// A file of 27,000 lines and some 330 KiB, long enough to be cut into four parts. The lines of these numbers are bad.
+fn numbered_file(alloc: Global, bad: &[u32]) -> Result<Vec<u8>, AllocError> {
+    let mut file = Vec::new(alloc);
+    for number in 1..=27_000 {
+        if bad.contains(&number) {
+            file.extend_from_slice(b"put a\n")?;
+        } else {
+            add_numbered(&mut file, number)?;
+        }
+    }
+    Ok(file)
+}
+
+/// What a file of these bytes says, parsed by several threads.
+fn on_threads<R: Threads + Sync>(rt: &R, alloc: Global, bytes: &[u8]) -> Result<Script, FileFault> {
+    let mut file = bytes;
+    FileText::read(alloc, &mut file).parse_on_threads(rt, alloc)
+}
+
+/// The commands are as many, and the same, by one thread and by several.
+fn assert_same<R: Abort + Threads + Sync>(rt: &R, alloc: Global, bytes: &[u8], count: usize) {
+    let mut file = bytes;
+    let one = made(rt, read_file(alloc, &mut file));
+    let several = made(rt, on_threads(rt, alloc, bytes));
+    let found = (one.len(), several.len());
+    let (one, several) = (shown(rt, alloc, &one), shown(rt, alloc, &several));
+    holds(
+        rt,
+        found == (count, count) && one.as_slice() == several.as_slice(),
+    );
+}
+
+#[test]
+fn commands_by_several_threads(rt: HostRuntime) {
+    let file = made(&rt, numbered_file(rt.alloc(), &[]));
+    let bytes = file.as_slice();
+    holds(&rt, bytes.len() > 4 * 65_536);
+    assert_same(&rt, rt.alloc(), bytes, 21_600);
+    // The last line is empty, and the one before it has no LF.
+    let shorter = &bytes[..bytes.len().saturating_sub(2)];
+    assert_same(&rt, rt.alloc(), shorter, 21_600);
+    assert_same(&rt, rt.alloc(), b"get a", 1);
+}
+
+/// The middle of the text lies at each place of a line of six bytes.
+#[test]
+fn cut_at_each_place_of_a_line(rt: HostRuntime) {
+    for first in 1..13 {
+        let (file, _) = made(&rt, file_of_short(rt.alloc(), first, 12_000));
+        assert_same(&rt, rt.alloc(), file.as_slice(), 12_001);
+    }
+}
+
+/// The first bad line is named, in whichever part it stands, and whether another stands behind it.
+#[test]
+fn bad_lines_by_several_threads(rt: HostRuntime) {
+    for bad in [
+        1, 3_000, 6_749, 10_000, 13_503, 17_000, 20_251, 24_000, 27_000,
+    ] {
+        for later in [bad, 26_999] {
+            let file = made(&rt, numbered_file(rt.alloc(), &[bad, later]));
+            let bytes = file.as_slice();
+            let wanted = Some(FileFault::BadLine(bad.min(later)));
+            let found = on_threads(&rt, rt.alloc(), bytes).err();
+            holds(
+                &rt,
+                (found, fault_of(rt.alloc(), bytes)) == (wanted, wanted),
+            );
+        }
+    }
+}
+
+/// As many lines as a file may have, and one more, by several threads.
+#[test]
+fn most_lines_by_several_threads(rt: HostRuntime) {
+    let (mut file, _) = made(&rt, file_of_short(rt.alloc(), 1, 65_536));
+    let found = on_threads(&rt, rt.alloc(), file.as_slice()).err();
+    holds(&rt, found == Some(FileFault::TooManyLines));
+    file.truncate(65_536 * 6);
+    assert_same(&rt, rt.alloc(), file.as_slice(), 65_536);
+    // A bad line comes before the one that is too many.
+    file.truncate(65_535 * 6);
+    made(&rt, file.extend_from_slice(b"put a\nget b\n"));
+    let found = on_threads(&rt, rt.alloc(), file.as_slice()).err();
+    holds(&rt, found == Some(FileFault::BadLine(65_536)));
 }

@@ -1,7 +1,7 @@
 use Rattle.std.proofs.Common.{◌≢◌, ◌+◌, ◌-◌, drop, length, sym, arith, rules, take_all, length-drop}
 use Rattle.std.proofs.lemmas.Bool.{eqb-false}
 use Rattle.command_file.proofs.Cutting.{cut_at, cut_last}
-use Rattle.command_file.proofs.script.first_line.Goals as goal
+use Rattle.command_file.proofs.part.first_line.Goals as goal
 
 pub returns-in-Some : goal.returns-in-Some
 returns-in-Some c =

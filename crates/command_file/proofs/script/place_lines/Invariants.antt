@@ -1,5 +1,0 @@
-use Rattle.command_file.proofs.Scanning.{Scanned}
-use Rattle.command_file.proofs.script.place_lines.Given as goal
-
-abbrev pub invariant-loop-number : goal.invariant-loop-number
-invariant-loop-number l = Scanned l.text l.rest l.number l.places.items
