@@ -7,7 +7,7 @@ ghost use Rattle.command_file.specs.Texts.{EndsSo};
 ghost use Rattle.far_driver.specs.Reading.{AreFiles, IsFaultFrom, IsFaultOfOne};
 
 use crate::fault::{RunFault, of_file};
-use command_file::{FileFault, FileText, Script, read_file_into};
+use command_file::{FileFault, FileText, Script};
 use std::alloc::Global;
 use std::io::BufRead;
 use std::thread::{Threads, join};
@@ -82,6 +82,45 @@ fn alone(alloc: Global, script: Script) -> Result<Vec<Script>, RunFault>
     }
 }
 
+/// What a text says, by this thread alone or by several.
+fn parse<R: Threads + Sync>(
+    rt: &R,
+    alloc: Global,
+    alone: bool,
+    text: FileText,
+) -> Result<Script, FileFault>
+    ensures said { IfOk result (λ script. (all : List (List ℕ)) → EndsSo all text.lines text.end → IsFile all script) }
+    ensures fault { IfErr result (λ fault. (all : List (List ℕ)) → EndsSo all text.lines text.end → IsFileFault all fault) }
+{
+    if alone {
+        text.parse(alloc)
+    } else {
+        text.parse_on_threads(rt, alloc)
+    }
+}
+
+/// The commands of the last file, for whose text this room is. No other file is read meanwhile, so where it is not alone several
+/// threads parse it.
+fn read_last<B, R>(
+    rt: &R,
+    alloc: Global,
+    room: Vec<u8>,
+    alone: bool,
+    mut file: B,
+) -> Result<Script, FileFault>
+where
+    B: BufRead + Drop,
+    R: Threads + Sync,
+    ensures said { IfOk result (λ script. IfSome (B.remaining file) (λ bytes. IsFile (lines_of bytes) script)) }
+    ensures fault { IfErr result (λ fault. IfSome (B.remaining file) (λ bytes. IsFileFault (lines_of bytes) fault)) }
+{
+    let text = FileText::read_into(alloc, room, &mut file);
+    match parse(rt, alloc, alone, text) {
+        Ok(script) => Ok(script),
+        Err(fault) => Err(fault),
+    }
+}
+
 /// The commands of each file, of which the first has this number, and this room for its text.
 fn read_from<B, R>(
     rt: &R,
@@ -103,8 +142,7 @@ where
     }
     let first = files.remove(0);
     if files.is_empty() {
-        let mut file = first;
-        let script = match read_file_into(alloc, room, &mut file) {
+        let script = match read_last(rt, alloc, room, number == 1, first) {
             Ok(script) => script,
             Err(fault) => return Err(of_file(number, fault)),
         };
@@ -139,8 +177,8 @@ where
 }
 
 /// The commands of each file. Each is read before the next, and parsed while those behind it are read and parsed, as far as
-/// threads can be started; the last is parsed on this thread. All are read, whatever they say. The fault is that
-/// of the first that has one; they are counted from 1.
+/// threads can be started; the last is parsed in parts, side by side, and one that is alone on this thread. All are read,
+/// whatever they say. The fault is that of the first that has one; they are counted from 1.
 ///
 /// The lengths are those of the files in bytes, as far as they are known, in their order: while a file is read, a thread makes
 /// memory ready for the next, where that is long. They may be wrong, and there may be fewer.
