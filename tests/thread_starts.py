@@ -1,8 +1,9 @@
 """Runs the program with starts of threads refused: thread_starts.py PROGRAM LIBRARY.
 
 LIBRARY is refuse_start.c, built. Each start of a run's threads is refused alone, and with all behind it. Every run has to
-end with status 0, and with replies and contents that histories.py finds a history for; one file starts a thread that closes the
-table and one that gives its memory back, and n files n - 1 that parse, n - 1 that work, the evictor's, and those two.
+end with status 0, and with replies and contents that histories.py finds a history for; one file starts a thread that makes
+the contents' lines and one that gives the table's memory back, and n files n - 1 that parse, n - 1 that work, the evictor's,
+and those two.
 """
 import os
 import sys

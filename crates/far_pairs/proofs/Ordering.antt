@@ -1,19 +1,19 @@
 -- Pairs that were sorted as they are written.
-use Rattle.std.proofs.Common.{◌≡◌, ℕ, zero, suc, ◌+◌, ◌<◌, ◌≤◌, Bool, List, [], ◌∷◌, ◌++◌, length, map, take, drop, refl, ap, sym, ◌∙◌, subst, arith, append_assoc}
+use Rattle.std.proofs.Common.{◌≡◌, ℕ, zero, suc, ◌+◌, ◌<◌, ◌≤◌, List, [], ◌∷◌, ◌++◌, length, map, take, refl, ap, sym, ◌∙◌, subst, arith, append_assoc}
 use Rattle.std.proofs.Math.ListN.{get_or-map}
 use Rattle.std.specs.Borrow.{Bor}
-use Rattle.std.proofs.lemmas.List.{append-nil, map-append, map-set, length-map, take_all, take_at, take_more}
+use Rattle.std.proofs.lemmas.List.{append-nil, map-append, map-set, length-map, take_all, take_more}
 use Rattle.std.proofs.lemmas.List.Sorted.{IsPermutation-keeps, IsPermutation-swap, IsPermutation-trans, length_permutation}
 use Rattle.std.specs.Prelude.{Option, slice_index_or, slice_set}
 use Rattle.std.specs.List.{swap, AllByRecursion}
 use Rattle.std.specs.List.Sorted.{IsPermutation, IsSortedBy}
-use Rattle.std.specs.Ordering.{is_lt, nat_cmp}
-use Rattle.std.specs.Cmp.Lexicographic.{slice_cmp}
+use Rattle.std.specs.Ordering.{is_lt}
 use Rattle.far_object.specs.Buckets.{key_cmp}
 use Rattle.far_object.specs.Decoded.{pairs_in}
 use Rattle.far_object.specs.Encodings.{FarLaws}
 use Rattle.far_object.specs.Objects.{body_of}
 use Rattle.far_pairs.specs.Bundles.{IsBundle, all_of, written, AreInOrder, Rises}
+use Rattle.far_pairs.specs.Ranges.{key_before, AreRising}
 use Rattle.far_pairs.proofs.Bundling.{holds}
 
 module _ {X Y : Type 0} (f : X → Y) where
@@ -40,10 +40,6 @@ module _ {X Y : Type 0} (f : X → Y) where
         are = ap (λ (z : List Y). swap z i j) h.are ∙ swap_map h.all i j;
       }) ys moved
 
--- a slice of all elements that was written to is what the list has afterwards
-pub written_back : {X : Type 0} (len : ℕ) (now was : List X) → length now ≡ length was → length was ≡ len → take len (now ++ drop (length now) was) ≡ now
-written_back {X} len now was same is = take_at now (drop (length now) was) len (same ∙ is)
-
 pub all_both : {X : Type 0} (xs ys : List (List X)) → all_of (xs ++ ys) ≡ all_of xs ++ all_of ys
 all_both [] ys = refl
 all_both {X} (x ∷ xs) ys = ap (λ (z : List X). x ++ z) (all_both xs ys) ∙ sym (append_assoc x (all_of xs) (all_of ys))
@@ -67,24 +63,21 @@ module _ {K V : Type 0} (ek : K → List ℕ) (ev : V → List ℕ) where
       → later ≡ map (written ek ev) (all_of (map (λ x. x.now) (xs ++ x ∷ [])))
   lent_more xs x now later old is = lent_both xs (x ∷ []) now (map (written ek ev) x.now) later old (ap (λ (z : List (K × V)). map (written ek ev) z) (sym (append-nil x.now))) is
 
-  abbrev pub before : List ℕ × List ℕ → List ℕ × List ℕ → Bool
-  before a b = is_lt (slice_cmp nat_cmp a.0 b.0)
-
-  rising_back : (es : List (K × V)) → IsSortedBy before (map (written ek ev) es) → IsSortedBy (λ a b. is_lt (key_cmp ek a.0 b.0)) es
+  rising_back : (es : List (K × V)) → AreRising (map (written ek ev) es) → IsSortedBy (λ a b. is_lt (key_cmp ek a.0 b.0)) es
   rising_back es up k d low high =
       let h = up k (written ek ev d) low (let m = length-map es (written ek ev) in omega (arith, high, m)) in
       let a = get_or-map (written ek ev) es (k + 1) d in
       let b = get_or-map (written ek ev) es k d in
-      sym (ap (λ (z : List ℕ × List ℕ). before z (slice_index_or (map (written ek ev) es) k (written ek ev d))) a ∙ ap (λ (z : List ℕ × List ℕ). before (written ek ev (slice_index_or es (k + 1) d)) z) b) ∙ h
+      sym (ap (λ (z : List ℕ × List ℕ). key_before z (slice_index_or (map (written ek ev) es) k (written ek ev d))) a ∙ ap (λ (z : List ℕ × List ℕ). key_before (written ek ev (slice_index_or es (k + 1) d)) z) b) ∙ h
 
   -- what was sorted is the pairs, in the order of their keys
-  pub in_order : (pairs : List (K × V)) (was now : List (List ℕ × List ℕ)) → was ≡ map (written ek ev) pairs → IsPermutation was now → IsSortedBy before now → AreInOrder ek ev pairs now
+  pub in_order : (pairs : List (K × V)) (was now : List (List ℕ × List ℕ)) → was ≡ map (written ek ev) pairs → IsPermutation was now → AreRising now → AreInOrder ek ev pairs now
   in_order pairs was now is moved up =
       let h = lifted (written ek ev) pairs now (subst (λ (z : List (List ℕ × List ℕ)). IsPermutation z now) is moved) in
       record {
         all = h.all;
         same = h.same;
-        rising = rising_back h.all (subst (λ (z : List (List ℕ × List ℕ)). IsSortedBy before z) h.are up);
+        rising = rising_back h.all (subst (λ (z : List (List ℕ × List ℕ)). AreRising z) h.are up);
         are = h.are;
       }
 
@@ -135,7 +128,7 @@ module _ {K V : Type 0} (ek : K → List ℕ) (ev : V → List ℕ) (AK : K → 
   -- the same pairs, and in the order of their keys where what was written again was so sorted
   pub record Again (pairs : List (K × V)) (count : ℕ) (lent : List (List ℕ × List ℕ)) (bytes : List ℕ) : Type 0 where
     pub same : IsPermutation pairs (pairs_in ek ev dk dv count bytes)
-    pub rising : IsSortedBy (before ek ev) lent → Rises ek ev (pairs_in ek ev dk dv count bytes)
+    pub rising : AreRising lent → Rises ek ev (pairs_in ek ev dk dv count bytes)
     pub bundle : IsBundle ek ev dk dv AK AV count bytes
 
   pub again : (pairs : List (K × V)) (count : ℕ) (bytes : List ℕ) (none was now lent : List (List ℕ × List ℕ)) (new : List ℕ) (i : ℕ) → IsBundle ek ev dk dv AK AV count bytes → pairs_in ek ev dk dv count bytes ≡ pairs
@@ -151,6 +144,6 @@ module _ {K V : Type 0} (ek : K → List ℕ) (ev : V → List ℕ) (AK : K → 
       let held = holds ek ev AK AV dk dv lk lv count new h.all (omega (arith, counted, long)) is_body admitted in
       record {
         same = subst (λ (z : List (K × V)). IsPermutation pairs z) (sym held.reads) h.same;
-        rising = λ up. subst (λ (z : List (K × V)). Rises ek ev z) (sym held.reads) (rising_back ek ev h.all (subst (λ (z : List (List ℕ × List ℕ)). IsSortedBy (before ek ev) z) h.are up));
+        rising = λ up. subst (λ (z : List (K × V)). Rises ek ev z) (sym held.reads) (rising_back ek ev h.all (subst (λ (z : List (List ℕ × List ℕ)). AreRising z) h.are up));
         bundle = held.bundle;
       }

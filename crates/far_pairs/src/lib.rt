@@ -11,6 +11,8 @@
 mod bundle;
 mod lent;
 mod order;
+mod ranges;
+mod run;
 
 pub use bundle::Bundle;
 pub use lent::LentPair;

@@ -57,6 +57,14 @@ fn equal_pairs(rt: &impl Abort, lent: &[LentPair<'_>], wanted: &[Pair<'_>]) {
     }
 }
 
+/// Stops the test where other pairs come than these, or in more than one list.
+fn equal_order(rt: &impl Abort, lists: &[Vec<LentPair<'_>>], wanted: &[Pair<'_>]) {
+    equal(rt, lists.len(), 1);
+    for list in lists {
+        equal_pairs(rt, list, wanted);
+    }
+}
+
 #[test]
 fn a_new_bundle_lends_nothing(rt: HostRuntime) {
     let bundle: Bundle<Text, Text> = Bundle::new(rt.alloc());
@@ -129,9 +137,9 @@ fn a_bundle_is_written_again_in_order(rt: HostRuntime) {
 #[test]
 fn no_pair_has_an_order(rt: HostRuntime) {
     let none: [Bundle<Text, Text>; 0] = [];
-    equal_pairs(&rt, &made(&rt, in_key_order(&rt, rt.alloc(), &none)), &[]);
+    equal_order(&rt, &made(&rt, in_key_order(&rt, rt.alloc(), &none)), &[]);
     let empty: [Bundle<Text, Text>; 1] = [Bundle::new(rt.alloc())];
-    equal_pairs(&rt, &made(&rt, in_key_order(&rt, rt.alloc(), &empty)), &[]);
+    equal_order(&rt, &made(&rt, in_key_order(&rt, rt.alloc(), &empty)), &[]);
 }
 
 #[test]
@@ -145,7 +153,7 @@ fn keys_of_three_bundles_come_in_one_order(rt: HostRuntime) {
         bundle_of(&rt, rt.alloc(), &[(b"", b"4"), (b"c", b"5")]),
         bundle_of(&rt, rt.alloc(), &[(b"ab", b""), (b"b", b"6")]),
     ];
-    equal_pairs(
+    equal_order(
         &rt,
         &made(&rt, in_key_order(&rt, rt.alloc(), &bundles)),
         &[
@@ -166,7 +174,7 @@ fn one_key_comes_in_the_order_of_the_bundles(rt: HostRuntime) {
         bundle_of(&rt, rt.alloc(), &[(b"b", b"2"), (b"a", b"9")]),
         bundle_of(&rt, rt.alloc(), &[(b"a", b"1"), (b"b", b"0")]),
     ];
-    equal_pairs(
+    equal_order(
         &rt,
         &made(&rt, in_key_order(&rt, rt.alloc(), &bundles)),
         &[

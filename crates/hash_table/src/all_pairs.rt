@@ -25,6 +25,20 @@ use version_words::{Mark, Naming, empty_holds};
 /// So many buckets at most are read by one caller alone: fewer are not worth a thread.
 pub(crate) const PART: u32 = 16_384;
 
+// How many buckets the first of some callers reads of so many, where there are at most four parts.
+fn first_part(count: u32, callers: usize) -> u32
+    requires { 1 < count }
+    ensures { (0 < result) × (result < count) }
+{
+    if callers < 3 || count <= 2 * PART {
+        count / 2
+    } else if callers < 4 || count <= 3 * PART {
+        count / 3
+    } else {
+        count / 4
+    }
+}
+
 impl<K: FarObject, V: FarObject, J: Naming, D: Device> FarTable<K, V, J, D> {
     // The pairs of so many buckets from this one on, one bucket behind the other, behind a mark. At each later log that has
     // the mark's history they are its map's.
@@ -195,8 +209,9 @@ where
     J: Naming + Send + Sync,
     D: Device + Send,
 {
-    // As `bundle_by_first`, where the first half of the callers reads the first half of the buckets, and the others read the
-    // other half beside them: the bundles of the parts, in the order of the buckets.
+    // As `bundle_by_first`, by a caller for each part: the bundles of the parts, in the order of the buckets. This thread
+    // starts those of all parts but the last, which it reads itself: one that a new thread starts may have to wait for that
+    // thread's processor, where another has nothing to do.
     #[cycle(parts)]
     pub(crate) fn read_parts<R: Threads + Wait + Sync>(
         &self,
@@ -218,11 +233,10 @@ where
             return self.bundle_by_first(rt, alloc, callers, mark, from, count);
         }
         let _buckets = self.words.buckets();
-        let half = count / 2;
-        let rest = count - half;
-        let mid = callers.len() / 2;
-        let (own, others) = callers.split_at_mut(mid);
-        self.read_both(rt, alloc, own, others, mark, from, half, rest)
+        let near = first_part(count, callers.len());
+        let rest = count - near;
+        let (own, others) = callers.split_at_mut(1);
+        self.read_both(rt, alloc, own, others, mark, from, near, rest)
     }
 
     // The pairs of the first so many buckets and of those behind them, read by these callers and those.

@@ -1,12 +1,15 @@
 //! The lines of pairs, made by several threads before they are written.
 ghost use Rattle.std.specs.Prelude.{◌≡◌, ◌++◌, ◌∷◌, map, codes, IfOk, OnOk};
 ghost use Rattle.std.specs.Io.KnownBytes.{Appends};
+ghost use Rattle.far_pairs.specs.Bundles.{all_of};
 ghost use Rattle.run_lines.specs.Output.{written, pair_line};
 
 use crate::pair::Pair;
-use crate::writing::write_pair;
+use crate::writing::write_pairs;
 use far_object::Memory;
-use rayon::iter::{FromParallelIterator, IntoParallelRefIterator, ParallelIterator};
+use rayon::iter::{
+    FromParallelIterator, IndexedParallelIterator, IntoParallelRefIterator, ParallelIterator,
+};
 use std::alloc::{AllocError, Global};
 use std::io;
 use std::io::Write;
@@ -30,10 +33,10 @@ impl Model for PairLines {
     ghost view = { λ l. concat (map (λ t. t.items) l.earlier.items) ++ l.last.items };
 }
 
-impl<'a, P: Pair> FromParallelIterator<&'a P> for PairLines {
+impl<'a, P: Pair> FromParallelIterator<&'a Vec<P>> for PairLines {
     type Alloc = Global;
 
-    ghost from_par_iter_gives = { λ xs lines. lines ≡ written (map (λ x. pair_line (P.texts_of x.now)) xs) };
+    ghost from_par_iter_gives = { λ xs lines. lines ≡ written (map (λ e. pair_line (P.texts_of e)) (all_of (map (λ x. x.now.items) xs))) };
 
     fn empty_in(alloc: &Global) -> Result<Self, AllocError> {
         Ok(PairLines {
@@ -42,8 +45,8 @@ impl<'a, P: Pair> FromParallelIterator<&'a P> for PairLines {
         })
     }
 
-    fn with_item(mut self, item: &'a P) -> Result<Self, AllocError> {
-        match write_pair(&mut self.last, item) {
+    fn with_item(mut self, item: &'a Vec<P>) -> Result<Self, AllocError> {
+        match write_pairs(&mut self.last, item.as_slice()) {
             Ok(()) => Ok(self),
             Err(_) => Err(AllocError),
         }
@@ -65,16 +68,16 @@ impl<'a, P: Pair> FromParallelIterator<&'a P> for PairLines {
 }
 
 impl PairLines {
-    /// The lines of these pairs. A list of 2,048 pairs or more is handed out to threads, as far as these can be started. `Memory`
-    /// comes where a growth is refused.
-    pub fn of<P: Pair + Sync, R: Threads + Sync>(
+    /// The lines of the pairs of these lists, in their order. Each list is handed out to a thread, as far as these can be
+    /// started. `Memory` comes where a growth is refused.
+    pub fn of<P: Pair + Send + Sync, R: Threads + Sync>(
         rt: &R,
         alloc: Global,
-        pairs: &[P],
+        lists: &[Vec<P>],
     ) -> Result<PairLines, Memory>
-        ensures { IfOk result (λ lines. lines ≡ written (map (λ e. pair_line (P.texts_of e)) pairs.now)) }
+        ensures { IfOk result (λ lines. lines ≡ written (map (λ e. pair_line (P.texts_of e)) (all_of (map (λ l. l.items) lists.now)))) }
     {
-        match pairs.par_iter().collect(rt, alloc) {
+        match lists.par_iter().with_min_len(1).collect(rt, alloc) {
             Ok(lines) => Ok(lines),
             Err(AllocError) => Err(Memory),
         }

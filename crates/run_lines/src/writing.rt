@@ -31,7 +31,7 @@ pub fn write_files<W: Write>(out: &mut W, texts: &[Vec<u8>]) -> io::Result<()>
 }
 
 /// Writes a pair as a line.
-pub(crate) fn write_pair<W: Write, P: Pair>(out: &mut W, pair: &P) -> io::Result<()>
+fn write_pair<W: Write, P: Pair>(out: &mut W, pair: &P) -> io::Result<()>
     ensures { OnOk result (Appends (W.contents out.old) (W.contents out.new) (pair_line (P.texts_of pair.now) ++ 10 ∷ [])) }
 {
     out.write_all(pair.key())?;
@@ -41,7 +41,7 @@ pub(crate) fn write_pair<W: Write, P: Pair>(out: &mut W, pair: &P) -> io::Result
 }
 
 /// Writes each pair as a line.
-fn write_pairs<W: Write, P: Pair>(out: &mut W, pairs: &[P]) -> io::Result<()>
+pub(crate) fn write_pairs<W: Write, P: Pair>(out: &mut W, pairs: &[P]) -> io::Result<()>
     ensures { OnOk result (Appends (W.contents out.old) (W.contents out.new) (written (map (λ e. pair_line (P.texts_of e)) pairs.now))) }
 {
     for pair in pairs {

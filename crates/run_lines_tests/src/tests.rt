@@ -97,23 +97,40 @@ fn little_room(rt: HostRuntime) {
     }
 }
 
-// Pairs whose keys are the numbers below this one.
-fn numbered(rt: &impl Abort, alloc: Global, count: u32) -> Vec<(Text, Text)> {
+// Pairs whose keys are these numbers, from the first up to the second.
+fn numbered(rt: &impl Abort, alloc: Global, from: u32, to: u32) -> Vec<(Text, Text)> {
     let mut pairs = Vec::new(alloc);
-    for number in 0..count {
+    for number in from..to {
         let text = made(rt, format!(in alloc; "{number}"));
         made(rt, pairs.push(pair(rt, alloc, text.as_bytes(), b"value")));
     }
     pairs
 }
 
+// Lists of so many pairs in all, of which one may be empty.
+fn lists_of(rt: &impl Abort, alloc: Global, cuts: [u32; 4]) -> Vec<Vec<(Text, Text)>> {
+    let mut lists = Vec::new(alloc);
+    let mut from = 0;
+    for to in cuts {
+        made(rt, lists.push(numbered(rt, alloc, from, to)));
+        from = to;
+    }
+    lists
+}
+
 #[test]
 fn lines_of_pairs_are_those_written_one_by_one(rt: HostRuntime) {
-    for count in [0, 1, 2, 2_047, 2_048, 5_000] {
-        let pairs = numbered(&rt, rt.alloc(), count);
-        let lines = made(&rt, PairLines::of(&rt, rt.alloc(), pairs.as_slice()));
+    for cuts in [
+        [0, 0, 0, 0],
+        [0, 0, 1, 1],
+        [1, 2, 2, 3],
+        [700, 1_400, 2_000, 5_000],
+    ] {
+        let lists = lists_of(&rt, rt.alloc(), cuts);
+        let lines = made(&rt, PairLines::of(&rt, rt.alloc(), lists.as_slice()));
         let mut at_once = Vec::new(rt.alloc());
         made(&rt, lines.write_contents(&mut at_once));
+        let pairs = numbered(&rt, rt.alloc(), 0, cuts[3]);
         let mut one_by_one = Vec::new(rt.alloc());
         made(&rt, write_contents(&mut one_by_one, pairs.as_slice()));
         holds(&rt, at_once.as_slice() == one_by_one.as_slice());
@@ -122,8 +139,8 @@ fn lines_of_pairs_are_those_written_one_by_one(rt: HostRuntime) {
 
 #[test]
 fn lines_of_pairs_with_little_room(rt: HostRuntime) {
-    let pairs = numbered(&rt, rt.alloc(), 2);
-    let lines = made(&rt, PairLines::of(&rt, rt.alloc(), pairs.as_slice()));
+    let lists = lists_of(&rt, rt.alloc(), [0, 1, 1, 2]);
+    let lines = made(&rt, PairLines::of(&rt, rt.alloc(), lists.as_slice()));
     let wanted = b"contents\n0 value\n1 value\n".as_slice();
     for room in 0..=wanted.len() {
         let mut bytes = [0u8; 32];
@@ -152,6 +169,7 @@ impl Write for Unflushed {
 fn failing_flush(rt: HostRuntime) {
     let none: [(Text, Text); 0] = [];
     holds(&rt, write_contents(&mut Unflushed, &none).is_err());
-    let lines = made(&rt, PairLines::of(&rt, rt.alloc(), &none));
+    let no_list: [Vec<(Text, Text)>; 0] = [];
+    let lines = made(&rt, PairLines::of(&rt, rt.alloc(), &no_list));
     holds(&rt, lines.write_contents(&mut Unflushed).is_err());
 }

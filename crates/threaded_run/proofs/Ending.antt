@@ -135,6 +135,11 @@ pub ended : {T E : Type 0} (r : Result T E) (P Q : Type 0) → (P → Q) → OnO
 ended (Ok done) P Q f h = f h
 ended (Err e) P Q f h = tt
 
+-- the fault of the end, where that is so of each
+pub faulted : {T E : Type 0} (r : Result T E) (P Q : E → Type 0) → ((e : E) → P e → Q e) → IfErr r P → IfErr r Q
+faulted (Ok done) P Q f h = tt
+faulted (Err e) P Q f h = f e h
+
 fault_after : (files : List (List Command)) (old new : Option (List ℕ)) (text : List ℕ) (e : ThreadedFault) → AreLines files text → EndsAt old new text e → WritesBefore files old new e
 fault_after files old new text fault.Memory lines h = absurd h
 fault_after files old new text fault.Device lines h = absurd h

@@ -6,9 +6,9 @@ ghost use Rattle.far_pairs.specs.Bundles.{all_of};
 ghost use Rattle.run_lines.specs.Calls.{Texts};
 ghost use Rattle.run_lines.specs.Output.{written, pair_line, file_texts};
 ghost use Rattle.hash_table.specs.Closes.{IsClosed};
-ghost use Rattle.std.specs.Thread.{IsSync, IsSend};
+ghost use Rattle.std.specs.Thread.{IsSync};
 ghost use Rattle.threaded_run.specs.Runs.{EndsAt};
-ghost use Rattle.threaded_run.specs.Ends.{Closes, AreLinesOf, Holds};
+ghost use Rattle.threaded_run.specs.Ends.{AreLinesOf, Holds, Writes};
 
 use crate::fault::ThreadedFault;
 use far_device::Device;
@@ -33,9 +33,6 @@ fn refusal_of<J: Naming>(fault: CloseFault<Text, Text, J>) -> Refusal {
     }
 }
 
-/// The table and all callers, until the table is closed.
-type Live<J, D> = Option<(FarTable<Text, Text, J, D>, Vec<Caller<Text, Text, J>>)>;
-
 /// The lines of the pairs, in key order.
 fn spell<R: Threads + Sync>(
     rt: &R,
@@ -44,80 +41,112 @@ fn spell<R: Threads + Sync>(
 ) -> Result<PairLines, Refusal>
     ensures { IfOk result (AreLinesOf (all_of bundles.now)) }
 {
-    let pairs = match in_key_order(rt, alloc, bundles) {
-        Ok(pairs) => pairs,
+    let lists = match in_key_order(rt, alloc, bundles) {
+        Ok(lists) => lists,
         Err(Memory) => return Err(Refusal::Memory),
     };
-    match PairLines::of(rt, alloc, pairs.as_slice()) {
+    match PairLines::of(rt, alloc, lists.as_slice()) {
         Ok(lines) => Ok(lines),
         Err(Memory) => Err(Refusal::Memory),
     }
 }
 
-/// The same, while the table's memory is given back on a thread of its own.
-fn spell_beside<J, D, R>(
-    rt: &R,
-    alloc: Global,
-    bundles: &[Bundle<Text, Text>],
-    table: ClosedTable<Text, Text, J, D>,
-) -> Result<PairLines, Refusal>
-where
-    J: Naming + Send + Sync,
-    D: Device + Send,
-    R: Threads + Sync,
-    ensures { IfOk result (AreLinesOf (all_of bundles.now)) }
+/// The fault of contents that can't be read for this reason, once what was written is flushed.
+fn flushed<W: Write>(refusal: Refusal, out: &mut W) -> ThreadedFault
+    ensures { (front : Option (List ℕ)) (lines : List ℕ) → Appends front (W.contents out.old) lines → EndsAt front (W.contents out.new) lines result }
 {
-    let mut left = Some(table);
-    let mut dropping = || drop(left.take());
-    let mut spelling = || -> Result<PairLines, Refusal>
-        requires { IsSync R.row }
-        ensures { IfOk result (AreLinesOf (all_of bundles.entry.now)) }
-    { spell(rt, alloc, bundles) };
-    let (_, lines) = join_mut(rt, &mut dropping, &mut spelling);
-    lines
-}
-
-/// Closes the table, where it is open, and gives the lines of what it held.
-fn close<J, D, R>(
-    rt: &R,
-    alloc: Global,
-    live: &mut Live<J, D>,
-) -> Option<Result<PairLines, Refusal>>
-where
-    J: Naming + Send + Sync,
-    D: Device + Send,
-    R: Threads + Wait + Sync,
-    ensures { Closes J.limits live.old result }
-{
-    let (table, callers) = live.take()?;
-    match table.close_on_threads(rt, alloc, callers) {
-        Ok((bundles, table)) => Some(spell_beside(rt, alloc, bundles.as_slice(), table)),
-        Err((fault, _table, _callers)) => Some(Err(refusal_of(fault))),
+    match out.flush() {
+        Ok(()) => ThreadedFault::Contents(refusal),
+        Err(_) => ThreadedFault::Write,
     }
 }
 
-/// Writes the contents of a closed table behind what was written, or flushes where they can't be read.
-fn write_closed<W: Write>(
-    closed: Result<PairLines, Refusal>,
+/// Writes the contents behind what was written, or flushes where they can't be read.
+fn write_contents<W: Write>(
+    contents: Result<PairLines, Refusal>,
     out: &mut W,
 ) -> Result<(), ThreadedFault>
-    ensures written { OnOk result (Holds closed (λ lines. Appends (W.contents out.old) (W.contents out.new) (codes "contents" ++ 10 ∷ lines))) }
+    ensures written { OnOk result (Holds contents (λ lines. Appends (W.contents out.old) (W.contents out.new) (codes "contents" ++ 10 ∷ lines))) }
     ensures fault { IfErr result (λ fault. (front : Option (List ℕ)) (lines : List ℕ) → Appends front (W.contents out.old) lines → EndsAt front (W.contents out.new) lines fault) }
 {
-    match closed {
+    match contents {
         Ok(lines) => match lines.write_contents(out) {
             Ok(()) => Ok(()),
             Err(_) => Err(ThreadedFault::Write),
         },
-        Err(refusal) => match out.flush() {
-            Ok(()) => Err(ThreadedFault::Contents(refusal)),
-            Err(_) => Err(ThreadedFault::Write),
-        },
+        Err(refusal) => Err(flushed(refusal, out)),
     }
 }
 
-/// Closes the table and makes the lines of what it held on threads of their own, while this one writes the lines of the files;
-/// then it writes what the table held. Where that can't be read the lines are written all the same.
+/// Writes the lines of the files, while those of the contents are made on threads; and behind them the contents.
+fn write_all<R, W>(
+    rt: &R,
+    alloc: Global,
+    bundles: &[Bundle<Text, Text>],
+    texts: &[Vec<u8>],
+    out: &mut W,
+) -> Result<(), ThreadedFault>
+where
+    R: Threads + Sync,
+    W: Write,
+    ensures written { OnOk result (Writes (all_of bundles.now) (W.contents out.old) (W.contents out.new) (file_texts 1 (map (λ t. t.items) texts.now))) }
+    ensures fault { IfErr result (EndsAt (W.contents out.old) (W.contents out.new) (file_texts 1 (map (λ t. t.items) texts.now))) }
+{
+    let mut spelling = || -> Result<PairLines, Refusal>
+        requires { IsSync R.row }
+        ensures { IfOk result (AreLinesOf (all_of bundles.entry.now)) }
+    { spell(rt, alloc, bundles) };
+    let mut writing = || -> io::Result<()>
+        ensures { OnOk result (Appends (W.contents out.entry.now) (W.contents out.exit.now) (file_texts 1 (map (λ t. t.items) texts.entry.now))) }
+    { write_files(out, texts) };
+    let (contents, wrote) = join_mut(rt, &mut spelling, &mut writing);
+    match wrote {
+        Ok(()) => {}
+        Err(_) => return Err(ThreadedFault::Write),
+    }
+    write_contents(contents, out)
+}
+
+/// The same, while the table's memory is given back on a thread of its own.
+fn write_beside<J, D, R, W>(
+    rt: &R,
+    alloc: Global,
+    table: ClosedTable<Text, Text, J, D>,
+    bundles: &[Bundle<Text, Text>],
+    texts: &[Vec<u8>],
+    out: &mut W,
+) -> Result<(), ThreadedFault>
+where
+    J: Naming + Send + Sync,
+    D: Device + Send,
+    R: Threads + Sync,
+    W: Write,
+    ensures written { OnOk result (Writes (all_of bundles.now) (W.contents out.old) (W.contents out.new) (file_texts 1 (map (λ t. t.items) texts.now))) }
+    ensures fault { IfErr result (EndsAt (W.contents out.old) (W.contents out.new) (file_texts 1 (map (λ t. t.items) texts.now))) }
+{
+    let mut left = Some(table);
+    let mut dropping = || drop(left.take());
+    let mut writing = || -> Result<(), ThreadedFault>
+        requires { IsSync R.row }
+        ensures written { OnOk result (Writes (all_of bundles.entry.now) (W.contents out.entry.now) (W.contents out.exit.now) (file_texts 1 (map (λ t. t.items) texts.entry.now))) }
+        ensures fault { IfErr result (EndsAt (W.contents out.entry.now) (W.contents out.exit.now) (file_texts 1 (map (λ t. t.items) texts.entry.now))) }
+    { write_all(rt, alloc, bundles, texts, out) };
+    let (_, ended) = join_mut(rt, &mut dropping, &mut writing);
+    ended
+}
+
+/// Writes the lines of the files alone, where the contents can't be read for this reason, and gives the fault.
+fn write_lines<W: Write>(refusal: Refusal, texts: &[Vec<u8>], out: &mut W) -> ThreadedFault
+    ensures { EndsAt (W.contents out.old) (W.contents out.new) (file_texts 1 (map (λ t. t.items) texts.now)) result }
+{
+    match write_files(out, texts) {
+        Ok(()) => flushed(refusal, out),
+        Err(_) => ThreadedFault::Write,
+    }
+}
+
+/// Closes the table, and writes the lines of the files and what the table held. Where that can't be read the lines are written
+/// all the same.
 pub(crate) fn finish<J, D, R, W>(
     rt: &R,
     alloc: Global,
@@ -135,21 +164,13 @@ where
         × Appends (W.contents out.old) (W.contents out.new) (file_texts 1 (map (λ t. t.items) texts.now) ++ written (codes "contents" ∷ map pair_line pairs))) }
     ensures fault { IfErr result (EndsAt (W.contents out.old) (W.contents out.new) (file_texts 1 (map (λ t. t.items) texts.now))) }
 {
-    let mut live = Some((table, callers));
-    let mut closing = || -> Option<Result<PairLines, Refusal>>
-        requires { IsSync R.row × IsSend J.row × IsSync J.row × IsSend D.row }
-        ensures { Closes J.limits live.entry result }
-    { close(rt, alloc, &mut live) };
-    let mut writing = || -> io::Result<()>
-        ensures { OnOk result (Appends (W.contents out.entry.now) (W.contents out.exit.now) (file_texts 1 (map (λ t. t.items) texts.entry.now))) }
-    { write_files(out, texts) };
-    let (closed, wrote) = join_mut(rt, &mut closing, &mut writing);
-    match wrote {
-        Ok(()) => {}
-        Err(_) => return Err(ThreadedFault::Write),
+    match table.close_on_threads(rt, alloc, callers) {
+        Ok((bundles, table)) => {
+            match write_beside(rt, alloc, table, bundles.as_slice(), texts, out) {
+                Ok(()) => Ok(()),
+                Err(fault) => Err(fault),
+            }
+        }
+        Err((fault, _table, _callers)) => Err(write_lines(refusal_of(fault), texts, out)),
     }
-    let Some(closed) = closed else {
-        unreachable!();
-    };
-    write_closed(closed, out)
 }

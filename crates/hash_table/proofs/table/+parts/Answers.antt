@@ -1,4 +1,4 @@
-use Rattle.std.proofs.Common.{rules, ◌≡◌, ◌+◌, ◌∙◌, List, ◌-◌, ◌/◌, ap, arith}
+use Rattle.std.proofs.Common.{rules, ◌≡◌, ◌+◌, ◌∙◌, List, ◌-◌, ap, arith}
 use mathlib.Core.List.{IsPrefix}
 use Rattle.far_pairs.specs.Bundles.{all_of}
 use Rattle.far_pairs.proofs.Ordering.{all_both}
@@ -14,8 +14,8 @@ pub FarTable::read_parts-read_both-requires-after_bounds : goal.FarTable::read_p
 FarTable::read_parts-read_both-requires-after_bounds g t c κs within =
     let cut = c.split_at_mut-own.ensures in
     let told = rw cut.value at c.requires.told in
-    let many = c.if-count-le-PART.false in
     let two = c.if-callers-lt2.false in
+    let part = c.first_part-near.ensures in
     let fits = c.requires.within in
     let near = cut.front_len in
     let far = cut.back_len in (
@@ -23,7 +23,7 @@ FarTable::read_parts-read_both-requires-after_bounds g t c κs within =
       (
         omega (arith, fits),
         (
-          (omega (arith, many), omega (arith, many)),
+          (part.0, omega (arith, part.1)),
           (
             (omega (arith, near, two), omega (arith, far, two)),
             (
@@ -44,5 +44,6 @@ FarTable::read_parts-returns-clause-back g t c =
 pub FarTable::read_parts-returns-clause-pairs : goal.FarTable::read_parts-returns-clause-pairs
 FarTable::read_parts-returns-clause-pairs g t c =
     let both = c.read_both.ensures in
-    let is : c.args.count / 2 + (c.args.count - c.args.count / 2) ≡ c.args.count = omega arith in
+    let part = c.first_part-near.ensures in
+    let is : c.first_part-near.result + (c.args.count - c.first_part-near.result) ≡ c.args.count = omega (arith, part.1) in
     rw is at both.pairs

@@ -1,37 +1,24 @@
-use Rattle.std.proofs.Common.{rules, ◌++◌, ◌∷◌, ℕ, List, Option, map, Some, Vec, Global, subst}
-use Rattle.std.specs.Prelude.{Result, Ok, Err, IfErr, codes}
+use Rattle.std.proofs.Common.{◌≡◌, ◌++◌, ◌∷◌, ℕ, List, Option, map, subst}
+use Rattle.std.specs.Prelude.{codes}
 use Rattle.std.specs.Io.KnownBytes.{Appends}
 use Rattle.far_object.specs.Encodings.{enc_text}
+use Rattle.far_pairs.specs.Bundles.{all_of}
 use Rattle.table_core.specs.declared.limits.Limits.{Limits}
 use Rattle.hash_table.specs.declared.caller.Caller.{Caller}
-use Rattle.hash_table.specs.Closes.{IsClosed}
+use Rattle.hash_table.specs.Closes.{ClosesSorted, IsClosed}
 use Rattle.run_lines.specs.Calls.{Texts}
 use Rattle.run_lines.specs.Output.{written, pair_line, file_texts}
-use Rattle.run_lines.proofs.Written.{both}
-use Rattle.threaded_run.specs.Ends.{Closes, Holds}
-use Rattle.threaded_run.proofs.Ending.{ended}
+use Rattle.threaded_run.specs.Ends.{Writes}
 use Rattle.threaded_run.proofs.finishing.finish.Goals as goal
 
--- the pairs of the closed table, and what was written of the files and of them
-by : {J T E : Type 0} (l : Limits) (live : T × Vec (Caller (List ℕ) (List ℕ) J) Global) (closed : Result (List ℕ) E) (front middle after : Option (List ℕ)) (texts : List ℕ)
-    → Closes l (Some live) (Some closed) → Appends front middle texts → Holds closed (λ lines. Appends middle after (codes "contents" ++ 10 ∷ lines))
-    → (pairs : Texts) × IsClosed enc_text enc_text l live.1.items pairs × Appends front after (texts ++ written (codes "contents" ∷ map pair_line pairs))
-by l live (Ok lines) front middle after texts closes first behind = (closes.0, closes.1, both front middle after _ _ first (subst (λ (z : List ℕ). Appends middle after (codes "contents" ++ 10 ∷ z)) closes.2 behind))
-by l live (Err refusal) front middle after texts closes first behind = absurd behind
+-- what was written is the pairs of the closed table
+by : {J : Type 0} (l : Limits) (callers : List (Caller (List ℕ) (List ℕ) J)) (bundles given : List Texts) (old new : Option (List ℕ)) (text : List ℕ) → given ≡ bundles → ClosesSorted enc_text enc_text l callers (all_of bundles) → Writes (all_of given) old new text
+    → (pairs : Texts) × IsClosed enc_text enc_text l callers pairs × Appends old new (text ++ written (codes "contents" ∷ map pair_line pairs))
+by l callers bundles given old new text same closes wrote =
+    let w = subst (λ (z : List Texts). Writes (all_of z) old new text) same wrote in
+    (w.are.all, closes w.are.all w.are.same w.are.rising, subst (λ (z : List ℕ). Appends old new (text ++ (codes "contents" ++ 10 ∷ z))) w.are.are w.wrote)
 
--- the fault of the end, where that is so of each
-faulted : {T E : Type 0} (r : Result T E) (P Q : E → Type 0) → ((e : E) → P e → Q e) → IfErr r P → IfErr r Q
-faulted (Ok done) P Q f h = tt
-faulted (Err e) P Q f h = f e h
-
-pub returns-clause-written : goal.returns-clause-written
-returns-clause-written g c =
-    let l = g.J.Naming.limits in
-    let closes : Closes l (Some (c.args.table, c.args.callers)) (Some c.in-Some.closed) = search rules in
-    ended c.write_closed.result _ _
-    (λ h. by l (c.args.table, c.args.callers) c.in-Some.closed (g.W.Write.contents c.args.out.now) _ (g.W.Write.contents c.write_closed.new.out) (file_texts 1 (map (λ t. t.items) c.args.texts.now)) closes (search rules) h)
-    c.write_closed.ensures.written
-
-pub returns-clause-fault : goal.returns-clause-fault
-returns-clause-fault g c =
-    faulted c.write_closed.result _ _ (λ e h. h (g.W.Write.contents c.args.out.now) (file_texts 1 (map (λ t. t.items) c.args.texts.now)) (search rules)) c.write_closed.ensures.fault
+pub returns-in-Ok-write_beside-clause-written : goal.returns-in-Ok-write_beside-clause-written
+returns-in-Ok-write_beside-clause-written g c =
+    by g.J.Naming.limits c.args.callers.items c.in-Ok.bundles.items c.as_slice.result.now (g.W.Write.contents c.args.out.now) (g.W.Write.contents c.write_beside.new.out) (file_texts 1 (map (λ t. t.items) c.args.texts.now))
+    c.as_slice.ensures.value c.in-Ok.ensures.closed c.in-Ok-write_beside.ensures.written
