@@ -1,10 +1,14 @@
 //! Several files beside the evictor's own thread.
 use super::expect::{equal, made};
-use super::{Settings, ample, expect_written, lane, run_over};
-use std::sync::Arc;
+use super::{Settings, ample, lane, run, run_over};
+use std::alloc::Global;
+use std::process::Abort;
 use std::sync::atomic::{AtomicU64, Ordering};
+use std::sync::{Arc, Wait};
 use std::thread;
-use threaded_run::Gate;
+use std::thread::Threads;
+use std::time::Clock;
+use threaded_run::{Gate, OpenGate};
 
 /// How often a held command looks whether it may go on.
 const MOST_LOOKS: u64 = 10_000_000;
@@ -50,6 +54,28 @@ fn the_evictor_has_a_thread(rt: HostRuntime) {
     equal(&rt, out.as_slice(), wanted.as_slice());
 }
 
+/// How often a run with a `full` is made again. That reply may come, and then others differ: where the system takes the
+/// processor from a worker that has the only frame which is not held, another may try a thousand times meanwhile.
+const MOST_RUNS: u32 = 100;
+
+/// What a run wrote that replied no `full`; else what the last wrote.
+fn written_in_time<R: Alloc<A = Global> + Threads + Wait + Clock + Abort + Sync>(
+    rt: &R,
+    files: &[&[u8]],
+) -> Vec<u8> {
+    let mut last = Vec::new(rt.alloc());
+    for _ in 0..MOST_RUNS {
+        let (ended, out) = run(rt, ample(), files, &OpenGate);
+        equal(rt, ended, Ok(()));
+        let is_full = out.windows(5).any(|bytes| bytes == b"full\n".as_slice());
+        last = out;
+        if !is_full {
+            break;
+        }
+    }
+    last
+}
+
 /// Four files at keys of their own, with fewer frames than buckets are used: each reads what it put.
 #[test]
 fn four_files_share_two_frames(rt: HostRuntime) {
@@ -61,5 +87,5 @@ fn four_files_share_two_frames(rt: HostRuntime) {
     ];
     let wanted =
         b"file 1\nnone\n1\n1\n2\nfile 2\nnone\n3\n3\nnone\nfile 3\nnone\n4\n5\n5\nfile 4\nnone\nnone\n7\n7\n7\n7\nreleased\n8\ncontents\na 2\nc 5\nd 8\n";
-    expect_written(&rt, ample(), &files, wanted);
+    equal(&rt, written_in_time(&rt, &files).as_slice(), wanted);
 }
