@@ -2,9 +2,9 @@
 //!
 //! # Why in ranges of keys
 //!
-//! Of two runs one thread makes one: which pair comes next is known only when the one in front of it is. So the runs are
-//! cut, all at the same key: what comes before it in any of them comes before what does not. So each part is made one list by
-//! itself, on a thread of its own.
+//! Merging two runs is work for one thread: which pair comes next is known only when the one in front of it is. But where all
+//! runs are cut at one key, each pair before the cut comes before each pair behind it, whatever runs they are of. So the parts
+//! on either side are merged on threads of their own, and their lists stand one behind the other.
 ghost use Rattle.std.specs.Prelude.{◌≡◌, ◌<◌, IfOk, map};
 ghost use Rattle.std.specs.Thread.{IsSync};
 ghost use Rattle.far_pairs.specs.Bundles.{all_of};
