@@ -9,9 +9,9 @@ says little, and the processor time more.
 The status is 1 where a goal is missed, by the middle of the rounds' quotients: a best time of four threads asks that nothing
 disturbs any of four processors, so on a shared machine it is rarer than that of one. A command's wall time may grow by at most a
 quarter from the smallest file to the largest; one file may take at most 1.5 times the plain run's processor time where there are
-as many frames as buckets; four files of other keys have to run at least 2.5 times one file's commands in a second; and one file
-where the frames are a quarter of the buckets that it uses may take at most 4 times the wall time that it takes with frames for
-all.
+as many frames as buckets; four files of other keys have to run at least 2.5 times one file's commands in a second; and one file,
+or four, where the frames are a quarter of the buckets that they use, may take at most 4 times the wall time that they take with
+frames for all.
 """
 import os
 import statistics
@@ -23,8 +23,11 @@ import time
 BUCKETS = 65_536
 SIZES = [0, 8_192, 16_384, 32_768, 65_536]
 LARGEST = SIZES[-1]
-# 20,000 keys whose hashes spread over the buckets use some 17,000 of them.
+# The runs on empty files whose time is taken off, where those have another name.
+EMPTY = {"four files": "four empty files", "four on few frames": "four empty files", "few frames": "ample"}
+# A quarter of the buckets that 20,000 and 80,000 keys use, whose hashes spread over them: some 17,000 and 46,000.
 FEW_FRAMES = 17_000 // 4
+FEW_FOR_FOUR = 46_000 // 4
 
 
 def take_time(arguments, given, out, *others):
@@ -49,14 +52,14 @@ def same(one, other):
 
 
 def commands_of(name, size):
-    return 4 * size if name in ("four files", "plain threads", "four processes") else size
+    return 4 * size if name in ("four files", "four on few frames", "plain threads", "four processes") else size
 
 
 def per_command(took, name, size):
     """Microseconds of wall and processor time a command, with the time of empty files taken off."""
     if size == 0:
         return [0, 0]
-    empty = took["four empty files" if name == "four files" else "ample" if name == "few frames" else name, 0]
+    empty = took[EMPTY.get(name, name), 0]
     return [(whole - less) / commands_of(name, size) * 1e6 for whole, less in zip(took[name, size][:2], empty)]
 
 
@@ -78,6 +81,7 @@ def main(program, farbench, plain, threads, runs="5"):
         kinds["few frames", LARGEST] = [program, str(BUCKETS), str(FEW_FRAMES), "4096", "-"], files[LARGEST, 0]
         four = [files[LARGEST, file] for file in range(4)]
         kinds["four files", LARGEST] = [program, str(BUCKETS), str(BUCKETS), "4096", *four], files[0, 0]
+        kinds["four on few frames", LARGEST] = [program, str(BUCKETS), str(FEW_FOR_FOUR), "4096", *four], files[0, 0]
         kinds["four empty files", 0] = [program, str(BUCKETS), str(BUCKETS), "4096", *[files[0, 0]] * 4], files[0, 0]
         kinds["plain threads", 0] = [threads, str(BUCKETS), str(BUCKETS), "4096", *[files[0, 0]] * 4], files[0, 0]
         kinds["plain threads", LARGEST] = [threads, str(BUCKETS), str(BUCKETS), "4096", *four], files[0, 0]
@@ -90,19 +94,21 @@ def main(program, farbench, plain, threads, runs="5"):
             rounds.append({kind: take_time(arguments, given, f"{folder}/{kind[0]}", *others) for kind, (arguments, given, *others) in kinds.items()})
             for name in ("plain run", "plain Rust", "few frames"):
                 assert same(f"{folder}/ample", f"{folder}/{name}"), f"{name} writes something else"
-            assert same(f"{folder}/four files", f"{folder}/plain threads"), "plain threads write something else"
+            for name in ("plain threads", "four on few frames"):
+                assert same(f"{folder}/four files", f"{folder}/{name}"), f"{name} writes something else"
     best = {kind: tuple(map(min, zip(*(took[kind] for took in rounds)))) for kind in kinds}
     middle = {kind: tuple(map(statistics.median, zip(*(took[kind] for took in rounds)))) for kind in kinds}
     print(f"{time.strftime('%Y-%m-%d %H:%M')}, {os.cpu_count()} processors, load before {load[0]:.1f}, after {os.getloadavg()[0]:.1f}; {runs} rounds, best and in the middle, {BUCKETS} buckets")
-    print(f"{'what':>17} {'commands':>9} {'ms':>8} {'middle':>8} {'us/command':>11} {'cpu-ms':>8} {'cpu-us/command':>15} {'peak-KiB':>9}")
+    print(f"{'what':>18} {'commands':>9} {'ms':>8} {'middle':>8} {'us/command':>11} {'cpu-ms':>8} {'cpu-us/command':>15} {'peak-KiB':>9}")
     for (name, size), (wall, cpu, peak) in best.items():
         each = per_command(best, name, size)
-        print(f"{name:>17} {commands_of(name, size):>9} {wall * 1e3:>8.1f} {middle[name, size][0] * 1e3:>8.1f} {each[0]:>11.3f} {cpu * 1e3:>8.0f} {each[1]:>15.3f} {peak:>9}")
+        print(f"{name:>18} {commands_of(name, size):>9} {wall * 1e3:>8.1f} {middle[name, size][0] * 1e3:>8.1f} {each[0]:>11.3f} {cpu * 1e3:>8.0f} {each[1]:>15.3f} {peak:>9}")
     quotients = [
         ("a command's time, largest file to smallest", ("ample", LARGEST), ("ample", SIZES[1]), 0, 1.25, -1),
         ("processor time, to the plain run's", ("ample", LARGEST), ("plain run", LARGEST), 1, 1.5, -1),
         ("commands in a second, four files to one", ("ample", LARGEST), ("four files", LARGEST), 0, 2.5, 1),
         ("time with few frames, to ample", ("few frames", LARGEST), ("ample", LARGEST), 0, 4, -1),
+        ("four files' time with few frames, to ample", ("four on few frames", LARGEST), ("four files", LARGEST), 0, 4, -1),
         ("commands in a second, four processes to one", ("ample", LARGEST), ("four processes", LARGEST), 0, None, 1),
         ("commands in a second, plain threads to one", ("plain Rust", LARGEST), ("plain threads", LARGEST), 0, None, 1),
     ]
