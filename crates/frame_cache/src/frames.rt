@@ -18,7 +18,7 @@
 //! Which frames are free is found by two layers of bits. Nothing is claimed of them. A frame is named before it becomes
 //! free, and whoever takes it clears its bit afterwards, so that the lower layer names each free frame, but for those that
 //! were kept, and at rest no other. A bit of the upper layer may be missing for a moment. So a call that finds no frame by
-//! both looks through the lower layer before it answers `NoFrame`; and at each frame, once one was kept.
+//! both looks through the lower layer before it answers `NoFrame`; and once a frame was kept, at the next 64 frames in turn.
 //!
 //! Each free frame is named to all threads, and each that takes or frees one writes the same few words. A caller who fills
 //! the frames that it emptied itself need not: `reclaim_kept` empties a frame without naming it, and `reserve_kept` takes
@@ -39,8 +39,8 @@ use far_object::{FarObject, Memory};
 use std::alloc::Global;
 use std::marker::Model;
 use std::mem::{forget, size_of};
-use std::sync::atomic::AtomicBool;
 use std::sync::atomic::Ordering::SeqCst;
+use std::sync::atomic::{AtomicBool, AtomicU32};
 use table_core::word::{name_of, place_of};
 use version_words::{Naming, Spare};
 
@@ -73,6 +73,8 @@ pub struct Frames<K: FarObject, V: FarObject, J: Naming> {
     vacant: Vacant,
     // Whether a frame was ever kept.
     keeps: AtomicBool,
+    // The frame at which the next look for one that was kept begins.
+    hand: AtomicU32,
     touched: Bits,
 }
 
@@ -101,6 +103,7 @@ impl<K: FarObject, V: FarObject, J: Naming> Frames<K, V, J> {
             slots,
             vacant: Vacant::all(alloc, count)?,
             keeps: AtomicBool::new(false),
+            hand: AtomicU32::new(0),
             touched: Bits::new(alloc, count)?,
         })
     }
@@ -181,10 +184,27 @@ impl<K: FarObject, V: FarObject, J: Naming> Frames<K, V, J> {
         None
     }
 
+    // A free frame among the next 64: one that was kept has no name in the hints. Callers that find no frame are many where
+    // frames are few, so none of them looks at all frames; each goes on where the last ended.
+    fn reserve_unnamed(&self) -> Option<Reserved<'_, K, V, J>>
+        ensures { IfSome result (λ reserved. reserved < self.now) }
+    {
+        let from = self.hand.load(SeqCst);
+        let end = from.saturating_add(WORD);
+        let next = if end < self.count() { end } else { 0 };
+        self.hand.store(next, SeqCst);
+        for frame in from..end {
+            if let Some(reserved) = self.reserve_kept(frame) {
+                return Some(reserved);
+            }
+        }
+        None
+    }
+
     /// A free frame for this call alone: the first that the hints name and that is free, which is the first free one at
-    /// rest. `NoFrame` comes after a second look at all hints, and, once a frame was kept, one at each frame in turn, where
-    /// each was taken at that look, or was taken by another call before this one could. No clause says which frame comes, nor
-    /// when `NoFrame` does.
+    /// rest. `NoFrame` comes after a second look at all hints, and, once a frame was kept, one at 64 frames, or at all where
+    /// there are fewer, where each was taken at that look, or was taken by another call before this one could. The next such
+    /// look is at those behind, and so on in turn. No clause says which frame comes, nor when `NoFrame` does.
     pub fn reserve(&self) -> Result<Reserved<'_, K, V, J>, NoFrame>
         ensures here { IfOk result (λ reserved. reserved < self.now) }
     {
@@ -199,10 +219,8 @@ impl<K: FarObject, V: FarObject, J: Naming> Frames<K, V, J> {
             }
         }
         if self.keeps.load(SeqCst) {
-            for frame in 0..self.slots.len() {
-                if let Some(reserved) = self.reserve_kept(frame as u32) {
-                    return Ok(reserved);
-                }
+            if let Some(reserved) = self.reserve_unnamed() {
+                return Ok(reserved);
             }
         }
         Err(NoFrame)
@@ -225,7 +243,7 @@ impl<K: FarObject, V: FarObject, J: Naming> Frames<K, V, J> {
         self.reserve()
     }
 
-    // Frames are looked for one by one from now on, before none is said to be free.
+    // From now on frames are looked for one by one, 64 at a time, before none is said to be free.
     pub(crate) fn note_kept(&self) {
         if !self.keeps.load(SeqCst) {
             self.keeps.store(true, SeqCst);
@@ -274,7 +292,7 @@ impl<K: FarObject, V: FarObject, J: Naming> Frames<K, V, J> {
     }
 
     /// As `reclaim`, and an emptied frame is not named as free: `free` does not count it, and `reserve` finds it only where
-    /// no free frame is named. `reserve_kept` takes it; where it is cancelled then, it is named.
+    /// no free frame is named, and only when its turn comes. `reserve_kept` takes it; where it is cancelled then, it is named.
     pub fn reclaim_kept(&self, spare: Spare<K, V, J>) -> Result<bool, Spare<K, V, J>>
         requires frame { place_of spare.word < empty_place }
         ensures back { IfErr result (λ s. s ≡ spare) }

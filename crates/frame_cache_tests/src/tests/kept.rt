@@ -1,10 +1,10 @@
 //! A frame that is emptied without being named as free.
-ghost use Rattle.std.specs.Prelude.{◌≡◌, ◌<◌, false};
+ghost use Rattle.std.specs.Prelude.{◌≡◌, ◌<◌, ◌≤◌, false};
 ghost use Rattle.version_words.specs.Rows.{limits_of};
 
 use super::expect::equal;
 use super::{Unvouched, entered, fill, object, opened};
-use far_object::{Object, Text};
+use far_object::{Memory, Object, Text};
 use frame_cache::Frames;
 use std::alloc::Global;
 use std::marker::Brand;
@@ -15,6 +15,9 @@ use version_words::{Naming, Opened, Pass, Spare, Words};
 
 /// How many frames there are.
 const COUNT: u32 = 2;
+
+/// How many there are where one look doesn't reach all.
+const MANY: u32 = 130;
 
 /// What a step answers: a frame's number, a count, or none.
 type Answer = Option<u32>;
@@ -69,15 +72,17 @@ fn play<J: Naming, R: Abort>(
     rt: &R,
     alloc: Global,
     opened: Opened<Text, Text, Unvouched>,
+    count: u32,
     script: &[(Step, Answer)],
 ) -> Result<(), Fail>
+    requires few { count ≤ 65536 }
     requires book { opened.book ≡ J.book }
     requires boards { opened.names ≡ J.names }
     requires limits { limits_of opened.sizes false ≡ J.limits }
 {
     let words = opened.named::<J>();
     let mut pass = entered(&words).ok_or("no pass")?;
-    let frames: Frames<Text, Text, J> = Frames::open(alloc, COUNT)?;
+    let frames: Frames<Text, Text, J> = Frames::open(alloc, count)?;
     for (at, (step, wanted)) in script.iter().enumerate() {
         let answer = match step {
             Step::Empty => match filled(&words, &mut pass, &frames, object(alloc, b"a", b"1")) {
@@ -97,8 +102,14 @@ fn play<J: Naming, R: Abort>(
     Ok(())
 }
 
-fn played<R: Alloc<A = Global> + Abort>(rt: &R, script: &[(Step, Answer)]) -> Result<(), Fail> {
-    play::<Brand, R>(rt, rt.alloc(), opened(rt.alloc())?, script)
+fn played<R: Alloc<A = Global> + Abort>(
+    rt: &R,
+    count: u32,
+    script: &[(Step, Answer)],
+) -> Result<(), Fail>
+    requires { count ≤ 65536 }
+{
+    play::<Brand, R>(rt, rt.alloc(), opened(rt.alloc())?, count, script)
 }
 
 #[test]
@@ -111,7 +122,7 @@ fn a_kept_frame_is_not_counted(rt: HostRuntime) -> Result<(), Fail> {
         (Step::ReserveKept(0), Some(0)),
         (Step::Free, Some(2)),
     ];
-    played(&rt, &script)
+    played(&rt, COUNT, &script)
 }
 
 #[test]
@@ -125,7 +136,7 @@ fn a_kept_frame_is_reserved_once(rt: HostRuntime) -> Result<(), Fail> {
         (Step::Fill, Some(0)),
         (Step::ReserveKept(0), None),
     ];
-    played(&rt, &script)
+    played(&rt, COUNT, &script)
 }
 
 #[test]
@@ -139,5 +150,27 @@ fn a_kept_frame_is_found_last(rt: HostRuntime) -> Result<(), Fail> {
         (Step::Fill, None),
         (Step::Free, Some(0)),
     ];
-    played(&rt, &script)
+    played(&rt, COUNT, &script)
+}
+
+/// Adds steps that fill the frames from this one up to that one, each the first that is named.
+fn push_fills(script: &mut Vec<(Step, Answer)>, first: u32, end: u32) -> Result<(), Memory> {
+    for frame in first..end {
+        script.push((Step::Fill, Some(frame)))?;
+    }
+    Ok(())
+}
+
+#[test]
+fn a_kept_frame_of_many_is_found_in_its_turn(rt: HostRuntime) -> Result<(), Fail> {
+    let mut script = Vec::new(rt.alloc());
+    push_fills(&mut script, 0, 100)?;
+    script.push((Step::Empty, Some(100)))?;
+    push_fills(&mut script, 101, MANY)?;
+    script.push((Step::Fill, None))?;
+    script.push((Step::Fill, Some(100)))?;
+    // The last two frames, and then from the first on again.
+    script.push((Step::Fill, None))?;
+    script.push((Step::Fill, None))?;
+    played(&rt, MANY, script.as_slice())
 }
