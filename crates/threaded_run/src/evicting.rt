@@ -24,7 +24,7 @@ pub(crate) fn evict<J: Naming, B: QueueNaming, D: Device, R: Wait + Clock>(
             break;
         }
         let worked = if shared.table.free() < shared.reserve {
-            matches!(shared.turn(rt), Ok(true))
+            matches!(shared.turns(rt), Ok(true))
         } else {
             shared.collect(rt)
         };

@@ -28,14 +28,14 @@ pub(crate) fn said(refusal: TableRefusal) -> Refusal
     }
 }
 
-/// An evictor's turn. Where it is refused for a reason that stays, this is the command's reply.
+/// An evictor's turn, or some of them. Where they are refused for a reason that stays, this is the command's reply.
 fn empty_frame<J: Naming, B: QueueNaming, D: Device, R: Wait>(
     rt: &R,
     shared: &Shared<J, B, D>,
 ) -> Result<(), Refusal>
     ensures { IfErr result IsOfTurn }
 {
-    match shared.turn(rt) {
+    match shared.empty_frames(rt) {
         Err(TableRefusal::Memory) => Err(Refusal::Memory),
         Err(TableRefusal::NamesSpent) => Err(Refusal::NamesSpent),
         Err(TableRefusal::Device) => Err(Refusal::Device),

@@ -10,6 +10,9 @@ use std::sync::{Mutex, Wait};
 use swapper::{Evictor, QueueNaming, QueueSeat, SpareQueue};
 use version_words::Naming;
 
+/// How many turns are made at most before the evictor is let go: others may wait for it meanwhile.
+const MOST_TURNS: u32 = 16;
+
 /// A caller, and its seat at the queue of spares.
 #[derive(Drop)]
 pub(crate) struct Seated<J: Naming, B: QueueNaming> {
@@ -37,6 +40,36 @@ impl<J: Naming, B: QueueNaming, D: Device> Shared<J, B, D> {
         match self.evictor.lock(rt).turn(rt, &self.table, &self.queue) {
             Ok(turn) => Ok(turn.evicted),
             Err(refusal) => Err(refusal),
+        }
+    }
+
+    /// One turn, and more while fewer frames are free than the evictor's thread keeps so, and whether they emptied one. They are
+    /// made by one hold of the evictor, so that threads rarely wait for it frame after frame. A refusal is the answer only where
+    /// no turn before it emptied a frame.
+    pub(crate) fn turns<R: Wait>(&self, rt: &R) -> Result<bool, Refusal> {
+        let mut evictor = self.evictor.lock(rt);
+        let mut emptied = false;
+        for _ in 0..MOST_TURNS {
+            match evictor.turn(rt, &self.table, &self.queue) {
+                Ok(turn) if turn.evicted => emptied = true,
+                Ok(_) => break,
+                Err(refusal) if !emptied => return Err(refusal),
+                Err(_) => break,
+            }
+            if self.table.free() >= self.reserve {
+                break;
+            }
+        }
+        Ok(emptied)
+    }
+
+    /// What makes room for a caller that found no frame: turns where the evictor has a thread, which keeps some frames free, and
+    /// else one.
+    pub(crate) fn empty_frames<R: Wait>(&self, rt: &R) -> Result<bool, Refusal> {
+        if self.started.load(Ordering::SeqCst) {
+            self.turns(rt)
+        } else {
+            self.turn(rt)
         }
     }
 
