@@ -2,8 +2,7 @@
 
 LIBRARY is refuse_start.c, built. Each start of a run's threads is refused alone, and with all behind it. Every run has to
 end with status 0, and with replies and contents that histories.py finds a history for; one file starts a thread that makes
-the contents' lines and one that gives the table's memory back, and n files n - 1 that parse, n - 1 that work, the evictor's,
-and those two.
+the contents' lines, and n files n - 1 that parse, n - 1 that work, the evictor's, and that one.
 """
 import os
 import sys
@@ -23,7 +22,7 @@ MANY = [[f"put a {number}" for number in range(300)], [f"put b {number}" for num
 
 def main(program, library):
     runs = wrong = 0
-    for name, files, starts in (("one file", FILES[:1], 2), ("two files of 300 puts", MANY, 5), ("three files", FILES, 7)):
+    for name, files, starts in (("one file", FILES[:1], 1), ("two files of 300 puts", MANY, 4), ("three files", FILES, 6)):
         for refused in ["0", *(f"{number}{ends}" for number in range(1, starts + 1) for ends in ("", ".."))]:
             with tempfile.NamedTemporaryFile("r") as told:
                 environment = {"LD_PRELOAD": library, "REFUSED": refused, "STARTS": told.name}

@@ -3,6 +3,7 @@
 
 mod arguments;
 mod fault;
+mod hints;
 mod lanes;
 mod program;
 mod reading;
@@ -12,6 +13,7 @@ mod status;
 
 pub use arguments::read_words;
 pub use fault::RunFault;
+pub use hints::Hints;
 pub use lanes::open_lanes;
 pub use program::run_program;
 pub use reading::read_files;

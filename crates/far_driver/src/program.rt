@@ -4,6 +4,7 @@ ghost use Rattle.far_driver.specs.Arguments.{are_arguments};
 ghost use Rattle.far_driver.specs.Runs.{RanWords};
 
 use crate::arguments::read_arguments;
+use crate::hints::Hints;
 use crate::lanes::open_lanes;
 use crate::run::run_files;
 use crate::sources::{lengths_of, open_sources};
@@ -12,13 +13,12 @@ use std::io::Write;
 use std::rt::Files;
 use std::sync::Wait;
 use std::thread::Threads;
-use std::time::Clock;
-use threaded_run::OpenGate;
+use threaded_run::{OpenGate, Remains};
 
 /// Runs what the arguments ask for.
 fn run_words<R, W>(rt: &R, words: &[String], out: &mut W) -> Result<(), ProgramFault>
 where
-    R: Files + Input + AllocGlobal + Threads + Wait + Clock + Sync,
+    R: Files + Input + AllocGlobal + Threads + Wait + Sync,
     W: Write,
     ensures usage { are_arguments (map string_bytes words.now) ≡ false → (result ≡ Err ProgramFault.Usage) × (out.new ≡ out.old) }
     ensures ran { OnOk result (RanWords (map string_bytes words.now) (W.contents out.old) (W.contents out.new)) }
@@ -29,12 +29,16 @@ where
     let sources = open_sources(rt, arguments.files)?;
     let lengths = lengths_of(rt.alloc(), sources.as_slice())?;
     let devices = open_lanes(rt.alloc(), arguments.config.lanes)?;
+    let hints = Hints {
+        lengths: lengths.as_slice(),
+        remains: Remains::Left,
+    };
     run_files(
         rt,
         arguments.config,
         devices,
         sources,
-        lengths.as_slice(),
+        hints,
         &OpenGate,
         out,
     )?;
@@ -44,12 +48,12 @@ where
 /// Runs the program on the words behind its name, `BUCKETS FRAMES LIMIT FILE...`, and gives the status that it ends with.
 ///
 /// Numbers have one to seven decimal digits; there are 1 to 64 files, and `-`, which may be one of them, is standard input.
-/// The table lies over four devices in the process. What the run writes goes to `out`; the text of a fault is one line on
+/// The table lies over four devices in the process, and what it had is not given back: a program ends with its run. What the run writes goes to `out`; the text of a fault is one line on
 /// `err`, where a fault of writing it is ignored, and nothing else is written there. The faults come in the order of the
 /// work: the arguments, the opening of the files, and then those of `run_files`.
 pub fn run_program<R, W, E>(rt: &R, words: &[String], out: &mut W, err: &mut E) -> u8
 where
-    R: Files + Input + AllocGlobal + Threads + Wait + Clock + Sync,
+    R: Files + Input + AllocGlobal + Threads + Wait + Sync,
     W: Write,
     E: Write,
     ensures status { result ≤ 2 }

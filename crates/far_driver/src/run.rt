@@ -4,18 +4,18 @@ ghost use Rattle.hash_table.specs.Configs.{first_bad_with};
 ghost use Rattle.far_driver.specs.Runs.{told_field, RanOn, FitsFiles, WritesBefore};
 
 use crate::fault::{RunFault, of_threads};
+use crate::hints::Hints;
 use crate::reading::read_files;
 use far_device::Device;
 use hash_table::Config;
 use std::io::{BufRead, Write};
 use std::sync::Wait;
 use std::thread::Threads;
-use std::time::Clock;
 use threaded_run::Gate;
 
 /// Runs the files that the readers give, each by a worker of its own, on a table that they share over these devices, and
 /// writes the replies and the contents: `threaded_run::run_files` says how. There are 1 to 64 files. All are read, in order,
-/// before anything runs; their lengths may be told, as `read_files` says. Round each command the gate is asked and told.
+/// before anything runs. Round each command the gate is asked and told. The hints change nothing that is answered or written.
 ///
 /// The faults come in the order of the work: `BadConfig`, whatever the readers, where a setting is outside its limits or
 /// there are not as many devices as lanes; `BadLine`, `TooManyLines` and `Read` of the first file that has one; `Device`,
@@ -26,14 +26,14 @@ pub fn run_files<D, G, R, B, W>(
     config: Config,
     devices: Vec<D>,
     files: Vec<B>,
-    lengths: &[usize],
+    hints: Hints<'_>,
     gate: &G,
     out: &mut W,
 ) -> Result<(), RunFault>
 where
     D: Device + Send,
     G: Gate,
-    R: Threads + Wait + Clock + AllocGlobal + Sync,
+    R: Threads + Wait + AllocGlobal + Sync,
     B: BufRead + Drop,
     W: Write,
     requires some { 0 < vec_len files }
@@ -46,11 +46,20 @@ where
     if let Some(field) = config.first_bad_with(devices.len()) {
         return Err(RunFault::BadConfig(field));
     }
-    let files = match read_files(rt, rt.alloc(), files, lengths) {
+    let files = match read_files(rt, rt.alloc(), files, hints.lengths) {
         Ok(files) => files,
         Err(fault) => return Err(fault),
     };
-    match threaded_run::run_files(rt, rt.alloc(), config, devices, files, gate, out) {
+    match threaded_run::run_files(
+        rt,
+        rt.alloc(),
+        config,
+        devices,
+        files,
+        hints.remains,
+        gate,
+        out,
+    ) {
         Ok(()) => Ok(()),
         Err(fault) => Err(of_threads(fault)),
     }

@@ -13,13 +13,12 @@ mod program;
 mod runtime;
 
 use expect::{equal, holds, made};
-use far_driver::{RunFault, open_lanes, run_files};
+use far_driver::{Hints, RunFault, open_lanes, run_files};
 use hash_table::Config;
 use std::io::BufRead;
 use std::process::Abort;
 use std::sync::Wait;
 use std::thread::Threads;
-use std::time::Clock;
 use threaded_run::OpenGate;
 
 /// The settings of the rows.
@@ -37,7 +36,7 @@ fn settings() -> Config {
 }
 
 /// Runs files of these bytes over as many devices as lanes. The result has what was written.
-fn run<R: Threads + Wait + Clock + AllocGlobal + Abort + Sync>(
+fn run<R: Threads + Wait + AllocGlobal + Abort + Sync>(
     rt: &R,
     config: &Config,
     files: &[&'static [u8]],
@@ -46,7 +45,7 @@ fn run<R: Threads + Wait + Clock + AllocGlobal + Abort + Sync>(
 }
 
 /// The same of files that these readers give.
-fn run_readers<B: BufRead + Drop, R: Threads + Wait + Clock + AllocGlobal + Abort + Sync>(
+fn run_readers<B: BufRead + Drop, R: Threads + Wait + AllocGlobal + Abort + Sync>(
     rt: &R,
     config: &Config,
     files: Vec<B>,
@@ -54,12 +53,20 @@ fn run_readers<B: BufRead + Drop, R: Threads + Wait + Clock + AllocGlobal + Abor
     assert!(rt; !files.is_empty() && files.len() <= 64);
     let devices = made(rt, open_lanes(rt.alloc(), config.lanes));
     let mut out = Vec::new(rt.alloc());
-    let ended = run_files(rt, *config, devices, files, &[], &OpenGate, &mut out);
+    let ended = run_files(
+        rt,
+        *config,
+        devices,
+        files,
+        Hints::none(),
+        &OpenGate,
+        &mut out,
+    );
     (ended, out)
 }
 
 /// Runs files of these bytes, and checks what is written.
-fn assert_written<R: Threads + Wait + Clock + AllocGlobal + Abort + Sync>(
+fn assert_written<R: Threads + Wait + AllocGlobal + Abort + Sync>(
     rt: &R,
     config: &Config,
     files: &[&'static [u8]],
@@ -71,7 +78,7 @@ fn assert_written<R: Threads + Wait + Clock + AllocGlobal + Abort + Sync>(
 }
 
 /// Runs files of these bytes, and checks the fault, and that nothing is written.
-fn assert_fault<R: Threads + Wait + Clock + AllocGlobal + Abort + Sync>(
+fn assert_fault<R: Threads + Wait + AllocGlobal + Abort + Sync>(
     rt: &R,
     config: &Config,
     files: &[&'static [u8]],

@@ -9,11 +9,10 @@ use std::process::ExitCode;
 use std::rt::Files;
 use std::sync::Wait;
 use std::thread::Threads;
-use std::time::Clock;
 
 fn run<R>(rt: &R, out: Stdout, err: &mut Stderr) -> Result<u8, ProgramFault>
 where
-    R: Files + Input + Env + AllocGlobal + Threads + Wait + Clock + Sync,
+    R: Files + Input + Env + AllocGlobal + Threads + Wait + Sync,
 {
     let words = read_words(rt)?;
     match BufWriter::new(rt.alloc(), out) {

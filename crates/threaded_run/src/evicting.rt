@@ -5,20 +5,26 @@ use far_device::Device;
 use std::sync::Wait;
 use std::sync::atomic::Ordering;
 use std::thread;
-use std::time::{Clock, Duration};
+use std::time::Duration;
 use swapper::QueueNaming;
 use version_words::Naming;
 
-/// How many microseconds the evictor sleeps where a round found nothing to do: few enough that few spares wait, and enough to
-/// leave its processor to a worker.
-const NAP: u64 = 100;
+/// How many microseconds the evictor sleeps where a round found nothing to do and the one before did: few enough that few
+/// spares wait.
+const SHORTEST_NAP: u64 = 100;
 
-/// Has spares reclaimed, and frames emptied while too few are free, until all workers have ended.
-pub(crate) fn evict<J: Naming, B: QueueNaming, D: Device, R: Wait + Clock>(
+/// How many it sleeps at most. Each nap is twice as long as the one before, since each that ends takes a processor from a
+/// worker, to find nothing.
+const LONGEST_NAP: u64 = 3_200;
+
+/// Has spares reclaimed, and frames emptied while too few are free, until all workers have ended. A nap ends early where
+/// somebody wakes it.
+pub(crate) fn evict<J: Naming, B: QueueNaming, D: Device, R: Wait>(
     rt: &R,
     shared: &Shared<J, B, D>,
 ) {
     shared.started.store(true, Ordering::SeqCst);
+    let mut nap = SHORTEST_NAP;
     for _ in rt.forever() {
         if shared.ended.load(Ordering::SeqCst) {
             break;
@@ -29,9 +35,11 @@ pub(crate) fn evict<J: Naming, B: QueueNaming, D: Device, R: Wait + Clock>(
             shared.collect(rt)
         };
         if worked {
+            nap = SHORTEST_NAP;
             thread::yield_now();
         } else {
-            thread::sleep(rt, Duration::from_micros(NAP));
+            shared.bed.park_timeout(rt, Duration::from_micros(nap));
+            nap = nap.saturating_mul(2).min(LONGEST_NAP);
         }
     }
 }

@@ -11,6 +11,7 @@ ghost use Rattle.threaded_run.specs.Runs.{EndsAt};
 ghost use Rattle.threaded_run.specs.Ends.{AreLinesOf, Holds, Writes};
 
 use crate::fault::ThreadedFault;
+use crate::remains::Remains;
 use far_device::Device;
 use far_object::{Memory, Text};
 use far_pairs::{Bundle, in_key_order};
@@ -19,6 +20,7 @@ use run_lines::{PairLines, Refusal, write_files};
 use std::alloc::Global;
 use std::io;
 use std::io::Write;
+use std::mem::forget;
 use std::sync::Wait;
 use std::thread::{Threads, join_mut};
 use version_words::Naming;
@@ -135,6 +137,39 @@ where
     ended
 }
 
+/// The same, and the table's memory goes as it is to.
+fn write_and_let_go<J, D, R, W>(
+    rt: &R,
+    alloc: Global,
+    table: ClosedTable<Text, Text, J, D>,
+    remains: Remains,
+    bundles: &[Bundle<Text, Text>],
+    texts: &[Vec<u8>],
+    out: &mut W,
+) -> Result<(), ThreadedFault>
+where
+    J: Naming + Send + Sync,
+    D: Device + Send,
+    R: Threads + Sync,
+    W: Write,
+    ensures written { OnOk result (Writes (all_of bundles.now) (W.contents out.old) (W.contents out.new) (file_texts 1 (map (λ t. t.items) texts.now))) }
+    ensures fault { IfErr result (EndsAt (W.contents out.old) (W.contents out.new) (file_texts 1 (map (λ t. t.items) texts.now))) }
+{
+    match remains {
+        Remains::GivenBack => match write_beside(rt, alloc, table, bundles, texts, out) {
+            Ok(()) => Ok(()),
+            Err(fault) => Err(fault),
+        },
+        Remains::Left => {
+            forget(table);
+            match write_all(rt, alloc, bundles, texts, out) {
+                Ok(()) => Ok(()),
+                Err(fault) => Err(fault),
+            }
+        }
+    }
+}
+
 /// Writes the lines of the files alone, where the contents can't be read for this reason, and gives the fault.
 fn write_lines<W: Write>(refusal: Refusal, texts: &[Vec<u8>], out: &mut W) -> ThreadedFault
     ensures { EndsAt (W.contents out.old) (W.contents out.new) (file_texts 1 (map (λ t. t.items) texts.now)) result }
@@ -151,6 +186,7 @@ pub(crate) fn finish<J, D, R, W>(
     rt: &R,
     alloc: Global,
     table: FarTable<Text, Text, J, D>,
+    remains: Remains,
     callers: Vec<Caller<Text, Text, J>>,
     texts: &[Vec<u8>],
     out: &mut W,
@@ -166,7 +202,7 @@ where
 {
     match table.close_on_threads(rt, alloc, callers) {
         Ok((bundles, table)) => {
-            match write_beside(rt, alloc, table, bundles.as_slice(), texts, out) {
+            match write_and_let_go(rt, alloc, table, remains, bundles.as_slice(), texts, out) {
                 Ok(()) => Ok(()),
                 Err(fault) => Err(fault),
             }

@@ -17,6 +17,7 @@ mod fault;
 mod finishing;
 mod gate;
 mod holding;
+mod remains;
 mod room;
 mod run;
 mod running;
@@ -27,4 +28,5 @@ mod worker;
 
 pub use fault::ThreadedFault;
 pub use gate::{Gate, OpenGate};
+pub use remains::Remains;
 pub use top::run_files;

@@ -9,6 +9,7 @@ use crate::drawing::{draw, enter};
 use crate::fault::{ThreadedFault, of_work};
 use crate::finishing::finish;
 use crate::gate::Gate;
+use crate::remains::Remains;
 use crate::shared::Shared;
 use crate::sharing::run_jobs;
 use command_file::Script;
@@ -19,8 +20,7 @@ use std::alloc::Global;
 use std::io::Write;
 use std::sync::atomic::AtomicBool;
 use std::sync::{Mutex, Wait};
-use std::thread::Threads;
-use std::time::Clock;
+use std::thread::{Parker, Threads};
 use swapper::{Evictor, QueueNaming, QueueSeat, SpareQueue};
 use version_words::Naming;
 
@@ -34,6 +34,7 @@ pub(crate) fn run<J, B, D, G, R, W>(
     rt: &R,
     alloc: Global,
     config: Config,
+    remains: Remains,
     table: FarTable<Text, Text, J, D>,
     queue: SpareQueue<Text, Text, J, B>,
     taker: QueueSeat<Text, Text, J, B>,
@@ -47,7 +48,7 @@ where
     B: QueueNaming + Send + Sync,
     D: Device + Send,
     G: Gate,
-    R: Threads + Wait + Clock + Sync,
+    R: Threads + Wait + Sync,
     W: Write,
     requires frames { 0 < config.frames }
     requires taker { taker.takes ≡ true }
@@ -74,6 +75,7 @@ where
         evictor: Mutex::new(evictor),
         reserve: reserve_of(config.frames),
         started: AtomicBool::new(false),
+        bed: Parker::new(),
         ended: AtomicBool::new(false),
     };
     let (mut callers, texts) = match run_jobs(rt, alloc, &shared, gate, jobs) {
@@ -84,5 +86,5 @@ where
     let Ok(()) = callers.push(evictor.into_inner().into_caller()) else {
         return Err(ThreadedFault::Memory);
     };
-    finish(rt, alloc, table, callers, texts.as_slice(), out)
+    finish(rt, alloc, table, remains, callers, texts.as_slice(), out)
 }

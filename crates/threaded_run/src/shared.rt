@@ -7,6 +7,7 @@ use far_object::Text;
 use hash_table::{Caller, FarTable, Refusal};
 use std::sync::atomic::{AtomicBool, Ordering};
 use std::sync::{Mutex, Wait};
+use std::thread::Parker;
 use swapper::{Evictor, QueueNaming, QueueSeat, SpareQueue};
 use version_words::Naming;
 
@@ -30,6 +31,8 @@ pub(crate) struct Shared<J: Naming, B: QueueNaming, D: Device> {
     pub(crate) reserve: u32,
     /// Whether the evictor's thread has started.
     pub(crate) started: AtomicBool,
+    /// Where the evictor's thread sleeps while it has nothing to do.
+    pub(crate) bed: Parker,
     /// Whether all workers have ended.
     pub(crate) ended: AtomicBool,
 }

@@ -15,7 +15,6 @@ use std::alloc::Global;
 use std::sync::Wait;
 use std::sync::atomic::Ordering;
 use std::thread::{Threads, join};
-use std::time::Clock;
 use swapper::QueueNaming;
 use version_words::Naming;
 
@@ -89,7 +88,7 @@ where
     B: QueueNaming + Send + Sync,
     D: Device + Send,
     G: Gate,
-    R: Threads + Wait + Clock + Sync,
+    R: Threads + Wait + Sync,
     ensures { IfOk result (λ r. WorkedAll J.limits shared.now.table.limit jobs.items (map (λ c. c.pass) r.0.items) (map (λ t. t.items) r.1.items)) }
 {
     if jobs.len() < 2 {
@@ -104,6 +103,7 @@ where
         {
             let done = workers(rt, alloc, shared, gate, jobs);
             shared.ended.store(true, Ordering::SeqCst);
+            shared.bed.unpark();
             done
         },
     );

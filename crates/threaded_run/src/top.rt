@@ -9,6 +9,7 @@ ghost use Rattle.threaded_run.specs.Runs.{WritesBefore};
 
 use crate::fault::ThreadedFault;
 use crate::gate::Gate;
+use crate::remains::Remains;
 use crate::run::run;
 use command_file::Script;
 use far_device::Device;
@@ -19,7 +20,6 @@ use std::io::Write;
 use std::marker::Brand;
 use std::sync::Wait;
 use std::thread::Threads;
-use std::time::Clock;
 use swapper::{QueueNaming, QueueOpening};
 use version_words::Naming;
 
@@ -28,6 +28,7 @@ fn over_queue<J, B, D, G, R, W>(
     rt: &R,
     alloc: Global,
     config: Config,
+    remains: Remains,
     table: FarTable<Text, Text, J, D>,
     queue: QueueOpening<Text, Text, J>,
     files: Vec<Script>,
@@ -39,7 +40,7 @@ where
     B: QueueNaming + Send + Sync,
     D: Device + Send,
     G: Gate,
-    R: Threads + Wait + Clock + Sync,
+    R: Threads + Wait + Sync,
     W: Write,
     requires queue { queue.table ≡ B.table }
     requires frames { 0 < config.frames }
@@ -52,7 +53,7 @@ where
         Err(_) => return Err(ThreadedFault::Memory),
     };
     run(
-        rt, alloc, config, table, queue, taker, seats, files, gate, out,
+        rt, alloc, config, remains, table, queue, taker, seats, files, gate, out,
     )
 }
 
@@ -62,6 +63,7 @@ fn over_table<J, D, G, R, W>(
     alloc: Global,
     opening: Opening<Text, Text, D>,
     config: Config,
+    remains: Remains,
     files: Vec<Script>,
     gate: &G,
     out: &mut W,
@@ -70,7 +72,7 @@ where
     J: Naming + Send + Sync,
     D: Device + Send,
     G: Gate,
-    R: Threads + Wait + Clock + Sync,
+    R: Threads + Wait + Sync,
     W: Write,
     requires book { opening.row.book ≡ J.book }
     requires boards { opening.row.names ≡ J.names }
@@ -91,7 +93,7 @@ where
         Ok(queue) => queue,
         Err(_) => return Err(ThreadedFault::Memory),
     };
-    over_queue::<J, Brand, D, G, R, W>(rt, alloc, config, table, queue, files, gate, out)
+    over_queue::<J, Brand, D, G, R, W>(rt, alloc, config, remains, table, queue, files, gate, out)
 }
 
 /// Runs each file's commands by a worker of its own, on a table that they share over these devices, one for each lane; then
@@ -99,7 +101,8 @@ where
 /// that the table holds, in key order. There are 1 to 64 files, and the settings are within their limits.
 ///
 /// The first file's worker has this thread. Each other has one of its own, as far as threads can be started, and so has the
-/// evictor where there is more than one file. Round each command the gate is asked and told, in the worker's thread.
+/// evictor where there is more than one file. Round each command the gate is asked and told, in the worker's thread. What
+/// the closed table had goes as `remains` says, which changes nothing that is answered or written.
 ///
 /// The faults come in the order of the work: `Device` where a device fails as it is made empty; `Passes` where there are not
 /// as many passes as files and one more; `Gate` where the gate gave up; `Write` where a write or the last flush fails;
@@ -112,13 +115,14 @@ pub fn run_files<D, G, R, W>(
     config: Config,
     devices: Vec<D>,
     files: Vec<Script>,
+    remains: Remains,
     gate: &G,
     out: &mut W,
 ) -> Result<(), ThreadedFault>
 where
     D: Device + Send,
     G: Gate,
-    R: Threads + Wait + Clock + Sync,
+    R: Threads + Wait + Sync,
     W: Write,
     requires within { first_bad_with (vec_len devices) config ≡ None }
     requires some { 0 < vec_len files }
@@ -130,5 +134,5 @@ where
         Ok(opening) => opening,
         Err(_) => return Err(ThreadedFault::Memory),
     };
-    over_table::<Brand, D, G, R, W>(rt, alloc, opening, config, files, gate, out)
+    over_table::<Brand, D, G, R, W>(rt, alloc, opening, config, remains, files, gate, out)
 }

@@ -5,6 +5,7 @@ ghost use Rattle.hash_table.specs.Configs.{first_bad_with};
 mod evicting;
 mod expect;
 mod gates;
+mod remains;
 mod rows;
 
 use command_file::{Script, read_file};
@@ -16,12 +17,12 @@ use std::process::Abort;
 use std::sync::atomic::AtomicU64;
 use std::sync::{Arc, Wait};
 use std::thread::Threads;
-use std::time::Clock;
-use threaded_run::{Gate, OpenGate, ThreadedFault, run_files};
+use threaded_run::{Gate, OpenGate, Remains, ThreadedFault, run_files};
 
 type Lane = WatchedDevice<FaultyDevice<FakeDevice>>;
 
-/// What is set for a run: frames, the limit of an object, names, passes, and which call of the device fails, 0 for none.
+/// What is set for a run: frames, the limit of an object, names, passes, which call of the device fails, 0 for none, and what
+/// becomes of the table's memory.
 #[derive(Clone, Copy)]
 struct Settings {
     frames: u32,
@@ -29,9 +30,10 @@ struct Settings {
     names: u64,
     passes: u32,
     fails: u64,
+    remains: Remains,
 }
 
-/// Two frames, ample names and passes, and a device that never fails.
+/// Two frames, ample names and passes, and a device that never fails; memory is given back.
 fn ample() -> Settings {
     Settings {
         frames: 2,
@@ -39,6 +41,7 @@ fn ample() -> Settings {
         names: (1 << 40) - 1,
         passes: 65_535,
         fails: 0,
+        remains: Remains::GivenBack,
     }
 }
 
@@ -102,7 +105,7 @@ fn alone<R: Alloc<A = Global> + Abort>(rt: &R, lane: Lane) -> Vec<Lane>
 }
 
 /// Runs files of these bytes over one lane and four buckets. The result has what was written.
-fn run<G: Gate, R: Alloc<A = Global> + Threads + Wait + Clock + Abort + Sync>(
+fn run<G: Gate, R: Alloc<A = Global> + Threads + Wait + Abort + Sync>(
     rt: &R,
     settings: Settings,
     files: &[&[u8]],
@@ -113,7 +116,7 @@ fn run<G: Gate, R: Alloc<A = Global> + Threads + Wait + Clock + Abort + Sync>(
 }
 
 /// The same over this lane.
-fn run_over<G: Gate, R: Alloc<A = Global> + Threads + Wait + Clock + Abort + Sync>(
+fn run_over<G: Gate, R: Alloc<A = Global> + Threads + Wait + Abort + Sync>(
     rt: &R,
     settings: Settings,
     lane: Lane,
@@ -124,12 +127,14 @@ fn run_over<G: Gate, R: Alloc<A = Global> + Threads + Wait + Clock + Abort + Syn
     let scripts = all_scripts(rt, files);
     let lanes = alone(rt, lane);
     let mut out = Vec::new(rt.alloc());
-    let ended = run_files(rt, rt.alloc(), config, lanes, scripts, gate, &mut out);
+    let alloc = rt.alloc();
+    let remains = settings.remains;
+    let ended = run_files(rt, alloc, config, lanes, scripts, remains, gate, &mut out);
     (ended, out)
 }
 
 /// Runs files, which have to be replied these lines.
-fn expect_written<R: Alloc<A = Global> + Threads + Wait + Clock + Abort + Sync>(
+fn expect_written<R: Alloc<A = Global> + Threads + Wait + Abort + Sync>(
     rt: &R,
     settings: Settings,
     files: &[&[u8]],
@@ -139,7 +144,7 @@ fn expect_written<R: Alloc<A = Global> + Threads + Wait + Clock + Abort + Sync>(
 }
 
 /// Runs files, whose run has to end in this way once it has written these lines.
-fn expect_run<G: Gate, R: Alloc<A = Global> + Threads + Wait + Clock + Abort + Sync>(
+fn expect_run<G: Gate, R: Alloc<A = Global> + Threads + Wait + Abort + Sync>(
     rt: &R,
     settings: Settings,
     files: &[&[u8]],

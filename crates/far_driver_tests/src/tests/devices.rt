@@ -3,7 +3,7 @@ use super::compared::plainly;
 use super::expect::{equal, holds, made};
 use super::settings;
 use far_device::{CannedDevice, Device, FakeDevice, FaultyDevice, LyingDevice, WatchedDevice};
-use far_driver::{Refusal, RunFault, run_files};
+use far_driver::{Hints, Refusal, RunFault, run_files};
 use hash_table::Config;
 use std::alloc::Global;
 use std::io::Write;
@@ -12,11 +12,10 @@ use std::str;
 use std::sync::atomic::{AtomicU64, Ordering};
 use std::sync::{Arc, Wait};
 use std::thread::Threads;
-use std::time::Clock;
 use threaded_run::{Gate, OpenGate};
 
 /// Runs one file over this device alone.
-fn run_over<D: Device + Send, G: Gate, R: Threads + Wait + Clock + AllocGlobal + Abort + Sync>(
+fn run_over<D: Device + Send, G: Gate, R: Threads + Wait + AllocGlobal + Abort + Sync>(
     rt: &R,
     device: D,
     file: &[u8],
@@ -31,12 +30,12 @@ fn run_over<D: Device + Send, G: Gate, R: Threads + Wait + Clock + AllocGlobal +
     let files = made(rt, Vec::from_array(rt.alloc(), [file]));
     assert_eq!(rt; files.len(), 1);
     let mut out = Vec::new(rt.alloc());
-    let ended = run_files(rt, config, devices, files, &[], gate, &mut out);
+    let ended = run_files(rt, config, devices, files, Hints::none(), gate, &mut out);
     (ended, out)
 }
 
 /// Runs one file over this device, and checks how it ends and what is written.
-fn assert_over<D: Device + Send, R: Threads + Wait + Clock + AllocGlobal + Abort + Sync>(
+fn assert_over<D: Device + Send, R: Threads + Wait + AllocGlobal + Abort + Sync>(
     rt: &R,
     device: D,
     file: &[u8],
@@ -189,7 +188,7 @@ fn assert_answered(
 }
 
 /// Runs the file over a device whose call of this number fails, and answers whether one failed.
-fn assert_failing<R: Threads + Wait + Clock + AllocGlobal + Abort + Sync>(
+fn assert_failing<R: Threads + Wait + AllocGlobal + Abort + Sync>(
     rt: &R,
     file: &str,
     fails: u64,

@@ -2,7 +2,7 @@
 use super::expect::{equal, holds, made};
 use super::inputs::Faltering;
 use super::{assert_fault, run_readers, settings};
-use far_driver::{Refusal, RunFault, open_lanes, run_files};
+use far_driver::{Hints, Refusal, RunFault, open_lanes, run_files};
 use hash_table::Config;
 use threaded_run::OpenGate;
 
@@ -58,7 +58,15 @@ fn little_room(rt: HostRuntime) {
     let devices = made(&rt, open_lanes(rt.alloc(), 4));
     let files = made(&rt, Vec::from_array(rt.alloc(), [b"put a 1".as_slice()]));
     assert_eq!(&rt; files.len(), 1);
-    let ended = run_files(&rt, settings(), devices, files, &[], &OpenGate, &mut out);
+    let ended = run_files(
+        &rt,
+        settings(),
+        devices,
+        files,
+        Hints::none(),
+        &OpenGate,
+        &mut out,
+    );
     equal(&rt, ended, Err(RunFault::Write));
 }
 
@@ -81,7 +89,15 @@ fn devices_and_lanes(rt: HostRuntime) {
         let files = made(&rt, Vec::from_array(rt.alloc(), [b"".as_slice()]));
         assert_eq!(&rt; files.len(), 1);
         let mut out = Vec::new(rt.alloc());
-        let ended = run_files(&rt, config, devices, files, &[], &OpenGate, &mut out);
+        let ended = run_files(
+            &rt,
+            config,
+            devices,
+            files,
+            Hints::none(),
+            &OpenGate,
+            &mut out,
+        );
         let wanted = match field {
             None => Ok(()),
             Some(field) => Err(RunFault::BadConfig(field)),

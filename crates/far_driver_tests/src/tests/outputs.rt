@@ -1,7 +1,7 @@
 //! A writer that fails, at each of its calls in turn.
 use super::expect::{equal, holds, made};
 use super::settings;
-use far_driver::{RunFault, open_lanes, run_files};
+use far_driver::{Hints, RunFault, open_lanes, run_files};
 use std::io;
 use std::io::{ErrorKind, Write};
 use threaded_run::OpenGate;
@@ -52,7 +52,15 @@ fn each_write_fails(rt: HostRuntime) {
             calls: 0,
             failing,
         };
-        let ended = run_files(&rt, settings(), devices, files, &[], &OpenGate, &mut out);
+        let ended = run_files(
+            &rt,
+            settings(),
+            devices,
+            files,
+            Hints::none(),
+            &OpenGate,
+            &mut out,
+        );
         if ended == Ok(()) {
             holds(&rt, out.kept.as_slice() == wanted);
             break;

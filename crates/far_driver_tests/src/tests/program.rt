@@ -8,7 +8,6 @@ use std::process::Abort;
 use std::rt::Files;
 use std::sync::Wait;
 use std::thread::Threads;
-use std::time::Clock;
 
 fn owned_words(alloc: Global, words: &[&str]) -> Result<Vec<String>, AllocError> {
     let mut owned = Vec::new(alloc);
@@ -28,7 +27,7 @@ fn assert_ends<R>(
     err_wanted: &str,
 )
 where
-    R: Files + Input + AllocGlobal + Threads + Wait + Clock + Sync,
+    R: Files + Input + AllocGlobal + Threads + Wait + Sync,
 {
     let words = made(handle, owned_words(rt.alloc(), words));
     let mut out = Vec::new(rt.alloc());

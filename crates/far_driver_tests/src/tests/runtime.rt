@@ -8,10 +8,9 @@ use std::io::{BufRead, ErrorKind, Lines};
 use std::rt::Files;
 use std::sync::Wait;
 use std::thread::Threads;
-use std::time::{Clock, Duration};
 
-/// Standard input has these bytes, and the look at it with the number `failing`, counted from 0, fails. Threads and the clock are
-/// those of another runtime.
+/// Standard input has these bytes, and the look at it with the number `failing`, counted from 0, fails. Threads are those
+/// of another runtime.
 #[derive(Clone, Copy)]
 pub struct InputAlone<R> {
     pub threads: R,
@@ -27,20 +26,6 @@ fn unsupported() -> io::Error {
 impl<R: Threads> Threads for InputAlone<R> {}
 
 impl<R: Wait> Wait for InputAlone<R> {}
-
-impl<R: Clock> Clock for InputAlone<R> {
-    fn monotonic(&self) -> io::Result<Duration> {
-        self.threads.monotonic()
-    }
-
-    fn since_1970(&self) -> io::Result<Duration> {
-        self.threads.since_1970()
-    }
-
-    fn sleep(&self, duration: Duration) {
-        self.threads.sleep(duration);
-    }
-}
 
 impl<R> Alloc for InputAlone<R> {
     type A = Global;

@@ -7,7 +7,6 @@ use std::sync::atomic::{AtomicU64, Ordering};
 use std::sync::{Arc, Wait};
 use std::thread;
 use std::thread::Threads;
-use std::time::Clock;
 use threaded_run::{Gate, OpenGate};
 
 /// How often a held command looks whether it may go on.
@@ -59,7 +58,7 @@ fn the_evictor_has_a_thread(rt: HostRuntime) {
 const MOST_RUNS: u32 = 100;
 
 /// What a run wrote that replied no `full`; else what the last wrote.
-fn written_in_time<R: Alloc<A = Global> + Threads + Wait + Clock + Abort + Sync>(
+fn written_in_time<R: Alloc<A = Global> + Threads + Wait + Abort + Sync>(
     rt: &R,
     files: &[&[u8]],
 ) -> Vec<u8> {

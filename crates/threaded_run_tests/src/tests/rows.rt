@@ -7,11 +7,10 @@ use std::alloc::Global;
 use std::process::Abort;
 use std::sync::Wait;
 use std::thread::Threads;
-use std::time::Clock;
 use threaded_run::{OpenGate, ThreadedFault};
 
 /// Runs one file, which has to be replied these lines behind its own.
-fn expect_replies<R: Alloc<A = Global> + Threads + Wait + Clock + Abort + Sync>(
+fn expect_replies<R: Alloc<A = Global> + Threads + Wait + Abort + Sync>(
     rt: &R,
     settings: Settings,
     file: &[u8],
@@ -174,7 +173,7 @@ fn too_few_passes(rt: HostRuntime) {
     }
 }
 
-fn expect_fit<R: Alloc<A = Global> + Threads + Wait + Clock + Abort + Sync>(
+fn expect_fit<R: Alloc<A = Global> + Threads + Wait + Abort + Sync>(
     rt: &R,
     settings: Settings,
     files: &[&[u8]],
