@@ -1,5 +1,5 @@
 -- What an evictor does: where spares go, and whom it gives up.
-use Rattle.std.specs.Prelude.{◌≡◌, ℕ, ◌+◌, ◌-◌, ◌^◌, ◌<◌, ◌≤◌, min, Bool, false, List, [], ◌∷◌, ◌++◌, ◌⊎◌, length, Option, Some, None, Result, Ok, Err, IfOk, IfErr, IsTrue, ⊤}
+use Rattle.std.specs.Prelude.{◌≡◌, ℕ, ◌+◌, ◌-◌, ◌^◌, ◌<◌, ◌≤◌, min, Bool, false, List, [], ◌∷◌, ◌++◌, ◌⊎◌, length, Option, Some, None, Result, Ok, Err, IfOk, IfErr, IfNone, IsTrue, ⊤}
 use mathlib.Core.List.{IsPrefix}
 use Rattle.table_core.specs.declared.event.Event.{Event}
 use Rattle.table_core.specs.declared.limits.Limits.{Limits}
@@ -8,6 +8,7 @@ use Rattle.version_words.specs.Views.{PassView, SpareView, Goes}
 use Rattle.hash_table.specs.Calls.{AtMostOneMore, IsMoved, IsRefused, IsFull as IsLimboFull}
 use Rattle.hash_table.specs.Reclaims.{IsReclaimed}
 use Rattle.hash_table.specs.Refusals.{OfSwapOut}
+use Rattle.hash_table.specs.declared.caller.Caller.{Caller}
 use Rattle.hash_table.specs.declared.refusal.Refusal.{Refusal}
 use Rattle.swapper.specs.Chances.{ClockView}
 use Rattle.swapper.specs.Meetings.{IsWalked}
@@ -172,6 +173,20 @@ module _ {K V : Type 0} (ek : K → List ℕ) (ev : V → List ℕ) (l : Limits)
     pub seat : new.seat ≡ old.seat
     pub swapped : IfOk result (λ done. IsTrue done → (b : ℕ) × IsMoved b (λ p. p ≡ far_place) old.pass new.pass)
     pub refused : IfErr result (λ e. (b : ℕ) × IsRefused ek ev l b old.pass new.pass e)
+    pub full : IfErr result (λ e. IsLimboFull e (length old.limbo))
+    pub only : IfErr result (λ e. OfSwapOut e)
+
+  -- a caller had the hand's victim swapped out, if there is one. Nothing is said of what the frames answered the hand
+  pub record GivesOneUp {J : Type 0} (old new : Caller K V J) (clock moved : ClockView) (result : Result Bool Refusal) : Type 0 where
+    pub picked : PassView K V
+    pub goes : Goes old.pass picked
+    pub asked : ℕ
+    pub victim : Option ℕ
+    pub walked : IsWalked (λ f b. Unit {0}) (λ f b. Unit {0}) clock.marks clock.hand asked moved.marks moved.hand victim
+    pub none : IfNone victim ((result ≡ Ok false) × (new.pass ≡ picked) × (new.limbo ≡ old.limbo))
+    pub limbo : AtMostOneMore old.limbo new.limbo
+    pub swapped : IfOk result (λ done. IsTrue done → (b : ℕ) × IsMoved b (λ p. p ≡ far_place) picked new.pass)
+    pub refused : IfErr result (λ e. (b : ℕ) × IsRefused ek ev l b picked new.pass e)
     pub full : IfErr result (λ e. IsLimboFull e (length old.limbo))
     pub only : IfErr result (λ e. OfSwapOut e)
 

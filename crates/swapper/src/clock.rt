@@ -98,6 +98,15 @@ impl Clock {
         self.marks.set(frame as u32);
     }
 
+    /// The hand goes to the frame: hands that go round the same frames at the same time should begin apart.
+    pub fn point_to(&mut self, frame: u32)
+        requires { frame < length self.old.marks }
+        ensures hand { self.new.hand ≡ frame }
+        ensures marks { self.new.marks ≡ self.old.marks }
+    {
+        self.hand = frame;
+    }
+
     // Asks one frame, and takes its mark if it is not held.
     fn meet<S, A: Asked<S>>(&mut self, asked: &A, state: &mut S, frame: u32) -> Met
         requires count { A.count asked.now ≡ length self.old.marks }

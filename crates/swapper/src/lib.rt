@@ -6,13 +6,14 @@
 //! (`settling.rt`) hands the limbo over, oldest first (`queue.rt`, over the rule in `rule.rt`). The `Evictor` (`evictor.rt`)
 //! takes the spares out and has the table reclaim them (`evictor/collecting.rt`); what comes back, since a reader is there or
 //! the device failed, it keeps and tries again. Where frames are wanted it gives one up: its `Clock` (`clock.rt`) picks the
-//! victim by second chance.
+//! victim by second chance. A caller that can't wait for the evictor gives a frame up itself (`giving.rt`).
 #![tactic(auto)]
 
 mod asked;
 mod clock;
 mod evictor;
 mod frames;
+mod giving;
 mod marks;
 mod naming;
 mod opening;

@@ -7,6 +7,7 @@ ghost use Rattle.hash_table.specs.Configs.{sizes_of};
 mod clock;
 mod evicting;
 mod expect;
+mod giving;
 mod handing;
 mod shared;
 
@@ -40,6 +41,9 @@ enum Scenario {
     SecondChance,
     FailedRemoval,
     FailedWrite,
+    OwnHand,
+    OwnHandRefused,
+    FullLimbo,
     Threads,
     ThreadsEvict,
 }
@@ -54,6 +58,9 @@ impl Scenario {
             Scenario::SecondChance => (4, 3, 8, 0),
             Scenario::FailedRemoval => (4, 2, 8, 3),
             Scenario::FailedWrite => (4, 2, 8, 1),
+            Scenario::OwnHand => (4, 3, 8, 0),
+            Scenario::OwnHandRefused => (4, 2, 8, 1),
+            Scenario::FullLimbo => (4, 128, 8, 0),
             Scenario::Threads => (4, 8, 16, 0),
             Scenario::ThreadsEvict => (32, 8, 16, 0),
         }
@@ -244,6 +251,9 @@ fn over_queue<
         Scenario::SecondChance => evicting::second_chance(rt, rig),
         Scenario::FailedRemoval => evicting::failed_removal(rt, rig),
         Scenario::FailedWrite => evicting::failed_write(rt, rig),
+        Scenario::OwnHand => giving::own_hand(rt, rig),
+        Scenario::OwnHandRefused => giving::own_hand_refused(rt, rig),
+        Scenario::FullLimbo => giving::full_limbo(rt, rig),
         Scenario::Threads => shared::threads_share(rt, rig, 4),
         Scenario::ThreadsEvict => shared::threads_share(rt, rig, 32),
     }

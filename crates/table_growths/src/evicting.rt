@@ -1,4 +1,5 @@
-//! The naming of a queue of spares, and the evictor. A turn takes what memory the device needs.
+//! The naming of a queue of spares, the evictor, and a caller that gives a frame up itself. A turn takes what memory the device
+//! needs, and so does a frame that is given up.
 ghost use Rattle.std.specs.Prelude.{◌≡◌, true, [], IfOk};
 ghost use Rattle.version_words.specs.Rows.{limits_of};
 ghost use Rattle.version_words.specs.Views.{calls};
@@ -13,7 +14,7 @@ use std::alloc::Global;
 use std::io;
 use std::marker::Brand;
 use std::sync::Wait;
-use swapper::{Evictor, QueueNaming, QueueOpening, QueueSeat, SpareQueue, Turn};
+use swapper::{Clock, Evictor, QueueNaming, QueueOpening, QueueSeat, SpareQueue, Turn};
 use version_words::Naming;
 
 /// How many seats a queue has beside the one that takes.
@@ -24,11 +25,12 @@ const KEY: u64 = 7;
 
 const VALUE: u64 = 9;
 
-/// Which call of an evictor is made.
+/// Which call is made: of an evictor, or of a clock.
 #[derive(Clone, Copy)]
 enum Case {
     Open,
     Turn,
+    GiveUp,
 }
 
 type Table<J> = FarTable<u64, u64, J, FakeDevice>;
@@ -59,6 +61,24 @@ fn seats(alloc: Global) -> Result<Outcome, Memory> {
     Ok(Outcome::after_memory(named_once(alloc, queue(alloc)?)))
 }
 
+/// Whether the pair lies on the device.
+fn is_far<J: Naming>(table: &Table<J>, caller: &mut Caller<u64, u64, J>) -> bool {
+    let bucket = table.bucket(&KEY);
+    matches!(table.state_of(caller, bucket), BucketState::Far(_))
+}
+
+/// Whether the pair lies in a frame and has its value.
+fn is_local<J: Naming>(table: &Table<J>, caller: &mut Caller<u64, u64, J>) -> bool {
+    match table.open_scope(caller, &KEY) {
+        Ok(Some(scope)) => {
+            let is_right = scope.bytes() == VALUE.to_be_bytes().as_slice();
+            scope.close();
+            is_right
+        }
+        _ => false,
+    }
+}
+
 /// A table in a frame of which lies a pair that an evictor is to give up.
 #[derive(Drop)]
 struct Prepared<'t, J: Naming, B: QueueNaming> {
@@ -68,27 +88,6 @@ struct Prepared<'t, J: Naming, B: QueueNaming> {
     evictor: Evictor<u64, u64, J, B>,
     /// How many spares the turn is to reclaim.
     spares: u64,
-}
-
-impl<J: Naming, B: QueueNaming> Prepared<'_, J, B> {
-    /// Whether the pair lies on the device.
-    fn is_far(&mut self) -> bool {
-        let bucket = self.table.bucket(&KEY);
-        let state = self.table.state_of(&mut self.caller, bucket);
-        matches!(state, BucketState::Far(_))
-    }
-
-    /// Whether the pair lies in a frame and has its value.
-    fn is_local(&mut self) -> bool {
-        match self.table.open_scope(&mut self.caller, &KEY) {
-            Ok(Some(scope)) => {
-                let is_right = scope.bytes() == VALUE.to_be_bytes().as_slice();
-                scope.close();
-                is_right
-            }
-            _ => false,
-        }
-    }
 }
 
 /// A turn that gave the frame up, and had so many spares reclaimed.
@@ -110,13 +109,35 @@ fn of_turn(told: Result<Turn, Refusal>, wanted: Turn) -> Answer {
 impl<J: Naming, B: QueueNaming> Trial for Prepared<'_, J, B> {
     fn call<R: Wait>(&mut self, rt: &R) -> Answer {
         let told = self.evictor.turn(rt, self.table, self.queue);
-        of_turn(told, gave_up(self.spares)).and(self.is_far())
+        of_turn(told, gave_up(self.spares)).and(is_far(self.table, &mut self.caller))
     }
 
     /// The pair is in its frame still, and the next turn reclaims the name that was drawn in vain too.
     fn stands<R: Wait>(&mut self, _rt: &R) -> bool {
         self.spares = 2;
-        self.is_local()
+        is_local(self.table, &mut self.caller)
+    }
+}
+
+/// A table in a frame of which lies a pair that its caller is to give up.
+#[derive(Drop)]
+struct Own<'t, J: Naming> {
+    table: &'t Table<J>,
+    caller: Caller<u64, u64, J>,
+    clock: Clock,
+}
+
+impl<J: Naming> Trial for Own<'_, J> {
+    fn call<R: Wait>(&mut self, rt: &R) -> Answer {
+        match self.clock.give_up(rt, self.table, &mut self.caller) {
+            Ok(given) => Answer::of(given).and(is_far(self.table, &mut self.caller)),
+            Err(refusal) => Answer::refused(refusal == Refusal::Memory),
+        }
+    }
+
+    /// The pair is in its frame still, and the name that was drawn in vain waits.
+    fn stands<R: Wait>(&mut self, _rt: &R) -> bool {
+        self.caller.limbo_len() == 1 && is_local(self.table, &mut self.caller)
     }
 }
 
@@ -195,6 +216,18 @@ fn turn<R: Wait, J: Naming, B: QueueNaming>(
     tried(rt, &mut it)
 }
 
+/// Has the caller give the pair up.
+fn give_up<R: Wait, J: Naming>(rt: &R, alloc: Global, table: &Table<J>) -> Result<Outcome, Memory> {
+    let clock = Clock::open(alloc, FRAMES)?;
+    let caller = putter(rt, alloc, table)?;
+    let mut it = Own {
+        table,
+        caller,
+        clock,
+    };
+    Ok(tried(rt, &mut it))
+}
+
 /// Opens an evictor over a table, or makes a turn of it.
 fn on_queue<R: Wait, J: Naming, B: QueueNaming>(
     rt: &R,
@@ -226,6 +259,9 @@ fn on_table<R: Wait, J: Naming>(
     let Ok(table) = opening.named::<J>(alloc) else {
         return Err(Memory);
     };
+    if matches!(case, Case::GiveUp) {
+        return give_up(rt, alloc, &table);
+    }
     let queue = QueueOpening::open(alloc, ROOM)?;
     on_queue::<R, J, Brand>(rt, alloc, &table, queue, case)
 }
@@ -246,7 +282,7 @@ fn opening(alloc: Global) -> Result<Opening<u64, u64, FakeDevice>, Memory> {
     Opening::open(alloc, SETTINGS, devices).map_err(|_| Memory)
 }
 
-fn evictor<R: Wait>(rt: &R, alloc: Global, case: Case) -> Result<Outcome, Memory> {
+fn made<R: Wait>(rt: &R, alloc: Global, case: Case) -> Result<Outcome, Memory> {
     on_table::<R, Brand>(rt, alloc, opening(alloc)?, case)
 }
 
@@ -254,6 +290,7 @@ fn evictor<R: Wait>(rt: &R, alloc: Global, case: Case) -> Result<Outcome, Memory
 pub fn tell_all<R: Alloc<A = Global> + Print + Wait>(rt: &R) -> io::Result<()> {
     let alloc = rt.alloc();
     tell(rt, "QueueOpening::named", seats(alloc))?;
-    tell(rt, "Evictor::open", evictor(rt, alloc, Case::Open))?;
-    tell(rt, "Evictor::turn", evictor(rt, alloc, Case::Turn))
+    tell(rt, "Evictor::open", made(rt, alloc, Case::Open))?;
+    tell(rt, "Evictor::turn", made(rt, alloc, Case::Turn))?;
+    tell(rt, "Clock::give_up", made(rt, alloc, Case::GiveUp))
 }

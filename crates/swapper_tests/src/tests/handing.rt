@@ -28,7 +28,7 @@ pub(super) fn one_spare_fits<J: Naming, B: QueueNaming, R: Wait + Abort>(rt: &R,
 }
 
 // Puts until the limbo is full: 64 spares.
-fn fill<J: Naming, B: QueueNaming, R: Abort>(rt: &R, desk: &mut Desk<J, B>) {
+pub(super) fn fill<J: Naming, B: QueueNaming, R: Abort>(rt: &R, desk: &mut Desk<J, B>) {
     desk.puts(rt, 1, 1, Ok(None));
     for value in 2..=65u64 {
         desk.puts(rt, 1, value, Ok(Some(value - 1)));

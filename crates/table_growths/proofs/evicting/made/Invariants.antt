@@ -1,7 +1,7 @@
 use Rattle.std.specs.Prelude.{true}
 use Rattle.version_words.specs.Rows.{limits_of}
 use Rattle.hash_table.specs.Configs.{sizes_of}
-use Rattle.table_growths.proofs.evicting.evictor.Given as goal
+use Rattle.table_growths.proofs.evicting.made.Given as goal
 
 -- the table that was just opened
 abbrev pub ghosts-on_table : goal.ghosts-on_table
