@@ -97,6 +97,13 @@ module _ (l : Limits) (limit : ℕ) where
   replied_why old mid new c e why goes h (inl is) = refused_from old mid new c why goes (subst (λ (w : Refusal). IsRefused l limit mid new c w) (sym is) h)
   replied_why old mid new c e why goes h (inr t) = refused_from old mid new c why goes (of_turn mid new c why h.goes t)
 
+  -- a pass that goes on behind a refusal
+  pub gone_on : (old mid new : View) (c : MapCommand) (why : Refusal) → IsRefused l limit old mid c why → Goes mid new → IsRefused l limit old new c why
+  gone_on old mid new c why h goes = record {
+    goes = goes_trans h.goes goes;
+    seen = λ honest. let s = h.seen honest in (s.0, s.1, prefix_trans s.0 mid.front new.front s.2 goes.grows, s.3);
+  }
+
   pub held_already : (v : View) (k : List ℕ) → IsRefused l limit v v (Hold k) refusal.HeldAlready
   held_already v k = free v v (Hold k) refusal.HeldAlready (λ _. tt) (goes_self v)
 

@@ -1,6 +1,7 @@
 //! What is done between two tries of a command.
 ghost use Rattle.std.specs.Prelude.{◌≡◌, ◌⊎◌, IfErr};
 ghost use Rattle.threaded_run.specs.Replies.{said, IsOfTurn};
+ghost use Rattle.version_words.specs.Views.{Goes};
 
 use crate::shared::{Seated, Shared};
 use far_device::Device;
@@ -28,14 +29,16 @@ pub(crate) fn said(refusal: TableRefusal) -> Refusal
     }
 }
 
-/// An evictor's turn, or some of them. Where they are refused for a reason that stays, this is the command's reply.
+/// Has a frame emptied. Where that is refused for a reason that stays, this is the command's reply.
 fn empty_frame<J: Naming, B: QueueNaming, D: Device, R: Wait>(
     rt: &R,
     shared: &Shared<J, B, D>,
+    seated: &mut Seated<J, B>,
 ) -> Result<(), Refusal>
-    ensures { IfErr result IsOfTurn }
+    ensures pass { Goes seated.old.caller.pass seated.new.caller.pass }
+    ensures why { IfErr result IsOfTurn }
 {
-    match shared.empty_frames(rt) {
+    match shared.empty_frames(rt, seated) {
         Err(TableRefusal::Memory) => Err(Refusal::Memory),
         Err(TableRefusal::NamesSpent) => Err(Refusal::NamesSpent),
         Err(TableRefusal::Device) => Err(Refusal::Device),
@@ -51,11 +54,11 @@ pub(crate) fn make_room<J: Naming, B: QueueNaming, D: Device, R: Wait>(
     seated: &mut Seated<J, B>,
     refusal: TableRefusal,
 ) -> Result<(), Refusal>
-    ensures pass { seated.new.caller.pass ≡ seated.old.caller.pass }
+    ensures pass { Goes seated.old.caller.pass seated.new.caller.pass }
     ensures why { IfErr result (λ why. (why ≡ said refusal) ⊎ IsOfTurn why) }
 {
     match refusal {
-        TableRefusal::NoFrame => empty_frame(rt, shared),
+        TableRefusal::NoFrame => empty_frame(rt, shared, seated),
         TableRefusal::LimboFull => {
             shared.settle(rt, seated);
             shared.collect(rt);

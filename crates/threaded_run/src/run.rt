@@ -57,7 +57,7 @@ where
     ensures ran { OnOk result (IsTrue J.limits.honest → (text : List ℕ) × Ran (MayRefuse J.limits.buckets table.limit) files.items text × Appends (W.contents out.old) (W.contents out.new) text) }
     ensures before { IfErr result (WritesBefore files.items (W.contents out.old) (W.contents out.new)) }
 {
-    let jobs = match draw(rt, alloc, &table, seats, files) {
+    let jobs = match draw(rt, alloc, &table, config.frames, seats, files) {
         Ok(jobs) => jobs,
         Err(fault) => return Err(of_work(fault)),
     };

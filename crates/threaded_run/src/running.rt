@@ -93,7 +93,7 @@ fn evict<J: Naming, B: QueueNaming, D: Device, R: Wait>(
     shared: &Shared<J, B, D>,
     seated: &mut Seated<J, B>,
 ) -> &'static [u8]
-    ensures { seated.new.caller.pass ≡ seated.old.caller.pass }
+    ensures { Goes seated.old.caller.pass seated.new.caller.pass }
 {
     for _ in 0..MOST_TRIES {
         match evict_one(rt, shared) {

@@ -8,17 +8,18 @@ use hash_table::{Caller, FarTable, Refusal};
 use std::sync::atomic::{AtomicBool, Ordering};
 use std::sync::{Mutex, Wait};
 use std::thread::Parker;
-use swapper::{Evictor, QueueNaming, QueueSeat, SpareQueue};
+use swapper::{Clock, Evictor, QueueNaming, QueueSeat, SpareQueue};
 use version_words::Naming;
 
 /// How many turns are made at most before the evictor is let go: others may wait for it meanwhile.
 const MOST_TURNS: u32 = 16;
 
-/// A caller, and its seat at the queue of spares.
+/// A caller, its seat at the queue of spares, and the clock by which it gives frames up itself.
 #[derive(Drop)]
 pub(crate) struct Seated<J: Naming, B: QueueNaming> {
     pub(crate) caller: Caller<Text, Text, J>,
     pub(crate) seat: QueueSeat<Text, Text, J, B>,
+    pub(crate) clock: Clock,
 }
 
 /// The table, the queue of spares to the evictor, and the evictor. While one thread has the evictor, others wait for it.
@@ -66,13 +67,36 @@ impl<J: Naming, B: QueueNaming, D: Device> Shared<J, B, D> {
         Ok(emptied)
     }
 
-    /// What makes room for a caller that found no frame: turns where the evictor has a thread, which keeps some frames free, and
-    /// else one.
-    pub(crate) fn empty_frames<R: Wait>(&self, rt: &R) -> Result<bool, Refusal> {
-        if self.started.load(Ordering::SeqCst) {
-            self.turns(rt)
-        } else {
-            self.turn(rt)
+    /// The caller gives a frame up itself, and reclaims what lay there, so that its next object goes into it. Spares that
+    /// waited go first: it reclaims the oldest.
+    fn give_up<R: Wait>(&self, rt: &R, seated: &mut Seated<J, B>) -> Result<bool, Refusal>
+        ensures { Goes seated.old.caller.pass seated.new.caller.pass }
+    {
+        self.settle(rt, seated);
+        match seated.clock.give_up(rt, &self.table, &mut seated.caller) {
+            Ok(true) => {
+                self.recycle(rt, &mut seated.caller);
+                Ok(true)
+            }
+            other => other,
+        }
+    }
+
+    /// What makes room for a caller that found no frame. Where the evictor has a thread the caller gives a frame up itself, side
+    /// by side with others, and where it finds none that it may, the evictor makes turns; else the evictor makes one.
+    pub(crate) fn empty_frames<R: Wait>(
+        &self,
+        rt: &R,
+        seated: &mut Seated<J, B>,
+    ) -> Result<bool, Refusal>
+        ensures { Goes seated.old.caller.pass seated.new.caller.pass }
+    {
+        if !self.started.load(Ordering::SeqCst) {
+            return self.turn(rt);
+        }
+        match self.give_up(rt, seated) {
+            Ok(false) => self.turns(rt),
+            other => other,
         }
     }
 

@@ -96,7 +96,11 @@ impl<J: Naming, B: QueueNaming> Job<J, B> {
             None => {}
         }
         let lines = ran?;
-        let Seated { caller, seat: _ } = seated;
+        let Seated {
+            caller,
+            seat: _,
+            clock: _,
+        } = seated;
         Ok(Ended { caller, lines })
     }
 }

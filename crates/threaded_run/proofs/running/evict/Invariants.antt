@@ -1,5 +1,5 @@
-use Rattle.std.proofs.Common.{◌≡◌}
+use Rattle.version_words.specs.Views.{Goes}
 use Rattle.threaded_run.proofs.running.evict.Given as goal
 
 abbrev pub invariant-loop : goal.invariant-loop
-invariant-loop g l = l.seated.caller.pass ≡ l.fn.seated.caller.pass
+invariant-loop g l = Goes l.fn.seated.caller.pass l.seated.caller.pass
