@@ -48,9 +48,10 @@ where
 /// Runs the program on the words behind its name, `BUCKETS FRAMES LIMIT FILE...`, and gives the status that it ends with.
 ///
 /// Numbers have one to seven decimal digits; there are 1 to 64 files, and `-`, which may be one of them, is standard input.
-/// The table lies over four devices in the process, and what it had is not given back: a program ends with its run. What the run writes goes to `out`; the text of a fault is one line on
-/// `err`, where a fault of writing it is ignored, and nothing else is written there. The faults come in the order of the
-/// work: the arguments, the opening of the files, and then those of `run_files`.
+/// The table lies over four devices in the process. Its memory stays taken where the table could be closed: the process is to
+/// end with the run. What the run writes goes to `out`; the text of a fault is one line on `err`, where a fault of writing it
+/// is ignored, and nothing else is written there. The faults come in the order of the work: the arguments, the opening of the
+/// files, and then those of `run_files`.
 pub fn run_program<R, W, E>(rt: &R, words: &[String], out: &mut W, err: &mut E) -> u8
 where
     R: Files + Input + AllocGlobal + Threads + Wait + Sync,
