@@ -4,8 +4,8 @@
 //! and the next one is looked for among those, all callers write the same few words at every change, and wait for one
 //! another. A caller who recycles fills the frame that it emptied, and writes none of these words.
 //!
-//! A kept frame is free, and reserved for nobody: where no other frame is named as free, a look at each finds it. Its
-//! caller finds it gone then, and looks for another one.
+//! A kept frame is free, and reserved for nobody: where no frame is named as free, each call looks at the next 64 frames,
+//! and may find it there. Its caller finds it gone then, and looks for another one.
 ghost use Rattle.std.specs.Prelude.{◌≡◌, ◌<◌, IfOk, IfErr};
 ghost use Rattle.table_core.specs.BucketWords.{place_of, empty_place};
 
@@ -56,9 +56,9 @@ impl<K: FarObject, V: FarObject, J: Naming> Caller<K, V, J> {
     /// its calls that needs a frame. For a caller that reclaims its own spares: several such callers don't contend for the
     /// same free frames. No contract speaks of it, since none says which frame is filled.
     ///
-    /// While it is kept, `FarTable::free` does not count the frame, and others find it by a look at each frame alone, where
-    /// no other one is free. So it stays also where the caller is dropped; `FarTable::stop_recycling` gives it back. A table
-    /// that is closed has no use of it.
+    /// While it is kept, `FarTable::free` does not count the frame, and others find it only where no other one is named as
+    /// free, when a look at 64 frames in turn comes to it. So it stays also where the caller is dropped;
+    /// `FarTable::stop_recycling` gives it back. A table that is closed has no use of it.
     pub fn recycle(&mut self)
         ensures pass { self.new.pass ≡ self.old.pass }
         ensures limbo { self.new.limbo ≡ self.old.limbo }
