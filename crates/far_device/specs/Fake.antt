@@ -1,4 +1,4 @@
--- What a tree's entries hold, as a finite map.
+-- What a hash map's entries hold, as a finite map.
 use Rattle.std.specs.Prelude.{ℕ, List, map}
 use Rattle.std.specs.FinMap.{from_entries}
 use Rattle.std.specs.Global.{Vec}

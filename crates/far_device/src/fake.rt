@@ -1,4 +1,4 @@
-//! A device that lies in the process, in a tree of the standard library.
+//! A device that lies in the process, in a hash map of the standard library.
 ghost use Rattle.std.specs.Prelude.{◌≡◌, true, IsOk, IsOkUnless, OnErr};
 ghost use Rattle.std.specs.FinMap.{empty};
 ghost use Rattle.far_device.specs.Calls.{Constructs, Writes, Reads, Removes};
@@ -6,7 +6,7 @@ ghost use Rattle.far_device.specs.Fake.{fake_state};
 
 use crate::{Device, DeviceFault};
 use std::alloc::Global;
-use std::collections::BTreeMap;
+use std::collections::HashMap;
 use std::marker::Model;
 
 /// A device in the process. It gives what was written and never answers `Failed`; contracts see it
@@ -14,7 +14,7 @@ use std::marker::Model;
 #[derive(Drop)]
 pub struct FakeDevice {
     alloc: Global,
-    kept: BTreeMap<u64, Vec<u8>>,
+    kept: HashMap<u64, Vec<u8>>,
 }
 
 impl Model for FakeDevice {
@@ -37,7 +37,7 @@ impl FakeDevice {
     {
         FakeDevice {
             alloc,
-            kept: BTreeMap::new(alloc),
+            kept: HashMap::new(alloc),
         }
     }
 }
