@@ -13,14 +13,18 @@ ghost use Rattle.lane_store.specs.Lanes.{IsRead};
 use crate::fault::LaneFault;
 use crate::lane::Lane;
 use crate::receipt::Receipt;
-use crossbeam_utils::CachePadded;
+use crossbeam_utils::{Backoff, CachePadded};
 use far_device::Device;
 use far_object::{FarObject, Format, Object};
 use std::alloc::Global;
 use std::marker::Model;
-use std::sync::{Mutex, Wait};
+use std::sync::{Mutex, MutexGuard, Wait};
 use table_core::word::name_of;
 use version_words::{Name, Naming, Spare};
+
+// How many times a lane is looked for before a thread sleeps for it. The looks come later and later, and take some 60
+// microseconds in all: what is done to a lane in memory takes one or two, and a thread that sleeps takes tens to be woken.
+const MOST_LOOKS: u32 = 24;
 
 // Which of so many lanes keeps the object of a name.
 fn lane_of(name: u64, lanes: usize) -> usize
@@ -73,8 +77,18 @@ impl<K: FarObject, V: FarObject, J: Naming, D: Device> LaneStore<K, V, J, D> {
         self.lanes.len()
     }
 
-    fn lane(&self, name: u64) -> &Mutex<Lane<K, V, J, D>> {
-        &self.lanes[lane_of(name, self.lanes.len())]
+    // The name's lane, once its lock is free. A lock of the standard library spins too, but no longer once a thread sleeps
+    // for it: then each that comes sleeps as well, and each that goes has to wake one.
+    fn lane<R: Wait>(&self, rt: &R, name: u64) -> MutexGuard<'_, Lane<K, V, J, D>> {
+        let lock: &Mutex<Lane<K, V, J, D>> = &self.lanes[lane_of(name, self.lanes.len())];
+        let backoff = Backoff::new();
+        for _ in 0..MOST_LOOKS {
+            if let Some(lane) = lock.try_lock() {
+                return lane;
+            }
+            backoff.spin();
+        }
+        lock.lock(rt)
     }
 
     /// Makes `Lane::write` on the name's lane, once its lock is free. What that does to the lane is said there: no clause
@@ -88,7 +102,7 @@ impl<K: FarObject, V: FarObject, J: Naming, D: Device> LaneStore<K, V, J, D> {
     ) -> Result<(), LaneFault>
         requires object { contents name.now.front name.now.number ≡ object.now }
     {
-        let mut lane = self.lane(name.number()).lock(rt);
+        let mut lane = self.lane(rt, name.number());
         lane.write(name, object, format)
     }
 
@@ -105,7 +119,7 @@ impl<K: FarObject, V: FarObject, J: Naming, D: Device> LaneStore<K, V, J, D> {
         ensures absent { IfOk result (λ receipt. IfNone receipt (out.new.items ≡ out.old.items)) }
         ensures fault { OnErr result (out.new.items ≡ out.old.items) }
     {
-        let mut lane = self.lane(name).lock(rt);
+        let mut lane = self.lane(rt, name);
         lane.read(name, out)
     }
 
@@ -114,7 +128,7 @@ impl<K: FarObject, V: FarObject, J: Naming, D: Device> LaneStore<K, V, J, D> {
     pub fn remove<R: Wait>(&self, rt: &R, spare: &Spare<K, V, J>) -> Result<bool, LaneFault>
         requires far { place_of spare.now.word ≡ far_place }
     {
-        let mut lane = self.lane(name_of(spare.word())).lock(rt);
+        let mut lane = self.lane(rt, name_of(spare.word()));
         lane.remove(spare)
     }
 }
