@@ -23,8 +23,8 @@ use std::rt::{Clock, Files};
 use std::sync::Wait;
 use std::sync::atomic::Ordering;
 use std::thread::{Threads, join};
-use swapper::{Evictor, QueueNaming, QueueOpening, QueueSeat, SpareQueue};
-use user::{Calls, User, put};
+use swapper::{Evictor, QueueNaming, QueueOpening, QueueSeat, RoomMaker, SpareQueue};
+use user::{Calls, Hand, User, put};
 use version_words::Naming;
 
 /// Buckets of the table.
@@ -74,6 +74,24 @@ fn entered<J: Naming>(table: &FarTable<Text, Text, J, FakeDevice>) -> Result<Cal
     }
 }
 
+/// A caller that makes room by itself.
+fn hand_of<J: Naming, B: QueueNaming>(
+    alloc: Global,
+    shared: &Shared<J, B>,
+    number: u32,
+) -> Result<Hand<J>> {
+    if shared.frames == 0 {
+        bail!("there are no frames");
+    }
+    let Ok(room) = RoomMaker::open(alloc, shared.frames, number) else {
+        bail!("there is no memory for a clock");
+    };
+    Ok(Hand {
+        caller: entered(&shared.table)?,
+        room,
+    })
+}
+
 /// Gives each key of the file the value.
 fn fill<R: Wait, J: Naming, B: QueueNaming>(
     rt: &R,
@@ -82,21 +100,21 @@ fn fill<R: Wait, J: Naming, B: QueueNaming>(
     keys: &[u8],
     value: &Text,
 ) -> Result<()> {
-    let mut caller = entered(&shared.table)?;
-    fill_by(rt, alloc, shared, &mut caller, keys, value)
+    let mut hand = hand_of(alloc, shared, 0)?;
+    fill_by(rt, alloc, shared, &mut hand, keys, value)
 }
 
 fn fill_by<R: Wait, J: Naming, B: QueueNaming>(
     rt: &R,
     alloc: Global,
     shared: &Shared<J, B>,
-    caller: &mut Caller<Text, Text, J>,
+    hand: &mut Hand<J>,
     keys: &[u8],
     value: &Text,
 ) -> Result<()> {
     for number in 0..keys.len() / 16 {
         let key = key_at(alloc, keys, number)?;
-        fill_one(rt, alloc, shared, caller, key, value)?;
+        fill_one(rt, alloc, shared, hand, key, value)?;
     }
     Ok(())
 }
@@ -105,11 +123,11 @@ fn fill_one<R: Wait, J: Naming, B: QueueNaming>(
     rt: &R,
     alloc: Global,
     shared: &Shared<J, B>,
-    caller: &mut Caller<Text, Text, J>,
+    hand: &mut Hand<J>,
     key: Text,
     value: &Text,
 ) -> Result<()> {
-    if !put(rt, alloc, shared, caller, &key, value) {
+    if !put(rt, alloc, shared, hand, &key, value) {
         bail!("a put was refused");
     }
     Ok(())
@@ -151,7 +169,7 @@ fn user_of<J: Naming, B: QueueNaming>(
     let value = Text::new(alloc, input.value.as_bytes())?;
     Ok(User {
         alloc,
-        caller: entered(&shared.table)?,
+        hand: hand_of(alloc, shared, part)?,
         calls,
         value,
     })
@@ -356,7 +374,7 @@ fn share<J: Naming, B: QueueNaming>(
     requires some { 0 < frames }
 {
     let evictor = evictor(alloc, &table, taker, frames)?;
-    Ok(Shared::new(table, queue, evictor, reserve_of(frames)))
+    Ok(Shared::new(table, queue, evictor, frames, reserve_of(frames)))
 }
 
 fn over_queue<R, J, B>(

@@ -68,6 +68,12 @@ impl<K: FarObject, V: FarObject, J: Naming> Caller<K, V, J> {
             self.limbo.set_recycling(Recycling::Begun(part));
         }
     }
+
+    /// Whether the caller has a frame that it emptied, which its next call that needs one fills where it still is free. Nothing
+    /// is claimed of it.
+    pub fn keeps_frame(&self) -> bool {
+        matches!(self.limbo.recycling(), Recycling::Kept(_))
+    }
 }
 
 impl<K: FarObject, V: FarObject, J: Naming, D: Device> FarTable<K, V, J, D> {

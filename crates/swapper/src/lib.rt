@@ -6,7 +6,8 @@
 //! (`settling.rt`) hands the limbo over, oldest first (`queue.rt`, over the rule in `rule.rt`). The `Evictor` (`evictor.rt`)
 //! takes the spares out and has the table reclaim them (`evictor/collecting.rt`); what comes back, since a reader is there or
 //! the device failed, it keeps and tries again. Where frames are wanted it gives one up: its `Clock` (`clock.rt`) picks the
-//! victim by second chance. A caller that can't wait for the evictor gives a frame up itself (`giving.rt`).
+//! victim by second chance. A caller that can't wait for the evictor gives a frame up itself (`giving.rt`),
+//! and has one ready before its changes (`room.rt`).
 #![tactic(auto)]
 
 mod asked;
@@ -18,6 +19,7 @@ mod marks;
 mod naming;
 mod opening;
 mod queue;
+mod room;
 mod rule;
 mod settling;
 
@@ -26,3 +28,4 @@ pub use evictor::{Collected, Evictor, Turn};
 pub use naming::QueueNaming;
 pub use opening::QueueOpening;
 pub use queue::{QueueSeat, SpareQueue};
+pub use room::{RoomMaker, recycle};

@@ -9,6 +9,7 @@ mod evicting;
 mod expect;
 mod giving;
 mod handing;
+mod room;
 mod shared;
 
 use expect::equal;
@@ -44,6 +45,9 @@ enum Scenario {
     OwnHand,
     OwnHandRefused,
     FullLimbo,
+    OwnRoom,
+    OwnRoomRefused,
+    OwnRoomFull,
     Threads,
     ThreadsEvict,
 }
@@ -61,6 +65,9 @@ impl Scenario {
             Scenario::OwnHand => (4, 3, 8, 0),
             Scenario::OwnHandRefused => (4, 2, 8, 1),
             Scenario::FullLimbo => (4, 128, 8, 0),
+            Scenario::OwnRoom => (4, 2, 8, 0),
+            Scenario::OwnRoomRefused => (4, 2, 8, 1),
+            Scenario::OwnRoomFull => (4, 128, 8, 0),
             Scenario::Threads => (4, 8, 16, 0),
             Scenario::ThreadsEvict => (32, 8, 16, 0),
         }
@@ -254,6 +261,9 @@ fn over_queue<
         Scenario::OwnHand => giving::own_hand(rt, rig),
         Scenario::OwnHandRefused => giving::own_hand_refused(rt, rig),
         Scenario::FullLimbo => giving::full_limbo(rt, rig),
+        Scenario::OwnRoom => room::own_room(rt, rig),
+        Scenario::OwnRoomRefused => room::own_room_refused(rt, rig),
+        Scenario::OwnRoomFull => room::own_room_full(rt, rig),
         Scenario::Threads => shared::threads_share(rt, rig, 4),
         Scenario::ThreadsEvict => shared::threads_share(rt, rig, 32),
     }

@@ -14,7 +14,7 @@ use std::alloc::Global;
 use std::io;
 use std::marker::Brand;
 use std::sync::Wait;
-use swapper::{Clock, Evictor, QueueNaming, QueueOpening, QueueSeat, SpareQueue, Turn};
+use swapper::{Evictor, QueueNaming, QueueOpening, QueueSeat, RoomMaker, SpareQueue, Turn};
 use version_words::Naming;
 
 /// How many seats a queue has beside the one that takes.
@@ -124,12 +124,12 @@ impl<J: Naming, B: QueueNaming> Trial for Prepared<'_, J, B> {
 struct Own<'t, J: Naming> {
     table: &'t Table<J>,
     caller: Caller<u64, u64, J>,
-    clock: Clock,
+    room: RoomMaker,
 }
 
 impl<J: Naming> Trial for Own<'_, J> {
     fn call<R: Wait>(&mut self, rt: &R) -> Answer {
-        match self.clock.give_up(rt, self.table, &mut self.caller) {
+        match self.room.make_room(rt, self.table, &mut self.caller) {
             Ok(given) => Answer::of(given).and(is_far(self.table, &mut self.caller)),
             Err(refusal) => Answer::refused(refusal == Refusal::Memory),
         }
@@ -218,12 +218,12 @@ fn turn<R: Wait, J: Naming, B: QueueNaming>(
 
 /// Has the caller give the pair up.
 fn give_up<R: Wait, J: Naming>(rt: &R, alloc: Global, table: &Table<J>) -> Result<Outcome, Memory> {
-    let clock = Clock::open(alloc, FRAMES)?;
+    let room = RoomMaker::open(alloc, FRAMES, 0)?;
     let caller = putter(rt, alloc, table)?;
     let mut it = Own {
         table,
         caller,
-        clock,
+        room,
     };
     Ok(tried(rt, &mut it))
 }
@@ -292,5 +292,5 @@ pub fn tell_all<R: Alloc<A = Global> + Print + Wait>(rt: &R) -> io::Result<()> {
     tell(rt, "QueueOpening::named", seats(alloc))?;
     tell(rt, "Evictor::open", made(rt, alloc, Case::Open))?;
     tell(rt, "Evictor::turn", made(rt, alloc, Case::Turn))?;
-    tell(rt, "Clock::give_up", made(rt, alloc, Case::GiveUp))
+    tell(rt, "RoomMaker::make_room", made(rt, alloc, Case::GiveUp))
 }

@@ -59,6 +59,11 @@ fn call<J: Naming, D: Device, R: Wait>(
     }
 }
 
+/// Whether the command may make a new object of its bucket, for which it needs a frame.
+fn is_change(command: &MapCommand) -> bool {
+    !matches!(command, MapCommand::Get { .. } | MapCommand::Hold { .. })
+}
+
 /// The reply to a command; a hold is a get here. After each refusal that room may help, room is made and the call is tried
 /// again, 1,000 times at most.
 pub(crate) fn answer<J: Naming, B: QueueNaming, D: Device, R: Wait>(
@@ -70,6 +75,9 @@ pub(crate) fn answer<J: Naming, B: QueueNaming, D: Device, R: Wait>(
 ) -> Result<Option<Text>, Refusal>
     ensures { AnswersWith J.limits shared.now.table.limit seated.old.caller.pass seated.new.caller.pass command.now result }
 {
+    if is_change(command) {
+        shared.before_change(rt, seated);
+    }
     for _ in 0..MOST_TRIES {
         match call(rt, alloc, &shared.table, &mut seated.caller, command) {
             Ok(answer) => return Ok(answer),

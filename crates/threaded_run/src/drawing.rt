@@ -11,7 +11,7 @@ use far_object::Text;
 use hash_table::{Caller, FarTable};
 use std::alloc::Global;
 use std::sync::Wait;
-use swapper::{Clock, QueueNaming, QueueSeat};
+use swapper::{QueueNaming, QueueSeat, RoomMaker};
 use version_words::{EnterFault, Naming};
 
 /// A new caller, also while others enter.
@@ -29,19 +29,6 @@ pub(crate) fn enter<J: Naming, D: Device, R: Wait>(
         }
     }
     unreachable!()
-}
-
-/// A clock for so many frames, whose hand begins apart from those of the other workers and the evictor's: behind the part of
-/// all frames that the number's bits in their other order are of 2^32.
-fn clock_of(alloc: Global, number: u32, frames: u32) -> Result<Clock, WorkFault>
-    requires { 0 < frames }
-{
-    let Ok(mut clock) = Clock::open(alloc, frames) else {
-        return Err(WorkFault::Memory);
-    };
-    let behind = u64::from(number.reverse_bits()) * u64::from(frames) >> 32;
-    clock.point_to(behind as u32 % frames);
-    Ok(clock)
 }
 
 /// A job for each file, by a new caller with a seat of its own.
@@ -64,11 +51,10 @@ pub(crate) fn draw<J: Naming, B: QueueNaming, D: Device, R: Wait>(
     let number = files.len() as u32 + 1;
     let mut jobs = draw(rt, alloc, table, frames, seats, files)?;
     let caller = enter(rt, table)?;
-    let seated = Seated {
-        caller,
-        seat,
-        clock: clock_of(alloc, number, frames)?,
+    let Ok(room) = RoomMaker::open(alloc, frames, number) else {
+        return Err(WorkFault::Memory);
     };
+    let seated = Seated { caller, seat, room };
     let Ok(()) = jobs.push(Job::new(number, seated, script)) else {
         return Err(WorkFault::Memory);
     };

@@ -8,18 +8,18 @@ use hash_table::{Caller, FarTable, Refusal};
 use std::sync::atomic::{AtomicBool, Ordering};
 use std::sync::{Mutex, Wait};
 use std::thread::Parker;
-use swapper::{Clock, Evictor, QueueNaming, QueueSeat, SpareQueue};
+use swapper::{Evictor, QueueNaming, QueueSeat, RoomMaker, SpareQueue, recycle};
 use version_words::Naming;
 
 /// How many turns are made at most before the evictor is let go: others may wait for it meanwhile.
 const MOST_TURNS: u32 = 16;
 
-/// A caller, its seat at the queue of spares, and the clock by which it gives frames up itself.
+/// A caller, its seat at the queue of spares, and what it makes room by itself with.
 #[derive(Drop)]
 pub(crate) struct Seated<J: Naming, B: QueueNaming> {
     pub(crate) caller: Caller<Text, Text, J>,
     pub(crate) seat: QueueSeat<Text, Text, J, B>,
-    pub(crate) clock: Clock,
+    pub(crate) room: RoomMaker,
 }
 
 /// The table, the queue of spares to the evictor, and the evictor. While one thread has the evictor, others wait for it.
@@ -67,22 +67,23 @@ impl<J: Naming, B: QueueNaming, D: Device> Shared<J, B, D> {
         Ok(emptied)
     }
 
-    /// The caller gives a frame up itself, and reclaims what lay there, so that its next object goes into it. Spares that
-    /// waited go first: it reclaims the oldest.
-    fn give_up<R: Wait>(&self, rt: &R, seated: &mut Seated<J, B>) -> Result<bool, Refusal>
+    /// The caller makes room itself. Spares that waited go first, so that the one which it reclaims is that of the frame.
+    fn make_own_room<R: Wait>(&self, rt: &R, seated: &mut Seated<J, B>) -> Result<bool, Refusal>
         ensures { Goes seated.old.caller.pass seated.new.caller.pass }
     {
         self.settle(rt, seated);
-        match seated.clock.give_up(rt, &self.table, &mut seated.caller) {
-            Ok(true) => {
-                self.recycle(rt, &mut seated.caller);
-                Ok(true)
-            }
-            other => other,
-        }
+        seated.room.make_room(rt, &self.table, &mut seated.caller)
     }
 
-    /// What makes room for a caller that found no frame. Where the evictor has a thread the caller gives a frame up itself, side
+    /// What comes before a change, whose caller has nothing in its limbo then: a frame for it, where frames were lacking of
+    /// late. Where the evictor has no thread they never are: there no caller makes room itself.
+    pub(crate) fn before_change<R: Wait>(&self, rt: &R, seated: &mut Seated<J, B>)
+        ensures { Goes seated.old.caller.pass seated.new.caller.pass }
+    {
+        seated.room.make_ready(rt, &self.table, &mut seated.caller);
+    }
+
+    /// What makes room for a caller that found no frame. Where the evictor has a thread the caller makes it itself, side
     /// by side with others, and where it finds none that it may, the evictor makes turns; else the evictor makes one.
     pub(crate) fn empty_frames<R: Wait>(
         &self,
@@ -94,7 +95,7 @@ impl<J: Naming, B: QueueNaming, D: Device> Shared<J, B, D> {
         if !self.started.load(Ordering::SeqCst) {
             return self.turn(rt);
         }
-        match self.give_up(rt, seated) {
+        match self.make_own_room(rt, seated) {
             Ok(false) => self.turns(rt),
             other => other,
         }
@@ -113,27 +114,13 @@ impl<J: Naming, B: QueueNaming, D: Device> Shared<J, B, D> {
         self.queue.settle(rt, &mut seated.seat, &mut seated.caller);
     }
 
-    /// Reclaims the oldest spare that the caller's calls have left, so that its next object goes into the frame that it
-    /// emptied, where it emptied one that is still free. A spare that comes back waits as before.
-    fn recycle<R: Wait>(&self, rt: &R, caller: &mut Caller<Text, Text, J>)
-        ensures { Goes caller.old.pass caller.new.pass }
-    {
-        caller.recycle();
-        let _front = caller.mark();
-        if let Some(spare) = caller.take_spare() {
-            if let Err((back, _)) = self.table.reclaim(rt, caller, spare) {
-                let _ = caller.return_spare(back);
-            }
-        }
-    }
-
     /// What follows each command. Where the evictor has a thread the caller reclaims its oldest spare itself, and hands over what
     /// still waits; else it hands all over, and has them reclaimed.
     pub(crate) fn after_command<R: Wait>(&self, rt: &R, seated: &mut Seated<J, B>)
         ensures { Goes seated.old.caller.pass seated.new.caller.pass }
     {
         if self.started.load(Ordering::SeqCst) {
-            self.recycle(rt, &mut seated.caller);
+            recycle(rt, &self.table, &mut seated.caller);
             self.settle(rt, seated);
         } else {
             self.settle(rt, seated);

@@ -99,7 +99,7 @@ impl<J: Naming, B: QueueNaming> Job<J, B> {
         let Seated {
             caller,
             seat: _,
-            clock: _,
+            room: _,
         } = seated;
         Ok(Ended { caller, lines })
     }

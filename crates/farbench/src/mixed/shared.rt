@@ -15,6 +15,8 @@ pub struct Shared<J: Naming, B: QueueNaming> {
     pub table: FarTable<Text, Text, J, FakeDevice>,
     queue: SpareQueue<Text, Text, J, B>,
     evictor: Mutex<Evictor<Text, Text, J, B>>,
+    /// How many frames there are.
+    pub frames: u32,
     /// How many frames the evictor's thread keeps free. At 0 nothing is swapped out.
     pub reserve: u32,
     /// Whether the users have ended.
@@ -26,12 +28,14 @@ impl<J: Naming, B: QueueNaming> Shared<J, B> {
         table: FarTable<Text, Text, J, FakeDevice>,
         queue: SpareQueue<Text, Text, J, B>,
         evictor: Evictor<Text, Text, J, B>,
+        frames: u32,
         reserve: u32,
     ) -> Shared<J, B> {
         Shared {
             table,
             queue,
             evictor: Mutex::new(evictor),
+            frames,
             reserve,
             ended: AtomicBool::new(false),
         }

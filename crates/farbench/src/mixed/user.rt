@@ -6,7 +6,7 @@ use far_object::Text;
 use hash_table::{Caller, Refusal};
 use std::alloc::{AllocError, Global};
 use std::sync::Wait;
-use swapper::QueueNaming;
+use swapper::{QueueNaming, RoomMaker};
 use version_words::Naming;
 
 /// How often a put is tried before it is given up.
@@ -30,11 +30,18 @@ impl Calls {
     }
 }
 
+/// A caller that makes room by itself.
+#[derive(Drop)]
+pub struct Hand<J: Naming> {
+    pub caller: Caller<Text, Text, J>,
+    pub room: RoomMaker,
+}
+
 /// A caller with its calls.
 #[derive(Drop)]
 pub struct User<J: Naming> {
     pub alloc: Global,
-    pub caller: Caller<Text, Text, J>,
+    pub hand: Hand<J>,
     pub calls: Calls,
     pub value: Text,
 }
@@ -56,21 +63,34 @@ fn reclaim<R: Wait, J: Naming, B: QueueNaming>(
     }
 }
 
-/// Gives the key the value. Where no frame is free it makes room and tries again.
+/// Makes room where no frame was free: the caller does, and where it can't, the evictor.
+fn make_room<R: Wait, J: Naming, B: QueueNaming>(
+    rt: &R,
+    shared: &Shared<J, B>,
+    hand: &mut Hand<J>,
+) {
+    if shared.reserve > 0 && hand.room.make_room(rt, &shared.table, &mut hand.caller) == Ok(true) {
+        return;
+    }
+    shared.make_room(rt);
+}
+
+/// Gives the key the value. Where frames are few it has one ready, and where none is free it makes room and tries again.
 pub fn put<R: Wait, J: Naming, B: QueueNaming>(
     rt: &R,
     alloc: Global,
     shared: &Shared<J, B>,
-    caller: &mut Caller<Text, Text, J>,
+    hand: &mut Hand<J>,
     key: &Text,
     value: &Text,
 ) -> bool {
+    hand.room.make_ready(rt, &shared.table, &mut hand.caller);
     for _ in 0..MOST_TRIES {
-        let done = shared.table.put(rt, alloc, caller, key, value);
-        reclaim(rt, shared, caller);
+        let done = shared.table.put(rt, alloc, &mut hand.caller, key, value);
+        reclaim(rt, shared, &mut hand.caller);
         match done {
             Ok(_) => return true,
-            Err(Refusal::NoFrame) => shared.make_room(rt),
+            Err(Refusal::NoFrame) => make_room(rt, shared, hand),
             Err(Refusal::LimboFull) => {}
             Err(_) => return false,
         }
@@ -105,28 +125,26 @@ fn make<R: Wait, J: Naming, B: QueueNaming>(
         return false;
     };
     if *is_get {
-        get(rt, user.alloc, shared, &mut user.caller, key)
+        get(rt, user.alloc, shared, &mut user.hand.caller, key)
     } else {
-        put(rt, user.alloc, shared, &mut user.caller, key, &user.value)
+        put(rt, user.alloc, shared, &mut user.hand, key, &user.value)
     }
 }
 
 impl<J: Naming, B: QueueNaming> Runner<Shared<J, B>> for User<J> {
     fn run<R: Wait>(&mut self, rt: &R, shared: &Shared<J, B>, rounds: u32) -> Lost {
         let mut lost = Lost::NONE;
-        // A user who reclaims its own spares fills the frame that it emptied. Where frames are few all look for that one.
-        if shared.reserve == 0 {
-            self.caller.recycle();
-        }
+        // A user who reclaims its own spares fills the frame that it emptied.
+        self.hand.caller.recycle();
         for at in 0..rounds {
             lost = lost.unless(make(rt, shared, self, at as usize));
         }
         // A reader may still be in the frame of a spare: what is dropped with the caller stays taken.
         for _ in 0..MOST_TRIES {
-            if self.caller.limbo_len() == 0 {
+            if self.hand.caller.limbo_len() == 0 {
                 break;
             }
-            reclaim(rt, shared, &mut self.caller);
+            reclaim(rt, shared, &mut self.hand.caller);
         }
         lost
     }

@@ -44,6 +44,8 @@ pub enum Step {
     PutsAndReclaims(u8, u32),
     Recycle,
     StopRecycling,
+    /// Whether the caller keeps a frame.
+    Keeps,
     /// Reclaims the oldest spare, which is the oldest again where that is refused.
     Reclaim,
     /// Takes the oldest spare out, and holds it.
@@ -184,6 +186,7 @@ impl Step {
                 user.table.stop_recycling(&mut user.caller);
                 Said::Nothing
             }
+            Step::Keeps => Said::Is(user.caller.keeps_frame()),
             Step::Reclaim => Said::reclaimed(user.reclaim(rt)),
             Step::Take => Said::Is(user.take()),
             Step::PutBack => Said::Is(user.put_back()),
