@@ -1,17 +1,21 @@
-"""Times the program on command files: fartable.py PROGRAM FARBENCH PLAIN THREADS [RUNS].
+"""Times the program on command files: fartable.py PROGRAM FARBENCH PLAIN [RUNS].
 
-PROGRAM is fartable, FARBENCH has the plain run as `farbench plain`, PLAIN and THREADS are plain/main.rs and plain/threads.rs,
-built: plain Rust programs that do the same. commands.py says what the files hold. In each of RUNS rounds, 5 if not given, each
-kind is run once, so that all meet what else the machine does. The best time of each kind is printed, and that in the middle; the
-other columns are of the best. What is said of a command has the time of an empty file taken off. On a busy machine the wall time
-says little, and the processor time more.
+PROGRAM is fartable, FARBENCH has the plain run as `farbench plain`, and PLAIN is a folder with the plain Rust programs of
+plain/, built: main and threads, which do the same, and registers. commands.py says what the files hold. In each of RUNS rounds, 5
+if not given, each kind is run once, so that all meet what else the machine does. The best time of each kind is printed, and that in
+the middle; the other columns are of the best. What is said of a command has the time of an empty file taken off. On a busy machine
+the wall time says little, and the processor time more.
 
 The status is 1 where a goal is missed, by the middle of the rounds' quotients: a best time of four threads asks that nothing
 disturbs any of four processors, so on a shared machine it is rarer than that of one. A command's wall time may grow by at most a
 quarter from the smallest file to the largest; one file may take at most 1.5 times the plain run's processor time where there are
-as many frames as buckets; four files of other keys have to run at least 2.5 times one file's commands in a second; and one file,
-or four, where the frames are a quarter of the buckets that they use, may take at most 4 times the wall time that they take with
-frames for all.
+as many frames as buckets; four files of other keys have to run at least 2.5 times one file's commands in a second on four cores;
+and one file, or four, where the frames are a quarter of the buckets that they use, may take at most 4 times the wall time that
+they take with frames for all.
+
+Four processors may be the threads of two cores, and then nothing runs 4 times one thread's work: work in registers tells, by the
+best times. There four files have to run at the same part, five eighths, of what the machine has for them: of the commands in a
+second that four processes do which share nothing.
 """
 import os
 import statistics
@@ -28,6 +32,11 @@ EMPTY = {"four files": "four empty files", "four on few frames": "four empty fil
 # A quarter of the buckets that 20,000 and 80,000 keys use, whose hashes spread over them: some 17,000 and 46,000.
 FEW_FRAMES = 17_000 // 4
 FEW_FOR_FOUR = 46_000 // 4
+# How many times one thread's register work four threads do at least where each has a core.
+FOUR_CORES = 3.6
+# What four files have to run of one file's commands in a second there, and elsewhere of those of four processes.
+FOUR_FILES = 2.5
+PART_OF_PROCESSES = FOUR_FILES / 4
 
 
 def take_time(arguments, given, out, *others):
@@ -55,6 +64,13 @@ def commands_of(name, size):
     return 4 * size if name in ("four files", "four on few frames", "plain threads", "four processes") else size
 
 
+def time_registers(program, threads):
+    """The seconds that so many threads take which each do the same work in registers."""
+    began = time.perf_counter()
+    subprocess.run([program, str(threads)], check=True)
+    return time.perf_counter() - began
+
+
 def per_command(took, name, size):
     """Microseconds of wall and processor time a command, with the time of empty files taken off."""
     if size == 0:
@@ -63,7 +79,15 @@ def per_command(took, name, size):
     return [(whole - less) / commands_of(name, size) * 1e6 for whole, less in zip(took[name, size][:2], empty)]
 
 
-def main(program, farbench, plain, threads, runs="5"):
+def report_registers(rounds):
+    """Prints how many times one thread's work in registers four threads do, and gives it by the best times."""
+    middle = statistics.median(4 * one / four for one, four in rounds)
+    one, four = map(min, zip(*rounds))
+    print(f"work in registers, four threads to one: {middle:.2f} in the middle of the rounds, {4 * one / four:.2f} of the best times")
+    return 4 * one / four
+
+
+def main(program, farbench, plain, runs="5"):
     here = os.path.dirname(os.path.abspath(__file__))
     with tempfile.TemporaryDirectory() as folder:
         files = {}
@@ -77,20 +101,21 @@ def main(program, farbench, plain, threads, runs="5"):
             given = files[size, 0]
             kinds["ample", size] = [program, str(BUCKETS), str(BUCKETS), "4096", "-"], given
             kinds["plain run", size] = [farbench, "plain", str(BUCKETS)], given
-            kinds["plain Rust", size] = [plain, str(BUCKETS), "2", "4096", given], given
+            kinds["plain Rust", size] = [f"{plain}/main", str(BUCKETS), "2", "4096", given], given
         kinds["few frames", LARGEST] = [program, str(BUCKETS), str(FEW_FRAMES), "4096", "-"], files[LARGEST, 0]
         four = [files[LARGEST, file] for file in range(4)]
         kinds["four files", LARGEST] = [program, str(BUCKETS), str(BUCKETS), "4096", *four], files[0, 0]
         kinds["four on few frames", LARGEST] = [program, str(BUCKETS), str(FEW_FOR_FOUR), "4096", *four], files[0, 0]
         kinds["four empty files", 0] = [program, str(BUCKETS), str(BUCKETS), "4096", *[files[0, 0]] * 4], files[0, 0]
-        kinds["plain threads", 0] = [threads, str(BUCKETS), str(BUCKETS), "4096", *[files[0, 0]] * 4], files[0, 0]
-        kinds["plain threads", LARGEST] = [threads, str(BUCKETS), str(BUCKETS), "4096", *four], files[0, 0]
+        kinds["plain threads", 0] = [f"{plain}/threads", str(BUCKETS), str(BUCKETS), "4096", *[files[0, 0]] * 4], files[0, 0]
+        kinds["plain threads", LARGEST] = [f"{plain}/threads", str(BUCKETS), str(BUCKETS), "4096", *four], files[0, 0]
         one = [program, str(BUCKETS), str(BUCKETS), "4096", "-"]
         kinds["four processes", 0] = one, *[files[0, 0]] * 4
         kinds["four processes", LARGEST] = one, *four
         load = os.getloadavg()
-        rounds = []
+        rounds, registers = [], []
         for _ in range(int(runs)):
+            registers.append([time_registers(f"{plain}/registers", threads) for threads in (1, 4)])
             rounds.append({kind: take_time(arguments, given, f"{folder}/{kind[0]}", *others) for kind, (arguments, given, *others) in kinds.items()})
             for name in ("plain run", "plain Rust", "few frames"):
                 assert same(f"{folder}/ample", f"{folder}/{name}"), f"{name} writes something else"
@@ -103,10 +128,13 @@ def main(program, farbench, plain, threads, runs="5"):
     for (name, size), (wall, cpu, peak) in best.items():
         each = per_command(best, name, size)
         print(f"{name:>18} {commands_of(name, size):>9} {wall * 1e3:>8.1f} {middle[name, size][0] * 1e3:>8.1f} {each[0]:>11.3f} {cpu * 1e3:>8.0f} {each[1]:>15.3f} {peak:>9}")
+    cores = report_registers(registers)
+    four_files, part = (FOUR_FILES, None) if cores >= FOUR_CORES else (None, PART_OF_PROCESSES)
     quotients = [
         ("a command's time, largest file to smallest", ("ample", LARGEST), ("ample", SIZES[1]), 0, 1.25, -1),
         ("processor time, to the plain run's", ("ample", LARGEST), ("plain run", LARGEST), 1, 1.5, -1),
-        ("commands in a second, four files to one", ("ample", LARGEST), ("four files", LARGEST), 0, 2.5, 1),
+        ("commands in a second, four files to one", ("ample", LARGEST), ("four files", LARGEST), 0, four_files, 1),
+        ("commands in a second, four files to four processes", ("four processes", LARGEST), ("four files", LARGEST), 0, part, 1),
         ("time with few frames, to ample", ("few frames", LARGEST), ("ample", LARGEST), 0, 4, -1),
         ("four files' time with few frames, to ample", ("four on few frames", LARGEST), ("four files", LARGEST), 0, 4, -1),
         ("commands in a second, four processes to one", ("ample", LARGEST), ("four processes", LARGEST), 0, None, 1),

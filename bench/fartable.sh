@@ -1,6 +1,7 @@
 #!/usr/bin/env bash
-# Times the proved program on command files, by one thread and by four, with ample frames and with few, beside the plain run
-# and beside a plain Rust program that does the same: fartable.sh [RUNS]. fartable.py says what is printed and what is wanted.
+# Times the proved program on command files, by one thread and by four, with ample frames and with few, beside the plain run,
+# beside a plain Rust program that does the same, and beside work in registers, which tells how many cores the processors are:
+# fartable.sh [RUNS]. fartable.py says what is printed and what is wanted.
 # FARTABLE=PATH and FARBENCH=PATH take these programs, in place of what bin/fartable and farbench's `rt run` prove and build.
 # rt try's build can't be timed: it checks as it runs, and stops at 1 MiB of output.
 set -euo pipefail
@@ -16,6 +17,7 @@ fi
 if [ -z "${FARBENCH:-}" ]; then
     (cd "$crates/farbench" && rt run >/dev/null)
 fi
-rustc --edition 2021 -O -o "$work/plain" "$bench/plain/main.rs"
-rustc --edition 2021 -O -o "$work/threads" "$bench/plain/threads.rs"
-python3 -B "$bench/fartable.py" "${FARTABLE:-$crates/fartable/out/fartable}" "${FARBENCH:-$crates/farbench/out/farbench}" "$work/plain" "$work/threads" "${1:-5}"
+for name in main threads registers; do
+    rustc --edition 2021 -O -o "$work/$name" "$bench/plain/$name.rs"
+done
+python3 -B "$bench/fartable.py" "${FARTABLE:-$crates/fartable/out/fartable}" "${FARBENCH:-$crates/farbench/out/farbench}" "$work" "${1:-5}"
