@@ -9,13 +9,11 @@ the wall time says little, and the processor time more.
 The status is 1 where a goal is missed, by the middle of the rounds' quotients: a best time of four threads asks that nothing
 disturbs any of four processors, so on a shared machine it is rarer than that of one. A command's wall time may grow by at most a
 quarter from the smallest file to the largest; one file may take at most 1.5 times the plain run's processor time where there are
-as many frames as buckets; four files of other keys have to run at least 2.5 times one file's commands in a second on four cores;
-and one file, or four, where the frames are a quarter of the buckets that they use, may take at most 4 times the wall time that
+as many frames as buckets; four files of other keys have to run at least 2.5 times one file's commands in a second; and one file, or four, where the frames are a quarter of the buckets that they use, may take at most 4 times the wall time that
 they take with frames for all.
 
-Four processors may be the threads of two cores, and then nothing runs 4 times one thread's work: work in registers tells, by the
-best times. There four files have to run at the same part, five eighths, of what the machine has for them: of the commands in a
-second that four processes do which share nothing.
+Beside it stands, without a goal, what the machine had for four threads meanwhile: how many times one's work in registers they
+do, and how many times one's commands four processes that share nothing. On a shared host both differ from run to run.
 """
 import os
 import statistics
@@ -32,11 +30,6 @@ EMPTY = {"four files": "four empty files", "four on few frames": "four empty fil
 # A quarter of the buckets that 20,000 and 80,000 keys use, whose hashes spread over them: some 17,000 and 46,000.
 FEW_FRAMES = 17_000 // 4
 FEW_FOR_FOUR = 46_000 // 4
-# How many times one thread's register work four threads do at least where each has a core.
-FOUR_CORES = 3.6
-# What four files have to run of one file's commands in a second there, and elsewhere of those of four processes.
-FOUR_FILES = 2.5
-PART_OF_PROCESSES = FOUR_FILES / 4
 
 
 def take_time(arguments, given, out, *others):
@@ -80,11 +73,10 @@ def per_command(took, name, size):
 
 
 def report_registers(rounds):
-    """Prints how many times one thread's work in registers four threads do, and gives it by the best times."""
+    """Prints how many times one thread's work in registers four threads do."""
     middle = statistics.median(4 * one / four for one, four in rounds)
     one, four = map(min, zip(*rounds))
     print(f"work in registers, four threads to one: {middle:.2f} in the middle of the rounds, {4 * one / four:.2f} of the best times")
-    return 4 * one / four
 
 
 def main(program, farbench, plain, runs="5"):
@@ -128,13 +120,12 @@ def main(program, farbench, plain, runs="5"):
     for (name, size), (wall, cpu, peak) in best.items():
         each = per_command(best, name, size)
         print(f"{name:>18} {commands_of(name, size):>9} {wall * 1e3:>8.1f} {middle[name, size][0] * 1e3:>8.1f} {each[0]:>11.3f} {cpu * 1e3:>8.0f} {each[1]:>15.3f} {peak:>9}")
-    cores = report_registers(registers)
-    four_files, part = (FOUR_FILES, None) if cores >= FOUR_CORES else (None, PART_OF_PROCESSES)
+    report_registers(registers)
     quotients = [
         ("a command's time, largest file to smallest", ("ample", LARGEST), ("ample", SIZES[1]), 0, 1.25, -1),
         ("processor time, to the plain run's", ("ample", LARGEST), ("plain run", LARGEST), 1, 1.5, -1),
-        ("commands in a second, four files to one", ("ample", LARGEST), ("four files", LARGEST), 0, four_files, 1),
-        ("commands in a second, four files to four processes", ("four processes", LARGEST), ("four files", LARGEST), 0, part, 1),
+        ("commands in a second, four files to one", ("ample", LARGEST), ("four files", LARGEST), 0, 2.5, 1),
+        ("commands in a second, four files to four processes", ("four processes", LARGEST), ("four files", LARGEST), 0, None, 1),
         ("time with few frames, to ample", ("few frames", LARGEST), ("ample", LARGEST), 0, 4, -1),
         ("four files' time with few frames, to ample", ("four on few frames", LARGEST), ("four files", LARGEST), 0, 4, -1),
         ("commands in a second, four processes to one", ("ample", LARGEST), ("four processes", LARGEST), 0, None, 1),

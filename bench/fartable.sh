@@ -1,6 +1,6 @@
 #!/usr/bin/env bash
 # Times the proved program on command files, by one thread and by four, with ample frames and with few, beside the plain run,
-# beside a plain Rust program that does the same, and beside work in registers, which tells how many cores the processors are:
+# beside a plain Rust program that does the same, and beside work in registers, which tells what the machine has for threads:
 # fartable.sh [RUNS]. fartable.py says what is printed and what is wanted.
 # FARTABLE=PATH and FARBENCH=PATH take these programs, in place of what bin/fartable and farbench's `rt run` prove and build.
 # rt try's build can't be timed: it checks as it runs, and stops at 1 MiB of output.

@@ -1,6 +1,6 @@
 //! Work in registers alone, the same by each of so many threads: registers THREADS. How much more four threads do of it than
-//! one says how many cores four processors are: eight sums that do not wait for one another keep all that adds in a core
-//! busy, so two processors that are threads of one core have to share it. It is written for x86-64.
+//! one says what a machine has for threads at that time: eight sums that do not wait for one another keep all that adds in a
+//! core busy, so two that run on one core, of this machine or of another on the same host, share it. It is for x86-64.
 
 use std::arch::asm;
 use std::env;
