@@ -9,8 +9,9 @@ the wall time says little, and the processor time more.
 The status is 1 where a goal is missed, by the middle of the rounds' quotients: a best time of four threads asks that nothing
 disturbs any of four processors, so on a shared machine it is rarer than that of one. A command's wall time may grow by at most a
 quarter from the smallest file to the largest; one file may take at most 1.5 times the plain run's processor time where there are
-as many frames as buckets; four files of other keys have to run at least 2.5 times one file's commands in a second; and one file, or four, where the frames are a quarter of the buckets that they use, may take at most 4 times the wall time that
-they take with frames for all.
+as many frames as buckets; four files of other keys have to run at least 2.5 times one file's commands in a second; and one file,
+or four, where the frames are a quarter of the buckets that they use, may take at most 4 times the wall time that they take with
+frames for all.
 
 Beside it stands, without a goal, what the machine had for four threads meanwhile: how many times one's work in registers they
 do, and how many times one's commands four processes that share nothing. On a shared host both differ from run to run.

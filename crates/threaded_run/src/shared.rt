@@ -75,8 +75,8 @@ impl<J: Naming, B: QueueNaming, D: Device> Shared<J, B, D> {
         seated.room.make_room(rt, &self.table, &mut seated.caller)
     }
 
-    /// What comes before a change, whose caller has nothing in its limbo then: a frame for it, where frames were lacking of
-    /// late. Where the evictor has no thread they never are: there no caller makes room itself.
+    /// What comes before a change: a frame for it, where frames were lacking of late. What the queue had no room for waits in
+    /// the limbo, and goes first. Where the evictor has no thread nothing is done: there no caller makes room itself.
     pub(crate) fn before_change<R: Wait>(&self, rt: &R, seated: &mut Seated<J, B>)
         ensures { Goes seated.old.caller.pass seated.new.caller.pass }
     {
