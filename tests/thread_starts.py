@@ -2,7 +2,9 @@
 
 LIBRARY is refuse_start.c, built. Each start of a run's threads is refused alone, and with all behind it. Every run has to
 end with status 0, and with replies and contents that histories.py finds a history for; one file starts a thread that makes
-the contents' lines, and n files n - 1 that parse, n - 1 that work, the evictor's, and that one.
+the contents' lines, and n files n - 1 that parse, n - 1 that work, the evictor's, and that one. Two long files start six more:
+one that makes memory for the second file's text, three that parse parts of it, and one that does nothing before each that works
+while a file is read, of which there are two.
 """
 import os
 import sys
@@ -18,11 +20,14 @@ FILES = [
 ]
 # A run that writes one bucket more often than a limbo holds spares: somebody has to reclaim them.
 MANY = [[f"put a {number}" for number in range(300)], [f"put b {number}" for number in range(300)]]
+# Two files of more than 262,144 bytes, for whose texts memory is made ready, in as few commands as may be.
+FILLING = [f"putif {'k' * 255} {'x' * 255} {'y' * 255}"] * 340
+LONG = [["put a 1", *FILLING], ["put b 2", *FILLING]]
 
 
 def main(program, library):
     runs = wrong = 0
-    for name, files, starts in (("one file", FILES[:1], 1), ("two files of 300 puts", MANY, 4), ("three files", FILES, 6)):
+    for name, files, starts in (("one file", FILES[:1], 1), ("two files of 300 puts", MANY, 4), ("three files", FILES, 6), ("two long files", LONG, 10)):
         for refused in ["0", *(f"{number}{ends}" for number in range(1, starts + 1) for ends in ("", ".."))]:
             with tempfile.NamedTemporaryFile("r") as told:
                 environment = {"LD_PRELOAD": library, "REFUSED": refused, "STARTS": told.name}

@@ -7,6 +7,7 @@ mod hints;
 mod lanes;
 mod program;
 mod reading;
+mod rooms;
 mod run;
 mod sources;
 mod status;

@@ -7,67 +7,39 @@ ghost use Rattle.command_file.specs.Texts.{EndsSo};
 ghost use Rattle.far_driver.specs.Reading.{AreFiles, IsFaultFrom, IsFaultOfOne};
 
 use crate::fault::{RunFault, of_file};
+use crate::rooms::{Rooms, rooms_for, start_idle};
 use command_file::{FileFault, FileText, Script};
 use std::alloc::Global;
 use std::io::BufRead;
 use std::thread::{Threads, join};
 
-/// How many bytes a file has to have, so that a thread is worth its start to make memory for them ready.
-const LEAST_ROOM: usize = 262_144;
-
-/// The most bytes of a file's lines: as many as it may have, of the greatest length, and an LF behind each.
-const MOST_ROOM: usize = 65_536 * 1_025;
-
-/// Memory for a text of so many bytes, or for fewer where a growth is refused. Its pages have been written to: a first touch of
-/// a page takes longer than to read a file's bytes into it.
-fn room_for(alloc: Global, length: usize) -> Vec<u8> {
-    let piece = [0u8; 4_096];
-    let mut room = Vec::new(alloc);
-    let length = length.min(MOST_ROOM);
-    if room.reserve_exact(length).is_ok() {
-        for _ in 0..length / piece.len() {
-            if room.extend_from_slice(&piece).is_err() {
-                break;
-            }
-        }
-    }
-    room
-}
-
-/// The length of the next file, and those behind.
-fn behind(lengths: &[usize]) -> (usize, &[usize]) {
-    match lengths.split_first() {
-        Some((_, rest)) => match rest.first() {
-            Some(&next) => (next, rest),
-            None => (0, rest),
-        },
-        None => (0, lengths),
-    }
-}
-
-/// Reads a file's text into the room, while another thread makes room for the next file, where that is long.
+/// Reads a file's text into the room, while other threads make rooms for the next files, where these are long.
 fn read_text<B, R>(
     rt: &R,
     alloc: Global,
     room: Vec<u8>,
-    next: usize,
+    rooms: &mut Rooms<'_>,
     mut file: B,
-) -> (Vec<u8>, FileText)
+) -> FileText
 where
     B: BufRead + Drop,
     R: Threads + Sync,
-    ensures { IfSome (B.remaining file) (λ bytes. EndsSo (lines_of bytes) result.1.lines result.1.end) }
+    ensures { IfSome (B.remaining file) (λ bytes. EndsSo (lines_of bytes) result.lines result.end) }
 {
-    if next < LEAST_ROOM {
-        return (Vec::new(alloc), FileText::read_into(alloc, room, &mut file));
+    let wanted = rooms.wanted();
+    if wanted.is_empty() {
+        return FileText::read_into(alloc, room, &mut file);
     }
-    join(
+    start_idle(rt);
+    let (made, text) = join(
         rt,
-        || room_for(alloc, next),
+        || rooms_for(rt, alloc, wanted),
         || -> FileText
             ensures { IfSome (B.remaining file.entry) (λ bytes. EndsSo (lines_of bytes) result.lines result.end) }
         { FileText::read_into(alloc, room, &mut file) },
-    )
+    );
+    rooms.put(made);
+    text
 }
 
 /// The list of these alone.
@@ -121,14 +93,13 @@ where
     }
 }
 
-/// The commands of each file, of which the first has this number, and this room for its text.
+/// The commands of each file, of which the first has this number, and for whose texts these rooms are.
 fn read_from<B, R>(
     rt: &R,
     alloc: Global,
     number: u32,
-    room: Vec<u8>,
+    mut rooms: Rooms<'_>,
     mut files: Vec<B>,
-    lengths: &[usize],
 ) -> Result<Vec<Script>, RunFault>
 where
     B: BufRead + Drop,
@@ -141,6 +112,8 @@ where
         return Ok(Vec::new(alloc));
     }
     let first = files.remove(0);
+    let is_long = rooms.is_long();
+    let room = rooms.take(alloc);
     if files.is_empty() {
         let script = match read_last(rt, alloc, room, number == 1, first) {
             Ok(script) => script,
@@ -148,8 +121,10 @@ where
         };
         return alone(alloc, script);
     }
-    let (next, later) = behind(lengths);
-    let (next_room, text) = read_text(rt, alloc, room, next, first);
+    let text = read_text(rt, alloc, room, &mut rooms, first);
+    if is_long {
+        start_idle(rt);
+    }
     let (own, others) = join(
         rt,
         || -> Result<Script, FileFault>
@@ -160,7 +135,7 @@ where
             requires { IsSync R.row × (number + 1 + vec_len files ≤ 65) }
             ensures said { IfOk result (λ all. AreFiles (map (λ f. B.remaining f) files.items) all.items) }
             ensures fault { IfErr result (IsFaultFrom (number + 1) (map (λ f. B.remaining f) files.items)) }
-        { read_from(rt, alloc, number + 1, next_room, files, later) },
+        { read_from(rt, alloc, number + 1, rooms, files) },
     );
     let script = match own {
         Ok(script) => script,
@@ -180,8 +155,8 @@ where
 /// threads can be started; the last is parsed in parts, side by side, and one that is alone on this thread. All are read,
 /// whatever they say. The fault is that of the first that has one; they are counted from 1.
 ///
-/// The lengths are those of the files in bytes, as far as they are known, in their order: while a file is read, a thread makes
-/// memory ready for the next, where that is long. They may be wrong, and there may be fewer.
+/// The lengths are those of the files in bytes, as far as they are known, in their order: while a file is read, threads make
+/// memory ready for the next, where these are long. They may be wrong, and there may be fewer.
 pub fn read_files<B, R>(
     rt: &R,
     alloc: Global,
@@ -195,7 +170,7 @@ where
     ensures said { IfOk result (λ all. AreFiles (map (λ f. B.remaining f) files.items) all.items) }
     ensures fault { IfErr result (IsFaultOfOne (map (λ f. B.remaining f) files.items)) }
 {
-    match read_from(rt, alloc, 1, Vec::new(alloc), files, lengths) {
+    match read_from(rt, alloc, 1, Rooms::new(alloc, lengths), files) {
         Ok(all) => Ok(all),
         Err(fault) => Err(fault),
     }

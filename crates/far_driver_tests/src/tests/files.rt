@@ -48,6 +48,33 @@ fn lengths_change_nothing(rt: HostRuntime) {
     }
 }
 
+/// Memory is made ready for three texts at once, so that for the text of the fifth of these files it is made while the fourth
+/// is read.
+#[test]
+fn memory_for_more_files_than_three(rt: HostRuntime) {
+    let rows: [[usize; 6]; 3] = [
+        [300_000; 6],
+        [0, 0, 0, 0, 300_000, 0],
+        [300_000, 0, 0, 0, 0, 300_000],
+    ];
+    for lengths in rows {
+        let all: [&[u8]; 6] = [
+            b"",
+            b"get a",
+            b"",
+            b"get a\nget b",
+            b"get a\nget b\n",
+            b"show",
+        ];
+        let files = made(&rt, Vec::from_array(rt.alloc(), all));
+        let read = made(&rt, read_files(&rt, rt.alloc(), files, &lengths));
+        equal(&rt, read.len(), 6);
+        for (script, wanted) in read.iter().zip([0, 1, 0, 2, 2, 1]) {
+            equal(&rt, script.len(), wanted);
+        }
+    }
+}
+
 #[test]
 fn files_in_order(rt: HostRuntime) {
     let none: Vec<&[u8]> = Vec::new(rt.alloc());
