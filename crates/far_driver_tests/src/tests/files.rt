@@ -6,10 +6,21 @@ use far_driver::{RunFault, read_files};
 use std::alloc::Global;
 use std::thread::Threads;
 
-/// Reads three files of these bytes, of which these lengths are told.
-fn read_three_of<R: Alloc<A = Global> + Threads + Sync>(
+/// Reads three files of these bytes, of whose lengths nothing is told.
+fn read_three<R: Alloc<A = Global> + Threads + Sync>(
     rt: &R,
     files: [&[u8]; 3],
+) -> Result<Vec<Script>, RunFault> {
+    match Vec::from_array(rt.alloc(), files) {
+        Ok(files) => read_files(rt, rt.alloc(), files, &[]),
+        Err(_) => Err(RunFault::Memory),
+    }
+}
+
+/// Reads six files of these bytes, of which these lengths are told.
+fn read_six<R: Alloc<A = Global> + Threads + Sync>(
+    rt: &R,
+    files: [&[u8]; 6],
     lengths: &[usize],
 ) -> Result<Vec<Script>, RunFault> {
     match Vec::from_array(rt.alloc(), files) {
@@ -18,60 +29,36 @@ fn read_three_of<R: Alloc<A = Global> + Threads + Sync>(
     }
 }
 
-/// Reads three files of these bytes, of whose lengths nothing is told.
-fn read_three<R: Alloc<A = Global> + Threads + Sync>(
-    rt: &R,
-    files: [&[u8]; 3],
-) -> Result<Vec<Script>, RunFault> {
-    read_three_of(rt, files, &[])
-}
-
+/// Memory is made ready for three texts at once, so that for the fifth file's it is made while the fourth is read.
 #[test]
 fn lengths_change_nothing(rt: HostRuntime) {
-    let files: [&[u8]; 3] = [b"put a 1\n\nget a", b"", b"show\n"];
-    let told: [&[usize]; 6] = [
-        &[15, 0, 5],
+    let files: [&[u8]; 6] = [
+        b"put a 1\n\nget a",
+        b"",
+        b"show\n",
+        b"",
+        b"get a",
+        b"get b\n",
+    ];
+    let told: [&[usize]; 7] = [
+        &[15, 0, 5, 0, 5, 6],
         &[0],
         &[0, 262_143],
         &[0, 262_144],
-        &[300_000, 300_000, 300_000, 300_000],
+        &[
+            300_000, 300_000, 300_000, 300_000, 300_000, 300_000, 300_000,
+        ],
+        &[0, 0, 0, 0, 300_000],
         &[0, 0, usize::MAX],
     ];
     for lengths in told {
-        let all = made(&rt, read_three_of(&rt, files, lengths));
-        equal(&rt, all.len(), 3);
-        for (script, wanted) in all.iter().zip([2, 0, 1]) {
+        let all = made(&rt, read_six(&rt, files, lengths));
+        equal(&rt, all.len(), 6);
+        for (script, wanted) in all.iter().zip([2, 0, 1, 0, 1, 1]) {
             equal(&rt, script.len(), wanted);
         }
-        let bad = read_three_of(&rt, [b"show", b"put", b"get"], lengths).err();
+        let bad = read_six(&rt, [b"show", b"put", b"get", b"", b"", b""], lengths).err();
         holds(&rt, bad == Some(RunFault::BadLine(2, 1)));
-    }
-}
-
-/// Memory is made ready for three texts at once, so that for the text of the fifth of these files it is made while the fourth
-/// is read.
-#[test]
-fn memory_for_more_files_than_three(rt: HostRuntime) {
-    let rows: [[usize; 6]; 3] = [
-        [300_000; 6],
-        [0, 0, 0, 0, 300_000, 0],
-        [300_000, 0, 0, 0, 0, 300_000],
-    ];
-    for lengths in rows {
-        let all: [&[u8]; 6] = [
-            b"",
-            b"get a",
-            b"",
-            b"get a\nget b",
-            b"get a\nget b\n",
-            b"show",
-        ];
-        let files = made(&rt, Vec::from_array(rt.alloc(), all));
-        let read = made(&rt, read_files(&rt, rt.alloc(), files, &lengths));
-        equal(&rt, read.len(), 6);
-        for (script, wanted) in read.iter().zip([0, 1, 0, 2, 2, 1]) {
-            equal(&rt, script.len(), wanted);
-        }
     }
 }
 
