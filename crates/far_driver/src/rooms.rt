@@ -57,8 +57,9 @@ pub(crate) fn rooms_for<R: Threads + Sync>(
 
 /// Starts a thread that does nothing, before one that works.
 ///
-/// Linux may put a thread that another starts on that one's processor, where the two take turns until the scheduler's next tick
-/// finds a processor that has nothing to do, up to 4 ms later. The second of two that are started goes to such a one at once.
+/// Linux may put a thread that another starts on that one's processor, where the two take turns though others have nothing to do,
+/// until a tick of the scheduler, 4 ms or more. The second of two that are started mostly goes to one of the others. Without the
+/// idle one all is read too, and later: docs/DECISIONS.md has figures.
 pub(crate) fn start_idle<R: Threads>(rt: &R) {
     match spawn(rt, || {}) {
         Ok(handle) => drop(handle),
@@ -102,7 +103,7 @@ impl<'a> Rooms<'a> {
         }
     }
 
-    /// The lengths of the next files for which rooms are worth to be made.
+    /// The lengths of the next files, where none of their rooms is ready and one of them is long enough; else none.
     pub(crate) fn wanted(&self) -> &'a [usize] {
         let next = &self.lengths[..self.lengths.len().min(AT_ONCE)];
         if self.ready.is_empty() && is_worth(next) {
