@@ -123,6 +123,15 @@ module _ {K V : Type 0} (ek : K → List ℕ) (ev : V → List ℕ) (AK : K → 
       admitted = subst (λ (z : List (K × V)). Admitted z) view b.admitted;
     }
 
+    -- the bytes have all of the pair that they begin with
+    pub within : (bytes : List ℕ) (e : K × V) (key value : ℕ) → BeginsWith ek ev AK AV bytes e → Ok key ≡ skipped ek (dk bytes) → Ok value ≡ skipped ev (dv (take (length bytes - key) (drop key bytes))) → key + value ≤ length bytes
+    within bytes e key value h a b =
+        let l = both_lengths ek ev dk dv AK AV lk lv bytes e key value h a b in
+        let all = ap (λ z. length z) h.is in
+        let first = length-append (ek e.0) (ev e.1 ++ h.more) in
+        let second = length-append (ev e.1) h.more in
+        omega (arith, l.0, l.1, all, first, second)
+
     -- the two parts of the first pair
     pub first_is : (bytes : List ℕ) (e : K × V) (key value : ℕ) (x : List ℕ × List ℕ) → BeginsWith ek ev AK AV bytes e → Ok key ≡ skipped ek (dk bytes) → Ok value ≡ skipped ev (dv (take (length bytes - key) (drop key bytes)))
         → x ≡ (take key bytes, take value (drop key bytes)) → (x ≡ written ek ev e) × (key + value ≡ length (ek e.0) + length (ev e.1))

@@ -1,3 +1,4 @@
 pub mod Bundling
+pub mod Heads
 pub mod Ordering
 pub mod Merging

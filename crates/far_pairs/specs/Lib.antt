@@ -1,2 +1,3 @@
 pub mod Bundles
+pub mod Heads
 pub mod Ranges

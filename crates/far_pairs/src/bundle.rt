@@ -5,7 +5,7 @@ ghost use Rattle.far_object.specs.Decoded.{BeginsWith};
 ghost use Rattle.far_pairs.specs.Bundles.{written, Rises};
 
 use crate::lent::LentPair;
-use far_object::{FarObject, Memory, Object, compare_bytes};
+use far_object::{FarObject, Memory, Object};
 use std::alloc::Global;
 use std::marker::{Model, PhantomData};
 
@@ -110,7 +110,7 @@ impl<K: FarObject, V: FarObject> Bundle<K, V> {
     {
         let mut lent = Vec::new(alloc);
         self.lend(&mut lent)?;
-        lent.sort_unstable_by(|one, other| compare_bytes(one.key(), other.key()));
+        lent.sort_unstable_by(|one, other| one.compare_keys(other));
         let mut bytes = Vec::with_capacity(alloc, self.bytes.len())?;
         for pair in &lent {
             bytes.extend_from_slice(pair.key())?;

@@ -9,6 +9,7 @@
 #![tactic(auto)]
 
 mod bundle;
+mod head;
 mod lent;
 mod order;
 mod ranges;

@@ -7,7 +7,7 @@ use crate::bundle::Bundle;
 use crate::lent::LentPair;
 use crate::ranges::in_ranges;
 use crate::run::Run;
-use far_object::{FarObject, Memory, compare_bytes};
+use far_object::{FarObject, Memory};
 use rayon::iter::{
     FromParallelIterator, IndexedParallelIterator, IntoParallelRefIterator, ParallelIterator,
 };
@@ -48,7 +48,7 @@ impl<'a> Ordered<'a> {
     {
         let mut pairs = Vec::new(alloc);
         bundle.lend(&mut pairs)?;
-        pairs.sort_by(|one, other| compare_bytes(one.key(), other.key()))?;
+        pairs.sort_by(|one, other| one.compare_keys(other))?;
         Ok(Ordered { pairs })
     }
 

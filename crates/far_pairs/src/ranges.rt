@@ -12,7 +12,7 @@ ghost use Rattle.far_pairs.specs.Ranges.{AreCut, AreMerged};
 
 use crate::lent::LentPair;
 use crate::run::Run;
-use far_object::{Memory, compare_bytes};
+use far_object::Memory;
 use std::alloc::Global;
 use std::thread::{Threads, join};
 
@@ -24,7 +24,7 @@ fn merged<'a>(alloc: Global, runs: &[Run<'_, 'a>]) -> Result<Vec<LentPair<'a>>, 
     for run in runs {
         run.lend(&mut pairs)?;
     }
-    pairs.sort_by(|one, other| compare_bytes(one.key(), other.key()))?;
+    pairs.sort_by(|one, other| one.compare_keys(other))?;
     Ok(pairs)
 }
 

@@ -64,7 +64,7 @@ impl<'b, 'a> Run<'b, 'a> {
     {
         lent.reserve(self.pairs.len())?;
         for pair in self.pairs {
-            lent.push(LentPair::new(pair.key(), pair.value()))?;
+            lent.push(pair.again())?;
         }
         Ok(())
     }

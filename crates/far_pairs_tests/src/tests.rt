@@ -168,6 +168,61 @@ fn keys_of_three_bundles_come_in_one_order(rt: HostRuntime) {
     );
 }
 
+/// The bundle of these texts, each as a key and as its value. They are added with others between neighbours, and each once where
+/// their count has no factor 7.
+fn bundle_of_texts(rt: &impl Abort, alloc: Global, texts: &[&[u8]]) -> Bundle<Text, Text> {
+    let mut bundle = Bundle::new(alloc);
+    for step in 0..texts.len() {
+        let Some(text) = texts.get(step.wrapping_mul(7) % texts.len()) else {
+            break;
+        };
+        let text = made(rt, Text::new(alloc, text));
+        made(
+            rt,
+            bundle.add(&made(rt, Object::of_pair(alloc, &text, &text))),
+        );
+    }
+    bundle
+}
+
+/// Stops the test where other texts were lent than these, each as a key and as its value.
+fn equal_texts(rt: &impl Abort, lent: &[LentPair<'_>], wanted: &[&[u8]]) {
+    equal(rt, lent.len(), wanted.len());
+    for (at, (pair, wanted)) in lent.iter().zip(wanted).enumerate() {
+        equal(rt, (at, pair.key().get(2..)), (at, Some(*wanted)));
+        equal(rt, (at, pair.value()), (at, pair.key()));
+    }
+}
+
+// The encodings are two bytes of the length and the text's. They differ behind their first 16 bytes, at the last of these and
+// before it; in the length alone; and in bytes that are 0 or 255.
+#[test]
+fn keys_that_begin_alike_come_in_their_order(rt: HostRuntime) {
+    let wanted: [&[u8]; 11] = [
+        b"",
+        b"\x00",
+        b"\xff",
+        b"\x00\x00",
+        b"\x00\xff",
+        b"aaaaaaaaaaaaaaa",
+        b"aaaaaaaaaaaaaab",
+        b"aaaaaaaaaaaaaba",
+        b"aaaaaaaaaaaab\x00\x00",
+        b"aaaaaaaaaaaaaaaa",
+        b"aaaaaaaaaaaaaaab",
+    ];
+    let bundles = [bundle_of_texts(&rt, rt.alloc(), &wanted)];
+    let lists = made(&rt, in_key_order(&rt, rt.alloc(), &bundles));
+    equal(&rt, lists.len(), 1);
+    for list in &lists {
+        equal_texts(&rt, list, &wanted);
+    }
+    let again = made(&rt, bundles[0].in_order(rt.alloc()));
+    let mut lent = Vec::new(rt.alloc());
+    made(&rt, again.lend(&mut lent));
+    equal_texts(&rt, &lent, &wanted);
+}
+
 #[test]
 fn one_key_comes_in_the_order_of_the_bundles(rt: HostRuntime) {
     let bundles = [
