@@ -1,17 +1,23 @@
 //! The run of the files that readers give.
-ghost use Rattle.std.specs.Prelude.{◌≡◌, ◌<◌, ◌≤◌, IsTrue, vec_len, map, IfErr, OnOk};
+ghost use Rattle.std.specs.Prelude.{◌≡◌, ◌<◌, ◌≤◌, IsTrue, vec_len, map, IfErr, IfOk, OnOk};
+ghost use Rattle.std.specs.Thread.{IsSync};
+ghost use Rattle.far_driver.specs.Reading.{AreFiles, IsFaultOfOne};
 ghost use Rattle.hash_table.specs.Configs.{first_bad_with};
 ghost use Rattle.far_driver.specs.Runs.{told_field, RanOn, FitsFiles, WritesBefore};
 
 use crate::fault::{RunFault, of_threads};
 use crate::hints::Hints;
 use crate::reading::read_files;
+use command_file::Script;
 use far_device::Device;
 use hash_table::Config;
 use std::io::{BufRead, Write};
 use std::sync::Wait;
 use std::thread::Threads;
-use threaded_run::Gate;
+use threaded_run::{Gate, ReadingFault};
+
+/// More frames than so many are opened while several files are read.
+const MANY_FRAMES: u32 = 4_096;
 
 /// Runs the files that the readers give, each by a worker of its own, on a table that they share over these devices, and
 /// writes the replies and the contents: `threaded_run::run_files` says how. There are 1 to 64 files. All are read, in order,
@@ -46,20 +52,33 @@ where
     if let Some(field) = config.first_bad_with(devices.len()) {
         return Err(RunFault::BadConfig(field));
     }
-    let files = match read_files(rt, rt.alloc(), files, hints.lengths) {
+    let alloc = rt.alloc();
+    if files.len() > 1 && config.frames > MANY_FRAMES {
+        let ended = threaded_run::run_read(
+            rt,
+            alloc,
+            config,
+            devices,
+            || -> Result<Vec<Script>, RunFault>
+                requires { IsSync R.row × (vec_len files ≤ 64) }
+                ensures said { IfOk result (λ all. AreFiles (map (λ f. B.remaining f) files.items) all.items) }
+                ensures fault { IfErr result (IsFaultOfOne (map (λ f. B.remaining f) files.items)) }
+            { read_files(rt, alloc, files, hints.lengths) },
+            hints.remains,
+            gate,
+            out,
+        );
+        return match ended {
+            Ok(()) => Ok(()),
+            Err(ReadingFault::Unread(fault)) => Err(fault),
+            Err(ReadingFault::Ended(fault)) => Err(of_threads(fault)),
+        };
+    }
+    let files = match read_files(rt, alloc, files, hints.lengths) {
         Ok(files) => files,
         Err(fault) => return Err(fault),
     };
-    match threaded_run::run_files(
-        rt,
-        rt.alloc(),
-        config,
-        devices,
-        files,
-        hints.remains,
-        gate,
-        out,
-    ) {
+    match threaded_run::run_files(rt, alloc, config, devices, files, hints.remains, gate, out) {
         Ok(()) => Ok(()),
         Err(fault) => Err(of_threads(fault)),
     }

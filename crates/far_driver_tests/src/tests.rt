@@ -143,3 +143,36 @@ fn two_files(rt: HostRuntime) {
         b"file 1\nnone\nnone\n1\n2\nfile 2\nnone\nnone\nnone\n3\n4\ncontents\nb 2\nc 5\nd 4\ne 6\n",
     );
 }
+
+/// Many frames are opened while several files are read, which changes no answer and no fault.
+#[test]
+fn many_frames(rt: HostRuntime) {
+    let config = Config {
+        frames: 5_000,
+        ..settings()
+    };
+    let files: [&'static [u8]; 3] = [b"put a 1\nget a", b"put b 2\ndel b\n", b"putnew c 3\n"];
+    assert_written(
+        &rt,
+        &config,
+        &files,
+        b"file 1\nnone\n1\nfile 2\nnone\n2\nfile 3\nnone\ncontents\na 1\nc 3\n",
+    );
+    assert_fault(
+        &rt,
+        &config,
+        &[b"put a 1", b"get b", b"get c\nput\n"],
+        RunFault::BadLine(3, 2),
+    );
+    let few = Config {
+        passes: 3,
+        ..config
+    };
+    assert_fault(&rt, &few, &files, RunFault::Passes);
+    assert_fault(
+        &rt,
+        &few,
+        &[b"put a 1", b"put", b"get c"],
+        RunFault::BadLine(2, 1),
+    );
+}

@@ -30,6 +30,15 @@ pub enum ThreadedFault {
     Contents(Refusal),
 }
 
+/// Why a run that reads its files ended early.
+#[derive(Clone, Copy, Debug, PartialEq, Eq)]
+pub enum ReadingFault<E> {
+    /// The files could not be read.
+    Unread(E),
+    /// They were read, and the run ended.
+    Ended(ThreadedFault),
+}
+
 /// Why no workers were made, or one gave up.
 #[derive(Clone, Copy, Debug, PartialEq, Eq)]
 pub(crate) enum WorkFault {

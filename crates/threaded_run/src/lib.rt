@@ -26,7 +26,7 @@ mod sharing;
 mod top;
 mod worker;
 
-pub use fault::ThreadedFault;
+pub use fault::{ReadingFault, ThreadedFault};
 pub use gate::{Gate, OpenGate};
 pub use remains::Remains;
-pub use top::run_files;
+pub use top::{run_files, run_read};

@@ -1,25 +1,27 @@
 //! From settings, devices and commands to a run: the table and the queue are opened, and their names in types are picked.
-ghost use Rattle.std.specs.Prelude.{◌≡◌, ◌<◌, ◌≤◌, IsTrue, None, ℕ, List, vec_len, map, OnOk, IfErr};
+ghost use Rattle.std.specs.Prelude.{◌≡◌, ◌<◌, ◌≤◌, IsTrue, None, Ok, ℕ, List, vec_len, map, IfOk, OnOk, IfErr};
+ghost use Rattle.std.specs.Thread.{IsSend};
 ghost use Rattle.std.specs.Io.KnownBytes.{Appends};
 ghost use Rattle.version_words.specs.Rows.{limits_of};
 ghost use Rattle.hash_table.specs.Configs.{first_bad_with, sizes_of};
 ghost use Rattle.run_lines.specs.Runs.{Ran};
 ghost use Rattle.threaded_run.specs.Replies.{MayRefuse};
-ghost use Rattle.threaded_run.specs.Runs.{WritesBefore};
+ghost use Rattle.threaded_run.specs.Runs.{StopsBefore, WritesBefore};
 
-use crate::fault::ThreadedFault;
+use crate::fault::{ReadingFault, ThreadedFault};
 use crate::gate::Gate;
 use crate::remains::Remains;
 use crate::run::run;
 use command_file::Script;
 use far_device::Device;
-use far_object::Text;
+use far_object::{Memory, Text};
+use frame_cache::Frames;
 use hash_table::{Config, FarTable, OpenFault, Opening};
 use std::alloc::Global;
 use std::io::Write;
 use std::marker::Brand;
 use std::sync::Wait;
-use std::thread::Threads;
+use std::thread::{Threads, join};
 use swapper::{QueueNaming, QueueOpening};
 use version_words::Naming;
 
@@ -57,6 +59,47 @@ where
     )
 }
 
+/// Runs the files over a table that gets its name now, and these frames, as many as the settings say.
+fn over_frames<J, D, G, R, W>(
+    rt: &R,
+    alloc: Global,
+    opening: Opening<Text, Text, D>,
+    frames: Frames<Text, Text, J>,
+    config: Config,
+    remains: Remains,
+    files: Vec<Script>,
+    gate: &G,
+    out: &mut W,
+) -> Result<(), ThreadedFault>
+where
+    J: Naming + Send + Sync,
+    D: Device + Send,
+    G: Gate,
+    R: Threads + Wait + Sync,
+    W: Write,
+    requires book { opening.row.book ≡ J.book }
+    requires boards { opening.row.names ≡ J.names }
+    requires limits { limits_of (sizes_of opening.config) D.HONEST ≡ J.limits }
+    requires config { opening.config ≡ config }
+    requires count { frames ≡ config.frames }
+    requires frames { 0 < config.frames }
+    requires spares { 0 < config.spares }
+    requires few { vec_len files ≤ 64 }
+    ensures ran { OnOk result (IsTrue D.HONEST → (text : List ℕ) × Ran (MayRefuse config.buckets config.limit) files.items text × Appends (W.contents out.old) (W.contents out.new) text) }
+    ensures before { IfErr result (WritesBefore files.items (W.contents out.old) (W.contents out.new)) }
+{
+    let table = match opening.named_over::<J>(alloc, frames) {
+        Ok(table) => table,
+        Err(OpenFault::Device) => return Err(ThreadedFault::Device),
+        Err(_) => return Err(ThreadedFault::Memory),
+    };
+    let queue = match QueueOpening::open(alloc, config.spares) {
+        Ok(queue) => queue,
+        Err(_) => return Err(ThreadedFault::Memory),
+    };
+    over_queue::<J, Brand, D, G, R, W>(rt, alloc, config, remains, table, queue, files, gate, out)
+}
+
 /// Runs the files over a table that was just opened.
 fn over_table<J, D, G, R, W>(
     rt: &R,
@@ -78,22 +121,74 @@ where
     requires boards { opening.row.names ≡ J.names }
     requires limits { limits_of (sizes_of opening.config) D.HONEST ≡ J.limits }
     requires config { opening.config ≡ config }
-    requires frames { 0 < config.frames }
+    requires frames { (0 < config.frames) × (config.frames ≤ 65536) }
     requires spares { 0 < config.spares }
     requires few { vec_len files ≤ 64 }
     ensures ran { OnOk result (IsTrue D.HONEST → (text : List ℕ) × Ran (MayRefuse config.buckets config.limit) files.items text × Appends (W.contents out.old) (W.contents out.new) text) }
     ensures before { IfErr result (WritesBefore files.items (W.contents out.old) (W.contents out.new)) }
 {
-    let table = match opening.named::<J>(alloc) {
-        Ok(table) => table,
-        Err(OpenFault::Device) => return Err(ThreadedFault::Device),
-        Err(_) => return Err(ThreadedFault::Memory),
+    let frames: Frames<Text, Text, J> = match Frames::open(alloc, config.frames) {
+        Ok(frames) => frames,
+        Err(Memory) => return Err(ThreadedFault::Memory),
     };
-    let queue = match QueueOpening::open(alloc, config.spares) {
-        Ok(queue) => queue,
-        Err(_) => return Err(ThreadedFault::Memory),
+    over_frames(
+        rt, alloc, opening, frames, config, remains, files, gate, out,
+    )
+}
+
+/// The same, over files that are read meanwhile: the frames are opened by a thread of its own.
+fn over_reading<J, D, G, R, W, F, E>(
+    rt: &R,
+    alloc: Global,
+    opening: Opening<Text, Text, D>,
+    config: Config,
+    remains: Remains,
+    read: F,
+    gate: &G,
+    out: &mut W,
+) -> Result<(), ReadingFault<E>>
+where
+    J: Naming + Send + Sync,
+    D: Device + Send,
+    G: Gate,
+    R: Threads + Wait + Sync,
+    W: Write,
+    F: FnOnce() -> Result<Vec<Script>, E>,
+    E: Drop,
+    requires book { opening.row.book ≡ J.book }
+    requires boards { opening.row.names ≡ J.names }
+    requires limits { limits_of (sizes_of opening.config) D.HONEST ≡ J.limits }
+    requires config { opening.config ≡ config }
+    requires frames { (0 < config.frames) × (config.frames ≤ 65536) }
+    requires spares { 0 < config.spares }
+    requires reads { F.pre read }
+    requires few { (files : _) → F.post read (Ok files) → vec_len files ≤ 64 }
+    ensures ran { OnOk result (IsTrue D.HONEST → (files : _) × F.post read (Ok files) × ((text : List ℕ) × Ran (MayRefuse config.buckets config.limit) files.items text × Appends (W.contents out.old) (W.contents out.new) text)) }
+    ensures before { IfErr result (StopsBefore (F.post read) (λ v. v.items) (W.contents out.old) (W.contents out.new)) }
+{
+    let count = config.frames;
+    let (frames, files) = join(
+        rt,
+        move || -> Result<Frames<Text, Text, J>, Memory>
+            requires { IsSend J.row × (count ≤ 65536) }
+            ensures { IfOk result (λ frames. frames ≡ count) }
+        { Frames::open(alloc, count) },
+        read,
+    );
+    let files = match files {
+        Ok(files) => files,
+        Err(fault) => return Err(ReadingFault::Unread(fault)),
     };
-    over_queue::<J, Brand, D, G, R, W>(rt, alloc, config, remains, table, queue, files, gate, out)
+    let frames = match frames {
+        Ok(frames) => frames,
+        Err(Memory) => return Err(ReadingFault::Ended(ThreadedFault::Memory)),
+    };
+    match over_frames(
+        rt, alloc, opening, frames, config, remains, files, gate, out,
+    ) {
+        Ok(()) => Ok(()),
+        Err(fault) => Err(ReadingFault::Ended(fault)),
+    }
 }
 
 /// Runs each file's commands by a worker of its own, on a table that they share over these devices, one for each lane; then
@@ -135,4 +230,46 @@ where
         Err(_) => return Err(ThreadedFault::Memory),
     };
     over_table::<Brand, D, G, R, W>(rt, alloc, opening, config, remains, files, gate, out)
+}
+
+/// As `run_files`, of files that are read by the call that is handed in. While it reads a thread makes the memory of the frames
+/// ready, which takes a while where these are many; no device is touched before all files are read.
+///
+/// `Unread` has the fault of the reading. It comes before each of the run, and `Ended` has those.
+pub fn run_read<D, G, R, W, F, E>(
+    rt: &R,
+    alloc: Global,
+    config: Config,
+    devices: Vec<D>,
+    read: F,
+    remains: Remains,
+    gate: &G,
+    out: &mut W,
+) -> Result<(), ReadingFault<E>>
+where
+    D: Device + Send,
+    G: Gate,
+    R: Threads + Wait + Sync,
+    W: Write,
+    F: FnOnce() -> Result<Vec<Script>, E>,
+    E: Drop,
+    requires within { first_bad_with (vec_len devices) config ≡ None }
+    requires reads { F.pre read }
+    requires few { (files : _) → F.post read (Ok files) → vec_len files ≤ 64 }
+    ensures ran { OnOk result (IsTrue D.HONEST → (files : _) × F.post read (Ok files) × ((text : List ℕ) × Ran (MayRefuse config.buckets config.limit) files.items text × Appends (W.contents out.old) (W.contents out.new) text)) }
+    ensures before { IfErr result (StopsBefore (F.post read) (λ v. v.items) (W.contents out.old) (W.contents out.new)) }
+{
+    let opening = match Opening::open(alloc, config, devices) {
+        Ok(opening) => opening,
+        Err(_) => {
+            return match read() {
+                Ok(files) => {
+                    drop(files);
+                    Err(ReadingFault::Ended(ThreadedFault::Memory))
+                }
+                Err(fault) => Err(ReadingFault::Unread(fault)),
+            };
+        }
+    };
+    over_reading::<Brand, D, G, R, W, F, E>(rt, alloc, opening, config, remains, read, gate, out)
 }

@@ -5,6 +5,7 @@ ghost use Rattle.hash_table.specs.Configs.{first_bad_with};
 mod evicting;
 mod expect;
 mod gates;
+mod reading;
 mod remains;
 mod rows;
 
