@@ -58,7 +58,7 @@ pub(crate) fn rooms_for<R: Threads + Sync>(
 /// Starts a thread that does nothing, before one that works.
 ///
 /// Linux may put a thread that another starts on that one's processor, where the two take turns though others have nothing to do,
-/// until a tick of the scheduler, 4 ms or more. The second of two that are started mostly goes to one of the others. Without the
+/// until a tick of the scheduler, 4 ms or more. A second one may go to one of the others, and the idle one ends at once. Without the
 /// idle one all is read too, and later: docs/DECISIONS.md has figures.
 pub(crate) fn start_idle<R: Threads>(rt: &R) {
     match spawn(rt, || {}) {

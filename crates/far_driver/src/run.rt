@@ -14,7 +14,7 @@ use hash_table::Config;
 use std::io::{BufRead, Write};
 use std::sync::Wait;
 use std::thread::Threads;
-use threaded_run::{Gate, ReadingFault};
+use threaded_run::{FramesOpened, Gate, ReadingFault, run_read};
 
 /// More frames than so many are opened while several files are read.
 const MANY_FRAMES: u32 = 4_096;
@@ -53,33 +53,29 @@ where
         return Err(RunFault::BadConfig(field));
     }
     let alloc = rt.alloc();
-    if files.len() > 1 && config.frames > MANY_FRAMES {
-        let ended = threaded_run::run_read(
-            rt,
-            alloc,
-            config,
-            devices,
-            || -> Result<Vec<Script>, RunFault>
-                requires { IsSync R.row × (vec_len files ≤ 64) }
-                ensures said { IfOk result (λ all. AreFiles (map (λ f. B.remaining f) files.items) all.items) }
-                ensures fault { IfErr result (IsFaultOfOne (map (λ f. B.remaining f) files.items)) }
-            { read_files(rt, alloc, files, hints.lengths) },
-            hints.remains,
-            gate,
-            out,
-        );
-        return match ended {
-            Ok(()) => Ok(()),
-            Err(ReadingFault::Unread(fault)) => Err(fault),
-            Err(ReadingFault::Ended(fault)) => Err(of_threads(fault)),
-        };
-    }
-    let files = match read_files(rt, alloc, files, hints.lengths) {
-        Ok(files) => files,
-        Err(fault) => return Err(fault),
+    let opened = if files.len() > 1 && config.frames > MANY_FRAMES {
+        FramesOpened::BesideReading
+    } else {
+        FramesOpened::BehindReading
     };
-    match threaded_run::run_files(rt, alloc, config, devices, files, hints.remains, gate, out) {
+    let ended = run_read(
+        rt,
+        alloc,
+        config,
+        devices,
+        || -> Result<Vec<Script>, RunFault>
+            requires { IsSync R.row × (vec_len files ≤ 64) }
+            ensures said { IfOk result (λ all. AreFiles (map (λ f. B.remaining f) files.items) all.items) }
+            ensures fault { IfErr result (IsFaultOfOne (map (λ f. B.remaining f) files.items)) }
+        { read_files(rt, alloc, files, hints.lengths) },
+        opened,
+        hints.remains,
+        gate,
+        out,
+    );
+    match ended {
         Ok(()) => Ok(()),
-        Err(fault) => Err(of_threads(fault)),
+        Err(ReadingFault::Unread(fault)) => Err(fault),
+        Err(ReadingFault::Ended(fault)) => Err(of_threads(fault)),
     }
 }

@@ -17,6 +17,7 @@ mod fault;
 mod finishing;
 mod gate;
 mod holding;
+mod opened;
 mod remains;
 mod room;
 mod run;
@@ -28,5 +29,6 @@ mod worker;
 
 pub use fault::{ReadingFault, ThreadedFault};
 pub use gate::{Gate, OpenGate};
+pub use opened::FramesOpened;
 pub use remains::Remains;
 pub use top::{run_files, run_read};

@@ -1,6 +1,5 @@
 //! From settings, devices and commands to a run: the table and the queue are opened, and their names in types are picked.
 ghost use Rattle.std.specs.Prelude.{◌≡◌, ◌<◌, ◌≤◌, IsTrue, None, Ok, ℕ, List, vec_len, map, IfOk, OnOk, IfErr};
-ghost use Rattle.std.specs.Thread.{IsSend};
 ghost use Rattle.std.specs.Io.KnownBytes.{Appends};
 ghost use Rattle.version_words.specs.Rows.{limits_of};
 ghost use Rattle.hash_table.specs.Configs.{first_bad_with, sizes_of};
@@ -10,6 +9,7 @@ ghost use Rattle.threaded_run.specs.Runs.{StopsBefore, WritesBefore};
 
 use crate::fault::{ReadingFault, ThreadedFault};
 use crate::gate::Gate;
+use crate::opened::{FramesOpened, read_and_open};
 use crate::remains::Remains;
 use crate::run::run;
 use command_file::Script;
@@ -18,10 +18,11 @@ use far_object::{Memory, Text};
 use frame_cache::Frames;
 use hash_table::{Config, FarTable, OpenFault, Opening};
 use std::alloc::Global;
+use std::convert::Infallible;
 use std::io::Write;
 use std::marker::Brand;
 use std::sync::Wait;
-use std::thread::{Threads, join};
+use std::thread::Threads;
 use swapper::{QueueNaming, QueueOpening};
 use version_words::Naming;
 
@@ -100,43 +101,7 @@ where
     over_queue::<J, Brand, D, G, R, W>(rt, alloc, config, remains, table, queue, files, gate, out)
 }
 
-/// Runs the files over a table that was just opened.
-fn over_table<J, D, G, R, W>(
-    rt: &R,
-    alloc: Global,
-    opening: Opening<Text, Text, D>,
-    config: Config,
-    remains: Remains,
-    files: Vec<Script>,
-    gate: &G,
-    out: &mut W,
-) -> Result<(), ThreadedFault>
-where
-    J: Naming + Send + Sync,
-    D: Device + Send,
-    G: Gate,
-    R: Threads + Wait + Sync,
-    W: Write,
-    requires book { opening.row.book ≡ J.book }
-    requires boards { opening.row.names ≡ J.names }
-    requires limits { limits_of (sizes_of opening.config) D.HONEST ≡ J.limits }
-    requires config { opening.config ≡ config }
-    requires frames { (0 < config.frames) × (config.frames ≤ 65536) }
-    requires spares { 0 < config.spares }
-    requires few { vec_len files ≤ 64 }
-    ensures ran { OnOk result (IsTrue D.HONEST → (text : List ℕ) × Ran (MayRefuse config.buckets config.limit) files.items text × Appends (W.contents out.old) (W.contents out.new) text) }
-    ensures before { IfErr result (WritesBefore files.items (W.contents out.old) (W.contents out.new)) }
-{
-    let frames: Frames<Text, Text, J> = match Frames::open(alloc, config.frames) {
-        Ok(frames) => frames,
-        Err(Memory) => return Err(ThreadedFault::Memory),
-    };
-    over_frames(
-        rt, alloc, opening, frames, config, remains, files, gate, out,
-    )
-}
-
-/// The same, over files that are read meanwhile: the frames are opened by a thread of its own.
+/// Runs the files over a table that was just opened. They are read first, or while the frames are opened.
 fn over_reading<J, D, G, R, W, F, E>(
     rt: &R,
     alloc: Global,
@@ -144,6 +109,7 @@ fn over_reading<J, D, G, R, W, F, E>(
     config: Config,
     remains: Remains,
     read: F,
+    opened: FramesOpened,
     gate: &G,
     out: &mut W,
 ) -> Result<(), ReadingFault<E>>
@@ -166,17 +132,14 @@ where
     ensures ran { OnOk result (IsTrue D.HONEST → (files : _) × F.post read (Ok files) × ((text : List ℕ) × Ran (MayRefuse config.buckets config.limit) files.items text × Appends (W.contents out.old) (W.contents out.new) text)) }
     ensures before { IfErr result (StopsBefore (F.post read) (λ v. v.items) (W.contents out.old) (W.contents out.new)) }
 {
-    let count = config.frames;
-    let (frames, files) = join(
+    let (files, frames) = match read_and_open::<J, R, F, E>(
         rt,
-        move || -> Result<Frames<Text, Text, J>, Memory>
-            requires { IsSend J.row × (count ≤ 65536) }
-            ensures { IfOk result (λ frames. frames ≡ count) }
-        { Frames::open(alloc, count) },
+        alloc,
+        config.frames,
         read,
-    );
-    let files = match files {
-        Ok(files) => files,
+        opened,
+    ) {
+        Ok(both) => both,
         Err(fault) => return Err(ReadingFault::Unread(fault)),
     };
     let frames = match frames {
@@ -225,15 +188,28 @@ where
     ensures ran { OnOk result (IsTrue D.HONEST → (text : List ℕ) × Ran (MayRefuse config.buckets config.limit) files.items text × Appends (W.contents out.old) (W.contents out.new) text) }
     ensures before { IfErr result (WritesBefore files.items (W.contents out.old) (W.contents out.new)) }
 {
-    let opening = match Opening::open(alloc, config, devices) {
-        Ok(opening) => opening,
-        Err(_) => return Err(ThreadedFault::Memory),
-    };
-    over_table::<Brand, D, G, R, W>(rt, alloc, opening, config, remains, files, gate, out)
+    let ended = run_read(
+        rt,
+        alloc,
+        config,
+        devices,
+        || -> Result<Vec<Script>, Infallible>
+            ensures { result ≡ Ok files }
+        { Ok(files) },
+        FramesOpened::BehindReading,
+        remains,
+        gate,
+        out,
+    );
+    match ended {
+        Ok(()) => Ok(()),
+        Err(ReadingFault::Ended(fault)) => Err(fault),
+        Err(ReadingFault::Unread(never)) => match never {},
+    }
 }
 
-/// As `run_files`, of files that are read by the call that is handed in. While it reads a thread makes the memory of the frames
-/// ready, which takes a while where these are many; no device is touched before all files are read.
+/// As `run_files`, of files that are read by the call that is handed in. The frames are opened meanwhile or behind it; no device
+/// is touched before all files are read.
 ///
 /// `Unread` has the fault of the reading. It comes before each of the run, and `Ended` has those.
 pub fn run_read<D, G, R, W, F, E>(
@@ -242,6 +218,7 @@ pub fn run_read<D, G, R, W, F, E>(
     config: Config,
     devices: Vec<D>,
     read: F,
+    opened: FramesOpened,
     remains: Remains,
     gate: &G,
     out: &mut W,
@@ -271,5 +248,7 @@ where
             };
         }
     };
-    over_reading::<Brand, D, G, R, W, F, E>(rt, alloc, opening, config, remains, read, gate, out)
+    over_reading::<Brand, D, G, R, W, F, E>(
+        rt, alloc, opening, config, remains, read, opened, gate, out,
+    )
 }

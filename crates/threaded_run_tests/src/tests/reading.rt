@@ -10,7 +10,9 @@ use std::process::Abort;
 use std::sync::atomic::{AtomicU64, Ordering};
 use std::sync::{Arc, Wait};
 use std::thread::Threads;
-use threaded_run::{OpenGate, ReadingFault, ThreadedFault, run_read};
+use threaded_run::{FramesOpened, OpenGate, ReadingFault, ThreadedFault, run_read};
+
+const BOTH: [FramesOpened; 2] = [FramesOpened::BesideReading, FramesOpened::BehindReading];
 
 /// A device that keeps nothing, fails at each call, and counts the calls here.
 #[derive(Drop)]
@@ -64,6 +66,7 @@ fn run_reading<D: Device + Send, R: Alloc<A = Global> + Threads + Wait + Abort +
     settings: Settings,
     device: D,
     files: Result<Vec<Script>, u8>,
+    opened: FramesOpened,
 ) -> (Result<(), ReadingFault<u8>>, Vec<u8>)
     requires few { IfOk files (λ v. vec_len v ≤ 64) }
 {
@@ -79,6 +82,7 @@ fn run_reading<D: Device + Send, R: Alloc<A = Global> + Threads + Wait + Abort +
         || -> Result<Vec<Script>, u8>
             ensures { result ≡ files }
         { files },
+        opened,
         settings.remains,
         &OpenGate,
         &mut out,
@@ -90,19 +94,22 @@ fn run_reading<D: Device + Send, R: Alloc<A = Global> + Threads + Wait + Abort +
 #[test]
 fn files_that_are_read_run_the_same(rt: HostRuntime) {
     let files: [&[u8]; 2] = [b"put a 1\nevict\nget a\n", b"put b 2\nputnew b 3\n"];
-    let scripts = all_scripts(&rt, &files);
-    let writes = made(&rt, Arc::new(rt.alloc(), AtomicU64::new(0)));
-    let (ended, out) = run_reading(&rt, ample(), lane(&rt, 0, writes), Ok(scripts));
-    equal(&rt, ended, Ok(()));
     let (_, wanted) = run(&rt, ample(), &files, &OpenGate);
-    equal(&rt, out.as_slice(), wanted.as_slice());
-    equal(&rt, out.is_empty(), false);
+    equal(&rt, wanted.is_empty(), false);
+    for opened in BOTH {
+        let scripts = all_scripts(&rt, &files);
+        let writes = made(&rt, Arc::new(rt.alloc(), AtomicU64::new(0)));
+        let (ended, out) = run_reading(&rt, ample(), lane(&rt, 0, writes), Ok(scripts), opened);
+        equal(&rt, ended, Ok(()));
+        equal(&rt, out.as_slice(), wanted.as_slice());
+    }
 }
 
 /// How a run over a broken device ends, how much is written, and how many calls the device got.
 fn run_broken<R: Alloc<A = Global> + Threads + Wait + Abort + Sync>(
     rt: &R,
     files: Result<Vec<Script>, u8>,
+    opened: FramesOpened,
 ) -> (Result<(), ReadingFault<u8>>, usize, u64)
     requires few { IfOk files (λ v. vec_len v ≤ 64) }
 {
@@ -111,17 +118,19 @@ fn run_broken<R: Alloc<A = Global> + Threads + Wait + Abort + Sync>(
         failures: 0,
         calls: made(rt, calls.clone()),
     };
-    let (ended, out) = run_reading(rt, ample(), device, files);
+    let (ended, out) = run_reading(rt, ample(), device, files, opened);
     (ended, out.len(), calls.load(Ordering::SeqCst))
 }
 
 #[test]
 fn no_device_is_touched_where_files_are_not_read(rt: HostRuntime) {
-    let unread = Err(ReadingFault::Unread(7));
-    equal(&rt, run_broken(&rt, Err(7)), (unread, 0, 0));
-    let scripts = all_scripts(&rt, &[b"put a 1\n"]);
-    let device = Err(ReadingFault::Ended(ThreadedFault::Device));
-    equal(&rt, run_broken(&rt, Ok(scripts)), (device, 0, 1));
+    for opened in BOTH {
+        let unread = Err(ReadingFault::Unread(7));
+        equal(&rt, run_broken(&rt, Err(7), opened), (unread, 0, 0));
+        let scripts = all_scripts(&rt, &[b"put a 1\n"]);
+        let device = Err(ReadingFault::Ended(ThreadedFault::Device));
+        equal(&rt, run_broken(&rt, Ok(scripts), opened), (device, 0, 1));
+    }
 }
 
 #[test]
@@ -130,9 +139,12 @@ fn passes_are_spent_behind_the_reading(rt: HostRuntime) {
         passes: 1,
         ..ample()
     };
-    let scripts = all_scripts(&rt, &[b"put a 1\n"]);
-    let writes = made(&rt, Arc::new(rt.alloc(), AtomicU64::new(0)));
-    let (ended, out) = run_reading(&rt, settings, lane(&rt, 0, writes), Ok(scripts));
-    equal(&rt, ended, Err(ReadingFault::Ended(ThreadedFault::Passes)));
-    equal(&rt, out.is_empty(), true);
+    for opened in BOTH {
+        let scripts = all_scripts(&rt, &[b"put a 1\n"]);
+        let writes = made(&rt, Arc::new(rt.alloc(), AtomicU64::new(0)));
+        let device = lane(&rt, 0, writes);
+        let (ended, out) = run_reading(&rt, settings, device, Ok(scripts), opened);
+        equal(&rt, ended, Err(ReadingFault::Ended(ThreadedFault::Passes)));
+        equal(&rt, out.is_empty(), true);
+    }
 }
