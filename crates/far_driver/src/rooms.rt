@@ -91,16 +91,23 @@ impl<'a> Rooms<'a> {
         }
     }
 
-    /// The next file's room.
+    /// The next file's room. Where none is ready it is memory of the file's length, so that the text need not grow, and where
+    /// that is refused none.
     pub(crate) fn take(&mut self, alloc: Global) -> Vec<u8> {
-        if let Some((_, behind)) = self.lengths.split_first() {
+        let mut length = 0;
+        if let Some((&first, behind)) = self.lengths.split_first() {
+            length = first.min(MOST);
             self.lengths = behind;
         }
-        if self.ready.is_empty() {
-            Vec::new(alloc)
-        } else {
-            self.ready.remove(0)
+        if !self.ready.is_empty() {
+            return self.ready.remove(0);
         }
+        let mut room = Vec::new(alloc);
+        match room.reserve_exact(length) {
+            Ok(()) => {}
+            Err(_) => {}
+        }
+        room
     }
 
     /// The lengths of the next files, where none of their rooms is ready and one of them is long enough; else none.
