@@ -16,9 +16,10 @@ Four files of other keys have to run at least 2.5 times one file's commands in a
 processors at each time, and rarely four cores' worth: where two of them are one core's, or another guest has a part of them, four
 threads do not do 2.7 times one's work even in registers. So pairs of runs, of one file and of four, are made for this goal alone,
 10 for each round. Before and behind each run as many threads as there are files work in registers, which tells how many cores'
-worth there was. By Amdahl's law a pair's quotient then has a share of work that is done in turn, and at this share a quotient on
-four cores: the goal is judged by the middle of these. The quotients as they were measured are printed beside it, and the same of
-the rounds.
+worth there was. The goal is judged by the middle of the pairs with 3.7 or more, as measured, where these are 10. Where they are
+fewer it is judged by all: by Amdahl's law each has a share of work that is done in turn, and at this share a quotient on four
+cores. That estimate is too high where there is little worth: work in registers loses more by a core that is shared than a run
+does. The quotients of all as measured are printed beside it, and those of the rounds.
 
 Without a goal stands how many times one's commands four processes run that share nothing.
 """
@@ -37,8 +38,10 @@ EMPTY = {"four files": "four empty files", "four on few frames": "four empty fil
 # A quarter of the buckets that 20,000 and 80,000 keys use, whose hashes spread over them: some 17,000 and 46,000.
 FEW_FRAMES = 17_000 // 4
 FEW_FOR_FOUR = 46_000 // 4
-# The pairs of runs of one file and of four for each round.
+# The pairs of runs of one file and of four for each round; how many cores' worth are four; and so many pairs judge by themselves.
 PAIRS = 10
+FOUR_CORES = 3.7
+ENOUGH_PAIRS = 10
 
 
 def take_time(arguments, given, out, *others):
@@ -114,15 +117,21 @@ def middle_half(values):
 
 
 def report_pairs(pairs, empty_one, empty_four):
-    """Prints how many times one file's commands in a second four run, as measured and on four cores, and says whether the goal is
-    missed."""
+    """Prints how many times one file's commands in a second four run, and says whether the goal is missed."""
     quotients = [4 * (one - empty_one) / (four - empty_four) for one, four, _ in pairs]
     worths = [worth for _, _, worth in pairs]
-    whole = [on_four_cores(*both) for both in zip(quotients, worths)]
-    missed = statistics.median(whole) < 2.5
+    on_four = [quotient for quotient, worth in zip(quotients, worths) if worth >= FOUR_CORES]
+    reckoned = [on_four_cores(*both) for both in zip(quotients, worths)]
+    is_enough = len(on_four) >= ENOUGH_PAIRS
+    missed = statistics.median(on_four if is_enough else reckoned) < 2.5
+    wanted = f", at least 2.5 wanted{': MISSED' if missed else ''}"
     print(f"{len(pairs)} pairs of one file and four, commands in a second, four to one: {middle_half(quotients)}")
     print(f"work in registers around them, four threads to one: {middle_half(worths)}")
-    print(f"commands in a second, four files to one, on four cores: {middle_half(whole)}, at least 2.5 wanted{': MISSED' if missed else ''}")
+    if is_enough:
+        print(f"{len(on_four)} of the pairs on four cores' worth: {middle_half(on_four)}{wanted}")
+    else:
+        print(f"{len(on_four)} of the pairs on four cores' worth, too few to judge by")
+    print(f"all pairs, reckoned for four cores: {middle_half(reckoned)}{'' if is_enough else wanted}")
     return missed
 
 
