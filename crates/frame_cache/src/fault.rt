@@ -2,7 +2,8 @@
 
 use thiserror::Error;
 
-/// A look over all frames found none free.
+/// No frame that is named as free was free when it was looked at. One that a caller keeps (`Frames::reclaim_kept`) is free and
+/// not named.
 #[derive(Clone, Copy, Debug, PartialEq, Eq, Error)]
 #[error("no frame is free")]
 pub struct NoFrame;

@@ -2,11 +2,11 @@
 //!
 //! # A version ends for its own spare
 //!
-//! Of the calls `reclaim` and its variants alone take a version out of a frame, and they take a `Spare`: a word that its
-//! bucket never holds again. `reclaim` compares the frame's version with the spare's name under a claim to read, leaves that,
-//! and claims the right to write where the word is still the one compared and nobody reads; `reclaim_unlooked` is the second
-//! step alone. That word has 32 bits of the name, so `take_out` compares again: `laws::retire` ends what was taken out exactly
-//! where it is the spare's, and another version is put back. No clause says so of a shared frame.
+//! Of the calls `reclaim` and `reclaim_kept` alone take a version out of a frame, and they take a `Spare`: a word that its
+//! bucket never holds again. They compare the frame's version with the spare's name under a claim to read, leave that, and
+//! claim the right to write where the word is still the one compared and nobody reads. That word has 32 bits of the name, so
+//! `take_out` compares again: `laws::retire` ends what was taken out exactly where it is the spare's, and another version is
+//! put back. No clause says so of a shared frame.
 //!
 //! # A claim is of the frame that it names
 //!
@@ -17,8 +17,10 @@
 //!
 //! Which frames are free is found by two layers of bits. Nothing is claimed of them. A frame is named before it becomes
 //! free, and whoever takes it clears its bit afterwards, so that the lower layer names each free frame, but for those that
-//! were kept, and at rest no other. A bit of the upper layer may be missing for a moment. So a call that finds no frame by
-//! both looks through the lower layer before it answers `NoFrame`; and once a frame was kept, at the next 64 frames in turn.
+//! were kept, and at rest no other. A bit of the upper layer may be missing for a moment. So a search that finds
+//! no frame by the upper layer looks at the words of the lower one that it passed over, before it answers `NoFrame`; and
+//! once a frame was kept, at the next 64 frames in turn. It remembers which words it looked at, and tries no named frame
+//! twice.
 //!
 //! Each free frame is named to all threads, and each that takes or frees one writes the same few words. A caller who fills
 //! the frames that it emptied itself need not: `reclaim_kept` empties a frame without naming it, and `reserve_kept` takes
@@ -46,10 +48,13 @@ use version_words::{Naming, Spare};
 
 /// How many words of the upper layer of bits there may be: each names 64 words of 64 frames, and one more is there for the
 /// remainder.
-const UPPER_WORDS: u32 = 17;
+const UPPER_WORDS: usize = 17;
 
 /// How many words of the lower layer there may be: each names 64 frames, and one more is there for the remainder.
 const MOST_WORDS: u32 = 1_025;
+
+/// Which words of the lower layer a search has looked at, a bit for each.
+type Looked = [u64; UPPER_WORDS];
 
 // The bucket and the name of the version that the claim shows.
 fn told<K: FarObject, V: FarObject, J: Naming>(claim: &SlotClaim<'_, K, V, J>) -> Option<(u32, u64)>
@@ -166,20 +171,53 @@ impl<K: FarObject, V: FarObject, J: Naming> Frames<K, V, J> {
         None
     }
 
-    // The first frame of those that the 64 words from `64 * at` name, but for the first so many of the words.
-    fn reserve_below(&self, at: u32, passed_over: u32) -> Option<Reserved<'_, K, V, J>>
-        requires { at < 1000 }
+    // The first frame of those that these of the 64 words from `64 * at` name.
+    fn reserve_among(&self, at: usize, words: u64) -> Option<Reserved<'_, K, V, J>>
+        requires { at < 17 }
         ensures { IfSome result (λ reserved. reserved < self.now) }
     {
-        let mut bits = self.vacant.words(at as usize) & u64::MAX.wrapping_shl(passed_over);
+        let mut words = words;
         for _ in 0..WORD {
-            if bits == 0 {
+            if words == 0 {
                 return None;
             }
-            if let Some(reserved) = self.reserve_in(at * WORD + bits.trailing_zeros()) {
+            let word = at as u32 * WORD + words.trailing_zeros();
+            if let Some(reserved) = self.reserve_in(word) {
                 return Some(reserved);
             }
-            bits &= bits - 1;
+            words &= words - 1;
+        }
+        None
+    }
+
+    // The first frame from the word of this one on that the upper layer leads to, in words that were not looked at.
+    fn reserve_behind(&self, frame: u32, looked: &mut Looked) -> Option<Reserved<'_, K, V, J>>
+        ensures { IfSome result (λ reserved. reserved < self.now) }
+    {
+        let word = frame / WORD;
+        let mut among = u64::MAX.wrapping_shl(word % WORD);
+        for at in (word / WORD) as usize..UPPER_WORDS {
+            let words = self.vacant.words(at) & among & !looked[at];
+            looked[at] |= words;
+            if let Some(reserved) = self.reserve_among(at, words) {
+                return Some(reserved);
+            }
+            among = u64::MAX;
+        }
+        None
+    }
+
+    // The first frame that is named by the words that were not looked at.
+    fn reserve_passed_over(&self, looked: &Looked) -> Option<Reserved<'_, K, V, J>>
+        ensures { IfSome result (λ reserved. reserved < self.now) }
+    {
+        for word in 0..(self.count() / WORD + 1).min(MOST_WORDS) {
+            let bit = 1u64.wrapping_shl(word % WORD);
+            if looked[(word / WORD) as usize] & bit == 0 {
+                if let Some(reserved) = self.reserve_in(word) {
+                    return Some(reserved);
+                }
+            }
         }
         None
     }
@@ -201,22 +239,33 @@ impl<K: FarObject, V: FarObject, J: Naming> Frames<K, V, J> {
         None
     }
 
-    /// A free frame for this call alone: the first that the hints name and that is free, which is the first free one at
-    /// rest. `NoFrame` comes after a second look at all hints, and, once a frame was kept, one at 64 frames, or at all where
-    /// there are fewer, where each was taken at that look, or was taken by another call before this one could. The next such
-    /// look is at those behind, and so on in turn. No clause says which frame comes, nor when `NoFrame` does.
+    /// A free frame for this call alone: the first of those that are named as free, from 0 upwards, that is.
+    ///
+    /// `NoFrame` comes where each frame that was named when it was looked at, once, was gone by then. At rest all free frames
+    /// are named but those that were kept (`reclaim_kept`): once one was, 64 frames more are looked at before `NoFrame`, at the
+    /// next such search those behind, and so on in turn, so that it may come while a kept frame is free. No clause says which
+    /// frame comes, nor when `NoFrame` does.
     pub fn reserve(&self) -> Result<Reserved<'_, K, V, J>, NoFrame>
         ensures here { IfOk result (λ reserved. reserved < self.now) }
     {
-        for at in 0..UPPER_WORDS {
-            if let Some(reserved) = self.reserve_below(at, 0) {
-                return Ok(reserved);
-            }
+        self.reserve_from(0)
+    }
+
+    /// As `reserve`, but the frames from this one on are looked at first, and before it those that are named by the same 64
+    /// bits; then all others. Callers who begin far from one another take and clear bits of their own, and don't wait for one
+    /// another. No clause says which frame comes.
+    pub fn reserve_from(&self, frame: u32) -> Result<Reserved<'_, K, V, J>, NoFrame>
+        ensures here { IfOk result (λ reserved. reserved < self.now) }
+    {
+        let mut looked = [0; UPPER_WORDS];
+        if let Some(reserved) = self.reserve_behind(frame, &mut looked) {
+            return Ok(reserved);
         }
-        for at in 0..(self.count() / WORD + 1).min(MOST_WORDS) {
-            if let Some(reserved) = self.reserve_in(at) {
-                return Ok(reserved);
-            }
+        if let Some(reserved) = self.reserve_behind(0, &mut looked) {
+            return Ok(reserved);
+        }
+        if let Some(reserved) = self.reserve_passed_over(&looked) {
+            return Ok(reserved);
         }
         if self.keeps.load(SeqCst) {
             if let Some(reserved) = self.reserve_unnamed() {
@@ -224,23 +273,6 @@ impl<K: FarObject, V: FarObject, J: Naming> Frames<K, V, J> {
             }
         }
         Err(NoFrame)
-    }
-
-    /// As `reserve`, but the frames from this one on are looked at first, and before it those that are named by the same 64
-    /// bits; then all. Callers who begin far from one another take and clear bits of their own, and don't wait for one
-    /// another. No clause says which frame comes.
-    pub fn reserve_from(&self, frame: u32) -> Result<Reserved<'_, K, V, J>, NoFrame>
-        ensures here { IfOk result (λ reserved. reserved < self.now) }
-    {
-        let word = frame / WORD;
-        let mut passed_over = word % WORD;
-        for at in word / WORD..UPPER_WORDS {
-            if let Some(reserved) = self.reserve_below(at, passed_over) {
-                return Ok(reserved);
-            }
-            passed_over = 0;
-        }
-        self.reserve()
     }
 
     // From now on frames are looked for one by one, 64 at a time, before none is said to be free.
@@ -256,7 +288,8 @@ impl<K: FarObject, V: FarObject, J: Naming> Frames<K, V, J> {
     }
 
     /// A scope on the version of this name. `Missed` comes where the frame has no version, one of another name, or is
-    /// being filled or emptied, or has as many readers as can be counted. No clause says when it comes.
+    /// being filled or emptied, or has as many readers as can be counted; and where 1,000 claims in a row each met a change of
+    /// the frame's word by another thread. No clause says when it comes.
     pub fn enter(&self, frame: u32, name: u64) -> Result<Scope<'_, K, V, J>, Missed>
         ensures name { IfOk result (λ s. s.name ≡ name) }
         ensures here { IfOk result (λ _. frame < self.now) }
@@ -299,31 +332,6 @@ impl<K: FarObject, V: FarObject, J: Naming> Frames<K, V, J> {
         ensures here { IfOk result (λ emptied. IsTrue emptied → place_of spare.word < self.now) }
     {
         self.reclaim_as(spare, true)
-    }
-
-    /// The last step of `reclaim`, without the look before it: takes out what lies in the frame under the last 32 bits of
-    /// this name, where nobody reads it. True where that was the spare's version, which ends; false where it was another one,
-    /// which is put back. The spare comes back where nothing was taken out: another version or none lies there, or a reader
-    /// is in. No clause says when each comes.
-    ///
-    /// `reclaim` meets another version at this step only where one of the same bits, so 2^32 names later, came into the frame
-    /// since the look. By this call that can be tried at any two names. The place in the spare's word plays no part.
-    pub fn reclaim_unlooked(
-        &self,
-        frame: u32,
-        name: u64,
-        spare: Spare<K, V, J>,
-    ) -> Result<bool, Spare<K, V, J>>
-        ensures back { IfErr result (λ s. s ≡ spare) }
-        ensures here { IfOk result (λ _. frame < self.now) }
-    {
-        let Some(slot) = self.slot(frame) else {
-            return Err(spare);
-        };
-        match take(slot, word_of(name)) {
-            Ok(taken) => Ok(self.empty(taken, spare, frame)),
-            Err(_) => Err(spare),
-        }
     }
 
     // The frame is kept, or else named as free.
@@ -387,21 +395,14 @@ impl<K: FarObject, V: FarObject, J: Naming> Frames<K, V, J> {
         }
     }
 
-    /// Puts a version into this frame where it is free, as `reclaim` does with one that it took out and that isn't the spare's.
-    /// False where another call has the frame by now, or the frame is past the last: then the version stays in memory for
-    /// good. It is never dropped, since its bucket may still name it. No clause says when false comes.
-    pub fn put_back(&self, version: Version<K, V, J>, frame: u32) -> bool
-        ensures here { IsTrue result → frame < self.now }
-    {
+    // Puts a version that was taken out and isn't the spare's into this frame again. Where another call has the frame by now
+    // it stays in memory for good: it is never dropped, since its bucket may still name it.
+    fn put_back(&self, version: Version<K, V, J>, frame: u32) {
         match self.reserve_kept(frame) {
             Some(reserved) => {
                 reserved.fill(version);
-                true
             }
-            None => {
-                forget(Lodged { version });
-                false
-            }
+            None => forget(Lodged { version }),
         }
     }
 
@@ -418,7 +419,7 @@ impl<K: FarObject, V: FarObject, J: Naming> Frames<K, V, J> {
         }
     }
 
-    /// Whether the frame was touched since the last such question, or since it was filled. Nothing is claimed of it.
+    /// Whether the frame was touched since the last such question. Nothing is claimed of it.
     pub fn touched(&self, frame: u32) -> bool {
         self.touched.take(frame)
     }

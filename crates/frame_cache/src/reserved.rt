@@ -43,11 +43,10 @@ impl<'a, K: FarObject, V: FarObject, J: Naming> Reserved<'a, K, V, J> {
         ensures { result ≡ self.entry }
     {
         let Self {
-            frames,
+            frames: _,
             claim,
             frame,
         } = self;
-        frames.touched(frame);
         let word = word_of(version.name());
         forget(claim.put(Some(Lodged { version }), word));
         frame

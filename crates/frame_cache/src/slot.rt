@@ -62,15 +62,18 @@ pub fn take<K: FarObject, V: FarObject, J: Naming>(
     Err(found)
 }
 
-/// The right to read a version, whose name may be the one given, if one is: the word says so by its last 32 bits. It is
-/// tried again where another thread changed the word meanwhile: each such change is a step of that thread.
+/// How many claims to read a call makes at most.
+const MOST_CLAIMS: u32 = 1_000;
+
+/// The right to read a version, whose name may be the one given, if one is: the word says so by its last 32 bits. Where
+/// another thread changed the word since it was loaded, it is claimed again, 1,000 times in all.
 pub fn read<K: FarObject, V: FarObject, J: Naming>(
     slot: &Slot<K, V, J>,
     name: Option<u64>,
 ) -> Option<SlotClaim<'_, K, V, J>>
     ensures { IfSome result (λ c. c.right ≡ 1) }
 {
-    for _ in 0..u64::MAX {
+    for _ in 0..MOST_CLAIMS {
         let seen = slot.load();
         if seen % 4 != PRESENT || reader_count(seen) == MOST_READERS {
             return None;
