@@ -20,4 +20,4 @@ pub use command::{Command, MapCommand, TableCommand};
 pub use fault::FileFault;
 pub use laws::{one_command, one_meaning, one_outcome, written_is_said};
 pub use script::Script;
-pub use text::{FileText, read_file, read_file_into};
+pub use text::{FileText, read_file};

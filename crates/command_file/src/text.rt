@@ -122,16 +122,7 @@ impl FileText {
         ensures lines { IfSome (R.remaining file.old) (λ bytes. EndsSo (lines_of bytes) result.lines result.end) }
         ensures end { OnOk result.end (OnSome (R.remaining file.old) (IsAtEnd (R.remaining file.new))) }
     {
-        FileText::read_into(alloc, Vec::new(alloc), file)
-    }
-
-    /// The same, into memory that is there already. What it held is dropped, and where it is too small it grows.
-    pub fn read_into<R: BufRead>(alloc: Global, room: Vec<u8>, file: &mut R) -> FileText
-        ensures lines { IfSome (R.remaining file.old) (λ bytes. EndsSo (lines_of bytes) result.lines result.end) }
-        ensures end { OnOk result.end (OnSome (R.remaining file.old) (IsAtEnd (R.remaining file.new))) }
-    {
-        let mut text = room;
-        text.clear();
+        let mut text = Vec::new(alloc);
         let end = take_lines(alloc, file, &mut text);
         FileText { text, end }
     }
@@ -183,21 +174,6 @@ impl FileText {
 
 /// Reads a file and parses it: the commands that its lines say, in order. The faults are those of the two.
 pub fn read_file<R: BufRead>(alloc: Global, file: &mut R) -> Result<Script, FileFault>
-    ensures said { IfOk result (λ script. IfSome (R.remaining file.old) (λ bytes. IsFile (lines_of bytes) script)) }
-    ensures fault { IfErr result (λ fault. IfSome (R.remaining file.old) (λ bytes. IsFileFault (lines_of bytes) fault)) }
-    ensures end { OnOk result (OnSome (R.remaining file.old) (IsAtEnd (R.remaining file.new))) }
-    ensures commands { IfOk result (λ script. All IsCommand script) }
-    ensures number { IfErr result (λ fault. IsNumbered fault) }
-{
-    read_file_into(alloc, Vec::new(alloc), file)
-}
-
-/// The same, into memory that is there already, as `FileText::read_into` says.
-pub fn read_file_into<R: BufRead>(
-    alloc: Global,
-    room: Vec<u8>,
-    file: &mut R,
-) -> Result<Script, FileFault>
     // Where the reader tells its bytes.
     ensures said { IfOk result (λ script. IfSome (R.remaining file.old) (λ bytes. IsFile (lines_of bytes) script)) }
     ensures fault { IfErr result (λ fault. IfSome (R.remaining file.old) (λ bytes. IsFileFault (lines_of bytes) fault)) }
@@ -207,7 +183,7 @@ pub fn read_file_into<R: BufRead>(
     ensures commands { IfOk result (λ script. All IsCommand script) }
     ensures number { IfErr result (λ fault. IsNumbered fault) }
 {
-    match FileText::read_into(alloc, room, file).parse(alloc) {
+    match FileText::read(alloc, file).parse(alloc) {
         Ok(script) => Ok(script),
         Err(fault) => Err(fault),
     }

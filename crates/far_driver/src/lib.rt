@@ -3,21 +3,19 @@
 
 mod arguments;
 mod fault;
-mod hints;
 mod lanes;
 mod program;
 mod reading;
-mod rooms;
 mod run;
 mod sources;
 mod status;
 
 pub use arguments::read_words;
 pub use fault::RunFault;
-pub use hints::Hints;
 pub use lanes::open_lanes;
 pub use program::run_program;
 pub use reading::read_files;
 pub use run::run_files;
 pub use run_lines::Refusal;
 pub use status::ProgramFault;
+pub use threaded_run::{Gate, OpenGate};

@@ -4,16 +4,15 @@ ghost use Rattle.far_driver.specs.Arguments.{are_arguments};
 ghost use Rattle.far_driver.specs.Runs.{RanWords};
 
 use crate::arguments::read_arguments;
-use crate::hints::Hints;
 use crate::lanes::open_lanes;
 use crate::run::run_files;
-use crate::sources::{lengths_of, open_sources};
+use crate::sources::open_sources;
 use crate::status::ProgramFault;
 use std::io::Write;
 use std::rt::Files;
 use std::sync::Wait;
 use std::thread::Threads;
-use threaded_run::{OpenGate, Remains};
+use threaded_run::OpenGate;
 
 /// Runs what the arguments ask for.
 fn run_words<R, W>(rt: &R, words: &[String], out: &mut W) -> Result<(), ProgramFault>
@@ -27,29 +26,15 @@ where
         return Err(ProgramFault::Usage);
     };
     let sources = open_sources(rt, arguments.files)?;
-    let lengths = lengths_of(rt.alloc(), sources.as_slice())?;
     let devices = open_lanes(rt.alloc(), arguments.config.lanes)?;
-    let hints = Hints {
-        lengths: lengths.as_slice(),
-        remains: Remains::Left,
-    };
-    run_files(
-        rt,
-        arguments.config,
-        devices,
-        sources,
-        hints,
-        &OpenGate,
-        out,
-    )?;
+    run_files(rt, arguments.config, devices, sources, &OpenGate, out)?;
     Ok(())
 }
 
 /// Runs the program on the words behind its name, `BUCKETS FRAMES LIMIT FILE...`, and gives the status that it ends with.
 ///
 /// Numbers have one to seven decimal digits; there are 1 to 64 files, and `-`, which may be one of them, is standard input.
-/// The table lies over four devices in the process. Its memory stays taken where the table could be closed: the process is to
-/// end with the run. What the run writes goes to `out`; the text of a fault is one line on `err`, where a fault of writing it
+/// The table lies over four devices in the process. What the run writes goes to `out`; the text of a fault is one line on `err`, where a fault of writing it
 /// is ignored, and nothing else is written there. The faults come in the order of the work: the arguments, the opening of the
 /// files, and then those of `run_files`.
 pub fn run_program<R, W, E>(rt: &R, words: &[String], out: &mut W, err: &mut E) -> u8

@@ -7,39 +7,16 @@ ghost use Rattle.command_file.specs.Texts.{EndsSo};
 ghost use Rattle.far_driver.specs.Reading.{AreFiles, IsFaultFrom, IsFaultOfOne};
 
 use crate::fault::{RunFault, of_file};
-use crate::rooms::{Rooms, rooms_for, start_idle};
 use command_file::{FileFault, FileText, Script};
 use std::alloc::Global;
 use std::io::BufRead;
 use std::thread::{Threads, join};
 
-/// Reads a file's text into the room, while other threads make rooms for the next files, where these are long.
-fn read_text<B, R>(
-    rt: &R,
-    alloc: Global,
-    room: Vec<u8>,
-    rooms: &mut Rooms<'_>,
-    mut file: B,
-) -> FileText
-where
-    B: BufRead + Drop,
-    R: Threads + Sync,
+/// The lines of a file.
+fn read_text<B: BufRead + Drop>(alloc: Global, mut file: B) -> FileText
     ensures { IfSome (B.remaining file) (λ bytes. EndsSo (lines_of bytes) result.lines result.end) }
 {
-    let wanted = rooms.wanted();
-    if wanted.is_empty() {
-        return FileText::read_into(alloc, room, &mut file);
-    }
-    start_idle(rt);
-    let (made, text) = join(
-        rt,
-        || rooms_for(rt, alloc, wanted),
-        || -> FileText
-            ensures { IfSome (B.remaining file.entry) (λ bytes. EndsSo (lines_of bytes) result.lines result.end) }
-        { FileText::read_into(alloc, room, &mut file) },
-    );
-    rooms.put(made);
-    text
+    FileText::read(alloc, &mut file)
 }
 
 /// The list of these alone.
@@ -71,34 +48,26 @@ fn parse<R: Threads + Sync>(
     }
 }
 
-/// The commands of the last file, for whose text this room is. No other file is read meanwhile, so where it is not alone several
-/// threads parse it.
-fn read_last<B, R>(
-    rt: &R,
-    alloc: Global,
-    room: Vec<u8>,
-    alone: bool,
-    mut file: B,
-) -> Result<Script, FileFault>
+/// The commands of the last file. No other file is read meanwhile, so where it is not alone several threads parse it.
+fn read_last<B, R>(rt: &R, alloc: Global, alone: bool, file: B) -> Result<Script, FileFault>
 where
     B: BufRead + Drop,
     R: Threads + Sync,
     ensures said { IfOk result (λ script. IfSome (B.remaining file) (λ bytes. IsFile (lines_of bytes) script)) }
     ensures fault { IfErr result (λ fault. IfSome (B.remaining file) (λ bytes. IsFileFault (lines_of bytes) fault)) }
 {
-    let text = FileText::read_into(alloc, room, &mut file);
+    let text = read_text(alloc, file);
     match parse(rt, alloc, alone, text) {
         Ok(script) => Ok(script),
         Err(fault) => Err(fault),
     }
 }
 
-/// The commands of each file, of which the first has this number, and for whose texts these rooms are.
+/// The commands of each file, of which the first has this number.
 fn read_from<B, R>(
     rt: &R,
     alloc: Global,
     number: u32,
-    mut rooms: Rooms<'_>,
     mut files: Vec<B>,
 ) -> Result<Vec<Script>, RunFault>
 where
@@ -112,19 +81,14 @@ where
         return Ok(Vec::new(alloc));
     }
     let first = files.remove(0);
-    let is_long = rooms.is_long();
-    let room = rooms.take(alloc);
     if files.is_empty() {
-        let script = match read_last(rt, alloc, room, number == 1, first) {
+        let script = match read_last(rt, alloc, number == 1, first) {
             Ok(script) => script,
             Err(fault) => return Err(of_file(number, fault)),
         };
         return alone(alloc, script);
     }
-    let text = read_text(rt, alloc, room, &mut rooms, first);
-    if is_long {
-        start_idle(rt);
-    }
+    let text = read_text(alloc, first);
     let (own, others) = join(
         rt,
         || -> Result<Script, FileFault>
@@ -135,7 +99,7 @@ where
             requires { IsSync R.row × (number + 1 + vec_len files ≤ 65) }
             ensures said { IfOk result (λ all. AreFiles (map (λ f. B.remaining f) files.items) all.items) }
             ensures fault { IfErr result (IsFaultFrom (number + 1) (map (λ f. B.remaining f) files.items)) }
-        { read_from(rt, alloc, number + 1, rooms, files) },
+        { read_from(rt, alloc, number + 1, files) },
     );
     let script = match own {
         Ok(script) => script,
@@ -154,15 +118,7 @@ where
 /// The commands of each file. Each is read before the next, and parsed while those behind it are read and parsed, as far as
 /// threads can be started; the last is parsed in parts, side by side, and one that is alone on this thread. All are read,
 /// whatever they say. The fault is that of the first that has one; they are counted from 1.
-///
-/// The lengths are those of the files in bytes, as far as they are known, in their order: while a file is read, threads make
-/// memory ready for the next, where these are long. They may be wrong, and there may be fewer.
-pub fn read_files<B, R>(
-    rt: &R,
-    alloc: Global,
-    files: Vec<B>,
-    lengths: &[usize],
-) -> Result<Vec<Script>, RunFault>
+pub fn read_files<B, R>(rt: &R, alloc: Global, files: Vec<B>) -> Result<Vec<Script>, RunFault>
 where
     B: BufRead + Drop,
     R: Threads + Sync,
@@ -170,7 +126,7 @@ where
     ensures said { IfOk result (λ all. AreFiles (map (λ f. B.remaining f) files.items) all.items) }
     ensures fault { IfErr result (IsFaultOfOne (map (λ f. B.remaining f) files.items)) }
 {
-    match read_from(rt, alloc, 1, Rooms::new(alloc, lengths), files) {
+    match read_from(rt, alloc, 1, files) {
         Ok(all) => Ok(all),
         Err(fault) => Err(fault),
     }

@@ -6,22 +6,17 @@ ghost use Rattle.hash_table.specs.Configs.{first_bad_with};
 ghost use Rattle.far_driver.specs.Runs.{told_field, RanOn, FitsFiles, WritesBefore};
 
 use crate::fault::{RunFault, of_threads};
-use crate::hints::Hints;
 use crate::reading::read_files;
-use command_file::Script;
 use far_device::Device;
 use hash_table::Config;
 use std::io::{BufRead, Write};
 use std::sync::Wait;
 use std::thread::Threads;
-use threaded_run::{FramesOpened, Gate, ReadingFault, run_read};
-
-/// More frames than so many are opened while several files are read.
-const MANY_FRAMES: u32 = 4_096;
+use threaded_run::Gate;
 
 /// Runs the files that the readers give, each by a worker of its own, on a table that they share over these devices, and
 /// writes the replies and the contents: `threaded_run::run_files` says how. There are 1 to 64 files. All are read, in order,
-/// before anything runs. Round each command the gate is asked and told. The hints change nothing that is answered or written.
+/// before anything runs. Round each command the gate is asked and told.
 ///
 /// The faults come in the order of the work: `BadConfig`, whatever the readers, where a setting is outside its limits or
 /// there are not as many devices as lanes; `BadLine`, `TooManyLines` and `Read` of the first file that has one; `Device`,
@@ -32,7 +27,6 @@ pub fn run_files<D, G, R, B, W>(
     config: Config,
     devices: Vec<D>,
     files: Vec<B>,
-    hints: Hints<'_>,
     gate: &G,
     out: &mut W,
 ) -> Result<(), RunFault>
@@ -53,29 +47,12 @@ where
         return Err(RunFault::BadConfig(field));
     }
     let alloc = rt.alloc();
-    let opened = if files.len() > 1 && config.frames > MANY_FRAMES {
-        FramesOpened::BesideReading
-    } else {
-        FramesOpened::BehindReading
+    let scripts = match read_files(rt, alloc, files) {
+        Ok(scripts) => scripts,
+        Err(fault) => return Err(fault),
     };
-    let ended = run_read(
-        rt,
-        alloc,
-        config,
-        devices,
-        || -> Result<Vec<Script>, RunFault>
-            requires { IsSync R.row × (vec_len files ≤ 64) }
-            ensures said { IfOk result (λ all. AreFiles (map (λ f. B.remaining f) files.items) all.items) }
-            ensures fault { IfErr result (IsFaultOfOne (map (λ f. B.remaining f) files.items)) }
-        { read_files(rt, alloc, files, hints.lengths) },
-        opened,
-        hints.remains,
-        gate,
-        out,
-    );
-    match ended {
+    match threaded_run::run_files(rt, alloc, config, devices, scripts, gate, out) {
         Ok(()) => Ok(()),
-        Err(ReadingFault::Unread(fault)) => Err(fault),
-        Err(ReadingFault::Ended(fault)) => Err(of_threads(fault)),
+        Err(fault) => Err(of_threads(fault)),
     }
 }

@@ -4,7 +4,7 @@ ghost use Rattle.std.specs.Prelude.{◌≡◌, ◌≤◌, length, vec_len, IfOk}
 use crate::fault::RunFault;
 use crate::status::ProgramFault;
 use std::alloc::Global;
-use std::fs::{File, OpenFile};
+use std::fs::File;
 use std::io;
 use std::io::{BufReader, Read};
 use std::rt::Files;
@@ -27,33 +27,6 @@ impl<F: Read, I: Read> Read for Source<F, I> {
             Source::Input(input) => input.read(buf),
         }
     }
-}
-
-impl<F: OpenFile, I> Source<F, I> {
-    /// How many bytes the file has, or 0 where that is not known.
-    fn length(&self) -> usize {
-        match self {
-            Source::File(file) => match file.metadata() {
-                Ok(metadata) => usize::try_from(metadata.len()).unwrap_or(0),
-                Err(_) => 0,
-            },
-            Source::Input(_) => 0,
-        }
-    }
-}
-
-/// The length of each source, or 0 where that is not known.
-pub(crate) fn lengths_of<F: OpenFile + Read, I: Read>(
-    alloc: Global,
-    sources: &[BufReader<Source<F, I>>],
-) -> Result<Vec<usize>, ProgramFault> {
-    let mut lengths = Vec::new(alloc);
-    for source in sources {
-        let Ok(()) = lengths.push(source.get_ref().length()) else {
-            return Err(ProgramFault::Run(RunFault::Memory));
-        };
-    }
-    Ok(lengths)
 }
 
 /// The sources of the files of these names, in order, each with a buffer of its own; `-` is standard input.

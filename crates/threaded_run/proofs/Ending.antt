@@ -143,7 +143,7 @@ faulted (Err e) P Q f h = f e h
 fault_after : (files : List (List Command)) (old new : Option (List ℕ)) (text : List ℕ) (e : ThreadedFault) → AreLines files text → EndsAt old new text e → WritesBefore files old new e
 fault_after files old new text fault.Memory lines h = absurd h
 fault_after files old new text fault.Device lines h = absurd h
-fault_after files old new text fault.Passes lines h = absurd h
+fault_after files old new text fault.Passes lines h = h
 fault_after files old new text fault.Gate lines h = absurd h
 fault_after files old new text fault.Write lines h = tt
 fault_after files old new text (fault.Contents r) lines h = (text, lines, h)

@@ -5,3 +5,4 @@ pub mod Ending
 pub mod Adding
 pub mod Settings
 mod Contents
+pub mod Closing

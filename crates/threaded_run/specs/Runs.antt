@@ -1,5 +1,5 @@
 -- The workers of a run, and its faults.
-use Rattle.std.specs.Prelude.{◌≡◌, ℕ, IsTrue, List, length, map, Option, Result, Ok, Err, ⊤}
+use Rattle.std.specs.Prelude.{◌≡◌, ℕ, IsTrue, List, length, map, Option, ⊤}
 use Rattle.std.specs.List.{AllByRecursion}
 use Rattle.std.specs.Io.KnownBytes.{Keeps, Appends}
 use Rattle.table_core.specs.declared.limits.Limits.{Limits}
@@ -7,8 +7,6 @@ use Rattle.table_core.specs.Logs.{history}
 use Rattle.command_file.specs.declared.command.Command.{Command}
 use Rattle.run_lines.specs.Replies.{RepliedIn}
 use Rattle.run_lines.specs.Output.{written, file_lines}
-use Rattle.threaded_run.specs.declared.fault.ReadingFault.{ReadingFault}
-use Rattle.threaded_run.specs.declared.fault.ReadingFault.TheVariants.{Unread, Ended}
 use Rattle.threaded_run.specs.declared.fault.ThreadedFault.{ThreadedFault}
 use Rattle.threaded_run.specs.declared.fault.ThreadedFault.TheVariants as fault
 use Rattle.threaded_run.specs.Replies.{View, MayRefuse}
@@ -63,19 +61,15 @@ module _ (files : List (List Command)) where
   WritesBefore old new (fault.Contents r) = (text : List ℕ) × AreLines files text × Appends old new text
   WritesBefore old new _ = Keeps old new
 
--- where the files could not be read, which is a result of the reading, the writer has what it had; and after a fault of the run the reading gave files, and what they are says what the writer has
-abbrev pub StopsBefore : {V E : Type 0} → (Result V E → Type 0) → (V → List (List Command)) → Option (List ℕ) → Option (List ℕ) → ReadingFault E → Type 0
-StopsBefore reads files old new (Unread e) = reads (Err e) × Keeps old new
-StopsBefore {V} reads files old new (Ended fault) = (given : V) × reads (Ok given) × WritesBefore (files given) old new fault
-
 -- the fault comes before anything is written
 abbrev pub IsEarly : ThreadedFault → Type 0
 IsEarly fault.Write = ⊥
 IsEarly (fault.Contents r) = ⊥
 IsEarly _ = ⊤
 
--- the fault comes when the text was to be written: after a failed write nothing is said, and where the contents can't be read the text was written
+-- the fault comes when the text was to be written: after a failed write nothing is said, where the contents can't be read the text was written, and where a pass is missing nothing was
 abbrev pub EndsAt : Option (List ℕ) → Option (List ℕ) → List ℕ → ThreadedFault → Type 0
 EndsAt old new text fault.Write = ⊤
+EndsAt old new text fault.Passes = Keeps old new
 EndsAt old new text (fault.Contents r) = Appends old new text
 EndsAt old new text _ = ⊥

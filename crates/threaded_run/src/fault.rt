@@ -16,7 +16,7 @@ pub enum ThreadedFault {
     /// A device failed as it was made empty.
     #[error("device")]
     Device,
-    /// There are not as many passes as files and one more.
+    /// There are not as many passes as files and one more; or a pass was drawn that the run does not have, which no run meets.
     #[error("passes spent")]
     Passes,
     /// The gate gave up.
@@ -28,15 +28,6 @@ pub enum ThreadedFault {
     /// The contents can't be read. The lines before `contents` were written.
     #[error("contents: {0}")]
     Contents(Refusal),
-}
-
-/// Why a run that reads its files ended early.
-#[derive(Clone, Copy, Debug, PartialEq, Eq)]
-pub enum ReadingFault<E> {
-    /// The files could not be read.
-    Unread(E),
-    /// They were read, and the run ended.
-    Ended(ThreadedFault),
 }
 
 /// Why no workers were made, or one gave up.

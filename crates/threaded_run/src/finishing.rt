@@ -5,28 +5,29 @@ ghost use Rattle.far_object.specs.Encodings.{enc_text};
 ghost use Rattle.far_pairs.specs.Bundles.{all_of};
 ghost use Rattle.run_lines.specs.Calls.{Texts};
 ghost use Rattle.run_lines.specs.Output.{written, pair_line, file_texts};
-ghost use Rattle.hash_table.specs.Closes.{IsClosed};
+ghost use Rattle.hash_table.specs.Closes.{IsClosed, ClosesSorted};
 ghost use Rattle.std.specs.Thread.{IsSync};
 ghost use Rattle.threaded_run.specs.Runs.{EndsAt};
 ghost use Rattle.threaded_run.specs.Ends.{AreLinesOf, Holds, Writes};
 
 use crate::fault::ThreadedFault;
-use crate::remains::Remains;
 use far_device::Device;
 use far_object::{Memory, Text};
 use far_pairs::{Bundle, in_key_order};
-use hash_table::{Caller, CloseFault, ClosedTable, FarTable};
+use hash_table::{Caller, CloseFault, FarTable};
 use run_lines::{PairLines, Refusal, write_files};
 use std::alloc::Global;
 use std::io;
 use std::io::Write;
-use std::mem::forget;
 use std::sync::Wait;
 use std::thread::{Threads, join_mut};
 use version_words::Naming;
 
-/// The reply's text for the fault of a close. All passes are handed in and no thread works any more, so that what a frame or
-/// a lane does not give is lost.
+/// How many times a table is closed before what a frame or a lane does not give is taken for lost: no thread works any more,
+/// and only a device whose bytes come late may give it still.
+const MOST_CLOSES: u32 = 1_000;
+
+/// The reply's text for the fault of the last close.
 fn refusal_of<J: Naming>(fault: CloseFault<Text, Text, J>) -> Refusal {
     match fault {
         CloseFault::Memory => Refusal::Memory,
@@ -109,67 +110,6 @@ where
     write_contents(contents, out)
 }
 
-/// The same, while the table's memory is given back on a thread of its own.
-fn write_beside<J, D, R, W>(
-    rt: &R,
-    alloc: Global,
-    table: ClosedTable<Text, Text, J, D>,
-    bundles: &[Bundle<Text, Text>],
-    texts: &[Vec<u8>],
-    out: &mut W,
-) -> Result<(), ThreadedFault>
-where
-    J: Naming + Send + Sync,
-    D: Device + Send,
-    R: Threads + Sync,
-    W: Write,
-    ensures written { OnOk result (Writes (all_of bundles.now) (W.contents out.old) (W.contents out.new) (file_texts 1 (map (λ t. t.items) texts.now))) }
-    ensures fault { IfErr result (EndsAt (W.contents out.old) (W.contents out.new) (file_texts 1 (map (λ t. t.items) texts.now))) }
-{
-    let mut left = Some(table);
-    let mut dropping = || drop(left.take());
-    let mut writing = || -> Result<(), ThreadedFault>
-        requires { IsSync R.row }
-        ensures written { OnOk result (Writes (all_of bundles.entry.now) (W.contents out.entry.now) (W.contents out.exit.now) (file_texts 1 (map (λ t. t.items) texts.entry.now))) }
-        ensures fault { IfErr result (EndsAt (W.contents out.entry.now) (W.contents out.exit.now) (file_texts 1 (map (λ t. t.items) texts.entry.now))) }
-    { write_all(rt, alloc, bundles, texts, out) };
-    let (_, ended) = join_mut(rt, &mut dropping, &mut writing);
-    ended
-}
-
-/// The same, and the table's memory goes as it is to.
-fn write_and_let_go<J, D, R, W>(
-    rt: &R,
-    alloc: Global,
-    table: ClosedTable<Text, Text, J, D>,
-    remains: Remains,
-    bundles: &[Bundle<Text, Text>],
-    texts: &[Vec<u8>],
-    out: &mut W,
-) -> Result<(), ThreadedFault>
-where
-    J: Naming + Send + Sync,
-    D: Device + Send,
-    R: Threads + Sync,
-    W: Write,
-    ensures written { OnOk result (Writes (all_of bundles.now) (W.contents out.old) (W.contents out.new) (file_texts 1 (map (λ t. t.items) texts.now))) }
-    ensures fault { IfErr result (EndsAt (W.contents out.old) (W.contents out.new) (file_texts 1 (map (λ t. t.items) texts.now))) }
-{
-    match remains {
-        Remains::GivenBack => match write_beside(rt, alloc, table, bundles, texts, out) {
-            Ok(()) => Ok(()),
-            Err(fault) => Err(fault),
-        },
-        Remains::Left => {
-            forget(table);
-            match write_all(rt, alloc, bundles, texts, out) {
-                Ok(()) => Ok(()),
-                Err(fault) => Err(fault),
-            }
-        }
-    }
-}
-
 /// Writes the lines of the files alone, where the contents can't be read for this reason, and gives the fault.
 fn write_lines<W: Write>(refusal: Refusal, texts: &[Vec<u8>], out: &mut W) -> ThreadedFault
     ensures { EndsAt (W.contents out.old) (W.contents out.new) (file_texts 1 (map (λ t. t.items) texts.now)) result }
@@ -180,13 +120,40 @@ fn write_lines<W: Write>(refusal: Refusal, texts: &[Vec<u8>], out: &mut W) -> Th
     }
 }
 
+/// Closes the table. Where a frame or a lane did not give a name it is closed again, 1,000 times in all.
+fn close<J, D, R>(
+    rt: &R,
+    alloc: Global,
+    table: FarTable<Text, Text, J, D>,
+    callers: Vec<Caller<Text, Text, J>>,
+) -> Result<Vec<Bundle<Text, Text>>, CloseFault<Text, Text, J>>
+where
+    J: Naming + Send + Sync,
+    D: Device + Send,
+    R: Threads + Wait + Sync,
+    ensures { IfOk result (λ bundles. ClosesSorted enc_text enc_text J.limits callers.items (all_of bundles.items)) }
+{
+    let mut table = table;
+    let mut callers = callers;
+    for _ in 0..MOST_CLOSES {
+        match table.close_on_threads(rt, alloc, callers) {
+            Ok(bundles) => return Ok(bundles),
+            Err((CloseFault::Missed, same, back)) => {
+                table = same;
+                callers = back;
+            }
+            Err((fault, _, _)) => return Err(fault),
+        }
+    }
+    Err(CloseFault::Missed)
+}
+
 /// Closes the table, and writes the lines of the files and what the table held. Where that can't be read the lines are written
-/// all the same.
+/// all the same, and where a pass is missing nothing is.
 pub(crate) fn finish<J, D, R, W>(
     rt: &R,
     alloc: Global,
     table: FarTable<Text, Text, J, D>,
-    remains: Remains,
     callers: Vec<Caller<Text, Text, J>>,
     texts: &[Vec<u8>],
     out: &mut W,
@@ -200,13 +167,12 @@ where
         × Appends (W.contents out.old) (W.contents out.new) (file_texts 1 (map (λ t. t.items) texts.now) ++ written (codes "contents" ∷ map pair_line pairs))) }
     ensures fault { IfErr result (EndsAt (W.contents out.old) (W.contents out.new) (file_texts 1 (map (λ t. t.items) texts.now))) }
 {
-    match table.close_on_threads(rt, alloc, callers) {
-        Ok((bundles, table)) => {
-            match write_and_let_go(rt, alloc, table, remains, bundles.as_slice(), texts, out) {
-                Ok(()) => Ok(()),
-                Err(fault) => Err(fault),
-            }
-        }
-        Err((fault, _table, _callers)) => Err(write_lines(refusal_of(fault), texts, out)),
+    match close(rt, alloc, table, callers) {
+        Ok(bundles) => match write_all(rt, alloc, bundles.as_slice(), texts, out) {
+            Ok(()) => Ok(()),
+            Err(fault) => Err(fault),
+        },
+        Err(CloseFault::PassMissing(_)) => Err(ThreadedFault::Passes),
+        Err(fault) => Err(write_lines(refusal_of(fault), texts, out)),
     }
 }

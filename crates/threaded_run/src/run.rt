@@ -9,7 +9,6 @@ use crate::drawing::{draw, enter};
 use crate::fault::{ThreadedFault, of_work};
 use crate::finishing::finish;
 use crate::gate::Gate;
-use crate::remains::Remains;
 use crate::shared::Shared;
 use crate::sharing::run_jobs;
 use command_file::Script;
@@ -34,7 +33,6 @@ pub(crate) fn run<J, B, D, G, R, W>(
     rt: &R,
     alloc: Global,
     config: Config,
-    remains: Remains,
     table: FarTable<Text, Text, J, D>,
     queue: SpareQueue<Text, Text, J, B>,
     taker: QueueSeat<Text, Text, J, B>,
@@ -86,5 +84,5 @@ where
     let Ok(()) = callers.push(evictor.into_inner().into_caller()) else {
         return Err(ThreadedFault::Memory);
     };
-    finish(rt, alloc, table, remains, callers, texts.as_slice(), out)
+    finish(rt, alloc, table, callers, texts.as_slice(), out)
 }

@@ -1,24 +1,20 @@
 //! From settings, devices and commands to a run: the table and the queue are opened, and their names in types are picked.
-ghost use Rattle.std.specs.Prelude.{◌≡◌, ◌<◌, ◌≤◌, IsTrue, None, Ok, ℕ, List, vec_len, map, IfOk, OnOk, IfErr};
+ghost use Rattle.std.specs.Prelude.{◌≡◌, ◌<◌, ◌≤◌, IsTrue, None, ℕ, List, vec_len, map, IfOk, OnOk, IfErr};
 ghost use Rattle.std.specs.Io.KnownBytes.{Appends};
 ghost use Rattle.version_words.specs.Rows.{limits_of};
 ghost use Rattle.hash_table.specs.Configs.{first_bad_with, sizes_of};
 ghost use Rattle.run_lines.specs.Runs.{Ran};
 ghost use Rattle.threaded_run.specs.Replies.{MayRefuse};
-ghost use Rattle.threaded_run.specs.Runs.{StopsBefore, WritesBefore};
+ghost use Rattle.threaded_run.specs.Runs.{WritesBefore};
 
-use crate::fault::{ReadingFault, ThreadedFault};
+use crate::fault::ThreadedFault;
 use crate::gate::Gate;
-use crate::opened::{FramesOpened, read_and_open};
-use crate::remains::Remains;
 use crate::run::run;
 use command_file::Script;
 use far_device::Device;
-use far_object::{Memory, Text};
-use frame_cache::Frames;
+use far_object::Text;
 use hash_table::{Config, FarTable, OpenFault, Opening};
 use std::alloc::Global;
-use std::convert::Infallible;
 use std::io::Write;
 use std::marker::Brand;
 use std::sync::Wait;
@@ -31,7 +27,6 @@ fn over_queue<J, B, D, G, R, W>(
     rt: &R,
     alloc: Global,
     config: Config,
-    remains: Remains,
     table: FarTable<Text, Text, J, D>,
     queue: QueueOpening<Text, Text, J>,
     files: Vec<Script>,
@@ -56,18 +51,16 @@ where
         Err(_) => return Err(ThreadedFault::Memory),
     };
     run(
-        rt, alloc, config, remains, table, queue, taker, seats, files, gate, out,
+        rt, alloc, config, table, queue, taker, seats, files, gate, out,
     )
 }
 
-/// Runs the files over a table that gets its name now, and these frames, as many as the settings say.
-fn over_frames<J, D, G, R, W>(
+/// Runs the files over a table that gets its name now.
+fn over_table<J, D, G, R, W>(
     rt: &R,
     alloc: Global,
     opening: Opening<Text, Text, D>,
-    frames: Frames<Text, Text, J>,
     config: Config,
-    remains: Remains,
     files: Vec<Script>,
     gate: &G,
     out: &mut W,
@@ -82,14 +75,13 @@ where
     requires boards { opening.row.names ≡ J.names }
     requires limits { limits_of (sizes_of opening.config) D.HONEST ≡ J.limits }
     requires config { opening.config ≡ config }
-    requires count { frames ≡ config.frames }
     requires frames { 0 < config.frames }
     requires spares { 0 < config.spares }
     requires few { vec_len files ≤ 64 }
     ensures ran { OnOk result (IsTrue D.HONEST → (text : List ℕ) × Ran (MayRefuse config.buckets config.limit) files.items text × Appends (W.contents out.old) (W.contents out.new) text) }
     ensures before { IfErr result (WritesBefore files.items (W.contents out.old) (W.contents out.new)) }
 {
-    let table = match opening.named_over::<J>(alloc, frames) {
+    let table = match opening.named::<J>(alloc) {
         Ok(table) => table,
         Err(OpenFault::Device) => return Err(ThreadedFault::Device),
         Err(_) => return Err(ThreadedFault::Memory),
@@ -98,60 +90,7 @@ where
         Ok(queue) => queue,
         Err(_) => return Err(ThreadedFault::Memory),
     };
-    over_queue::<J, Brand, D, G, R, W>(rt, alloc, config, remains, table, queue, files, gate, out)
-}
-
-/// Runs the files over a table that was just opened. They are read first, or while the frames are opened.
-fn over_reading<J, D, G, R, W, F, E>(
-    rt: &R,
-    alloc: Global,
-    opening: Opening<Text, Text, D>,
-    config: Config,
-    remains: Remains,
-    read: F,
-    opened: FramesOpened,
-    gate: &G,
-    out: &mut W,
-) -> Result<(), ReadingFault<E>>
-where
-    J: Naming + Send + Sync,
-    D: Device + Send,
-    G: Gate,
-    R: Threads + Wait + Sync,
-    W: Write,
-    F: FnOnce() -> Result<Vec<Script>, E>,
-    E: Drop,
-    requires book { opening.row.book ≡ J.book }
-    requires boards { opening.row.names ≡ J.names }
-    requires limits { limits_of (sizes_of opening.config) D.HONEST ≡ J.limits }
-    requires config { opening.config ≡ config }
-    requires frames { (0 < config.frames) × (config.frames ≤ 65536) }
-    requires spares { 0 < config.spares }
-    requires reads { F.pre read }
-    requires few { (files : _) → F.post read (Ok files) → vec_len files ≤ 64 }
-    ensures ran { OnOk result (IsTrue D.HONEST → (files : _) × F.post read (Ok files) × ((text : List ℕ) × Ran (MayRefuse config.buckets config.limit) files.items text × Appends (W.contents out.old) (W.contents out.new) text)) }
-    ensures before { IfErr result (StopsBefore (F.post read) (λ v. v.items) (W.contents out.old) (W.contents out.new)) }
-{
-    let (files, frames) = match read_and_open::<J, R, F, E>(
-        rt,
-        alloc,
-        config.frames,
-        read,
-        opened,
-    ) {
-        Ok(both) => both,
-        Err(fault) => return Err(ReadingFault::Unread(fault)),
-    };
-    let frames = match frames {
-        Ok(frames) => frames,
-        Err(Memory) => return Err(ReadingFault::Ended(ThreadedFault::Memory)),
-    };
-    match over_frames(
-        rt, alloc, opening, frames, config, remains, files, gate, out,
-    ) {
-        Ok(()) => Ok(()),
-        Err(fault) => Err(ReadingFault::Ended(fault)),
-    }
+    over_queue::<J, Brand, D, G, R, W>(rt, alloc, config, table, queue, files, gate, out)
 }
 
 /// Runs each file's commands by a worker of its own, on a table that they share over these devices, one for each lane; then
@@ -159,8 +98,7 @@ where
 /// that the table holds, in key order. There are 1 to 64 files, and the settings are within their limits.
 ///
 /// The first file's worker has this thread. Each other has one of its own, as far as threads can be started, and so has the
-/// evictor where there is more than one file. Round each command the gate is asked and told, in the worker's thread. What
-/// the closed table had goes as `remains` says, which changes nothing that is answered or written.
+/// evictor where there is more than one file. Round each command the gate is asked and told, in the worker's thread.
 ///
 /// The faults come in the order of the work: `Device` where a device fails as it is made empty; `Passes` where there are not
 /// as many passes as files and one more; `Gate` where the gate gave up; `Write` where a write or the last flush fails;
@@ -173,7 +111,6 @@ pub fn run_files<D, G, R, W>(
     config: Config,
     devices: Vec<D>,
     files: Vec<Script>,
-    remains: Remains,
     gate: &G,
     out: &mut W,
 ) -> Result<(), ThreadedFault>
@@ -188,67 +125,9 @@ where
     ensures ran { OnOk result (IsTrue D.HONEST → (text : List ℕ) × Ran (MayRefuse config.buckets config.limit) files.items text × Appends (W.contents out.old) (W.contents out.new) text) }
     ensures before { IfErr result (WritesBefore files.items (W.contents out.old) (W.contents out.new)) }
 {
-    let ended = run_read(
-        rt,
-        alloc,
-        config,
-        devices,
-        || -> Result<Vec<Script>, Infallible>
-            ensures { result ≡ Ok files }
-        { Ok(files) },
-        FramesOpened::BehindReading,
-        remains,
-        gate,
-        out,
-    );
-    match ended {
-        Ok(()) => Ok(()),
-        Err(ReadingFault::Ended(fault)) => Err(fault),
-        Err(ReadingFault::Unread(never)) => match never {},
-    }
-}
-
-/// As `run_files`, of files that are read by the call that is handed in. The frames are opened meanwhile or behind it; no device
-/// is touched before all files are read.
-///
-/// `Unread` has the fault of the reading. It comes before each of the run, and `Ended` has those.
-pub fn run_read<D, G, R, W, F, E>(
-    rt: &R,
-    alloc: Global,
-    config: Config,
-    devices: Vec<D>,
-    read: F,
-    opened: FramesOpened,
-    remains: Remains,
-    gate: &G,
-    out: &mut W,
-) -> Result<(), ReadingFault<E>>
-where
-    D: Device + Send,
-    G: Gate,
-    R: Threads + Wait + Sync,
-    W: Write,
-    F: FnOnce() -> Result<Vec<Script>, E>,
-    E: Drop,
-    requires within { first_bad_with (vec_len devices) config ≡ None }
-    requires reads { F.pre read }
-    requires few { (files : _) → F.post read (Ok files) → vec_len files ≤ 64 }
-    ensures ran { OnOk result (IsTrue D.HONEST → (files : _) × F.post read (Ok files) × ((text : List ℕ) × Ran (MayRefuse config.buckets config.limit) files.items text × Appends (W.contents out.old) (W.contents out.new) text)) }
-    ensures before { IfErr result (StopsBefore (F.post read) (λ v. v.items) (W.contents out.old) (W.contents out.new)) }
-{
     let opening = match Opening::open(alloc, config, devices) {
         Ok(opening) => opening,
-        Err(_) => {
-            return match read() {
-                Ok(files) => {
-                    drop(files);
-                    Err(ReadingFault::Ended(ThreadedFault::Memory))
-                }
-                Err(fault) => Err(ReadingFault::Unread(fault)),
-            };
-        }
+        Err(_) => return Err(ThreadedFault::Memory),
     };
-    over_reading::<Brand, D, G, R, W, F, E>(
-        rt, alloc, opening, config, remains, read, opened, gate, out,
-    )
+    over_table::<Brand, D, G, R, W>(rt, alloc, opening, config, files, gate, out)
 }

@@ -5,8 +5,8 @@ use Rattle.far_driver.proofs.reading.read_last.Goals as goal
 
 pub returns-in-Ok-clause-said : goal.returns-in-Ok-clause-said
 returns-in-Ok-clause-said g c =
-    known (λ (all : List (List ℕ)). IsFile all c.in-Ok.script) (g.B.Read.remaining c.args.file) c.read_into-text.result.lines c.read_into-text.result.end c.read_into-text.ensures.lines c.in-Ok.ensures.said
+    known (λ (all : List (List ℕ)). IsFile all c.in-Ok.script) (g.B.Read.remaining c.args.file) c.read_text-text.result.lines c.read_text-text.result.end c.read_text-text.ensures c.in-Ok.ensures.said
 
 pub returns-clause-fault : goal.returns-clause-fault
 returns-clause-fault g c =
-    known (λ (all : List (List ℕ)). IsFileFault all c.in-Err.fault) (g.B.Read.remaining c.args.file) c.read_into-text.result.lines c.read_into-text.result.end c.read_into-text.ensures.lines c.in-Err.ensures.fault
+    known (λ (all : List (List ℕ)). IsFileFault all c.in-Err.fault) (g.B.Read.remaining c.args.file) c.read_text-text.result.lines c.read_text-text.result.end c.read_text-text.ensures c.in-Err.ensures.fault

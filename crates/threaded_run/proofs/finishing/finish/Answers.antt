@@ -18,7 +18,7 @@ by l callers bundles given old new text same closes wrote =
     let w = subst (λ (z : List Texts). Writes (all_of z) old new text) same wrote in
     (w.are.all, closes w.are.all w.are.same w.are.rising, subst (λ (z : List ℕ). Appends old new (text ++ (codes "contents" ++ 10 ∷ z))) w.are.are w.wrote)
 
-pub returns-in-Ok-write_and_let_go-clause-written : goal.returns-in-Ok-write_and_let_go-clause-written
-returns-in-Ok-write_and_let_go-clause-written g c =
-    by g.J.Naming.limits c.args.callers.items c.in-Ok.bundles.items c.as_slice.result.now (g.W.Write.contents c.args.out.now) (g.W.Write.contents c.write_and_let_go.new.out) (file_texts 1 (map (λ t. t.items) c.args.texts.now))
-    c.as_slice.ensures.value c.in-Ok.ensures.closed c.in-Ok-write_and_let_go.ensures.written
+pub returns-in-Ok-write_all-clause-written : goal.returns-in-Ok-write_all-clause-written
+returns-in-Ok-write_all-clause-written g c =
+    by g.J.Naming.limits c.args.callers.items c.in-Ok.bundles.items c.as_slice.result.now (g.W.Write.contents c.args.out.now) (g.W.Write.contents c.write_all.new.out) (file_texts 1 (map (λ t. t.items) c.args.texts.now))
+    c.as_slice.ensures.value c.in-Ok.ensures.closed c.in-Ok-write_all.ensures.written

@@ -1,4 +1,4 @@
-use Rattle.threaded_run.proofs.top.over_frames.Given as goal
+use Rattle.threaded_run.proofs.top.over_table.Given as goal
 
 -- the queue that was just opened
 abbrev pub ghosts-over_queue : goal.ghosts-over_queue
