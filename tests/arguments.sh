@@ -1,10 +1,9 @@
 #!/usr/bin/env bash
-# Runs the proved program with words that are no UTF-8 text, which a stored run of the gate can't have: each ends with the
-# usage text, status 2 and no output. FARTABLE=PATH takes that program, in place of what bin/fartable proves and builds.
+# Runs the program with words that are no UTF-8 text, which a stored run of the gate can't have: each ends with the usage
+# text, status 2 and no output.
 set -euo pipefail
 
-tests=$(cd "$(dirname "$(readlink -f "${BASH_SOURCE[0]}")")" && pwd)
-program=${FARTABLE:-$tests/../bin/fartable}
+program=$("$(dirname "$(readlink -f "${BASH_SOURCE[0]}")")/../bin/build" fartable)
 usage='usage: fartable BUCKETS FRAMES LIMIT FILE...'
 failed=0
 

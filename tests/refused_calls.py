@@ -1,10 +1,10 @@
-"""Runs programs with each of their growths refused in turn: refused_calls.py LIBRARY PROGRAM..
+"""Runs the program growths with each of its growths refused in turn: refused_calls.py PROGRAM LIBRARY.
 
-LIBRARY is refuse_growth.c, built. The programs, growths and table_growths, make each public call of the libraries that can
-answer want of memory, no two of them the same, and print a line for it. With no growth refused each line is `CALL: ok`. With
-one refused, one line says something else: `memory, then ok`, where the growth was that call's, what should stand stood, and
-the same call made again did what it should; or `not prepared`, where it was a growth of what the call works on. Every call
-but those that take no memory is refused each of its growths.
+LIBRARY is refuse_growth.c, built. The program makes each public call of the libraries that can answer want of memory, and
+prints a line for it. With no growth refused each line is `CALL: ok`. With one refused, one line says something else:
+`memory, then ok`, where the growth was that call's, what should stand stood, and the same call made again did what it
+should; or `not prepared`, where it was a growth of what the call works on. Every call but those that take no memory is
+refused each of its growths.
 """
 import collections
 import os
@@ -12,11 +12,10 @@ import sys
 
 from refused_growths import run_refused
 
-# Each program makes fewer requests.
-MOST_GROWTHS = 3_000
+# The program makes fewer requests.
+MOST_GROWTHS = 6_000
 
-# The calls of any program that take no memory. For the devices that wrap another, for lanes and for the table no clause
-# says so.
+# The calls that take no memory. For the devices that wrap another, for lanes and for the table no clause says so.
 WITHOUT_GROWTH = {
     "Machine::enter", "Machine::move_to", "Lane::open", "Lane::remove", "LaneStore::remove", "FarTable::enter",
     "FarTable::open_scope", "FarTable::reclaim, a frame", "FarTable::reclaim, the device",
@@ -59,19 +58,10 @@ def sweep(program, library):
     return {call: growths_of[call] for call in names}, preparations, wrong
 
 
-def main(library, first, *others):
-    growths_of, preparations, wrong = {}, 0, []
-    for program in (first, *others):
-        name = os.path.basename(program)
-        calls, more, faults = sweep(program, library)
-        print(f"== each call of {name}, and how many growths of it were refused, one at a time")
-        for call, count in calls.items():
-            print(f"{call}: {count}")
-        for fault in faults:
-            print(f"WRONG: {name}: {fault}")
-        growths_of.update(calls)
-        preparations += more
-        wrong += faults
+def main(program, library):
+    growths_of, preparations, wrong = sweep(program, library)
+    for fault in wrong:
+        print(f"WRONG: {fault}")
     refused = sum(count > 0 for count in growths_of.values())
     print(f"{sum(growths_of.values())} growths of {refused} calls refused, {len(growths_of) - refused} calls make none; "
           f"{preparations} more refused before a call; {len(wrong)} wrong")

@@ -14,8 +14,6 @@ import tempfile
 from histories import calls, is_found, run, split
 
 SETTINGS = [4, 2, 4096]
-# With more than 4,096 frames these are opened by a thread, while several files are read.
-MANY_FRAMES = [4, 5_000, 4096]
 # A run of the files of this module makes far fewer requests.
 MOST_RUNS = 2_000
 SIMPLE = ["put a 1", "put e 2", "put i 3", "del e", "get a", "get e", "get i"]
@@ -30,14 +28,9 @@ THREE = [
     ["put b 2", "put c 2", "put d 2", "hold b", "put b 3", "show", "release", "get e"],
     ["put e 3", "putif a 1 4", "evict", "putnew a 5", "get c", "get d"],
 ]
-RUNS = [
-    ("the simple file", SETTINGS, [SIMPLE]),
-    ("the file of all commands", SETTINGS, [ALL]),
-    ("three files", SETTINGS, THREE),
-    ("three files on many frames", MANY_FRAMES, THREE),
-]
-# The last file is so long that memory for it is made ready while the first is read. Its commands would ask for memory more
-# than a thousand times, so that only the growths of the reading, and some behind it, are refused.
+RUNS = [("the simple file", [SIMPLE]), ("the file of all commands", [ALL]), ("three files", THREE)]
+# The last file is so long that it is read in parts. Its commands would ask for memory more than a thousand times, so that
+# only the growths of the reading, and some behind it, are refused.
 LONG = [["put a 1"], ["put b 2", *[f"putif c {'x' * 255} {'y' * 255}"] * 520]]
 MOST_READING = 60
 
@@ -70,12 +63,12 @@ def run_refused(program, library, settings, files, refused):
     return ended, int(requests[1]) if requests else None
 
 
-def sweep(program, library, settings, files, ends, most=None):
+def sweep(program, library, files, ends, most=None):
     """Refuses each growth in turn, or so many, and gives how often the runs ended in which way, and how many ended wrongly."""
     ways = collections.Counter()
     wrong = 0
     for number in range(1, (most or MOST_RUNS) + 1):
-        ended, requests = run_refused(program, library, settings, files, f"{number}{ends}")
+        ended, requests = run_refused(program, library, SETTINGS, files, f"{number}{ends}")
         said, passes = judge(files, *ended)
         if not passes or requests is None:
             wrong += 1
@@ -91,13 +84,13 @@ def sweep(program, library, settings, files, ends, most=None):
 
 def main(program, library):
     runs = wrong = 0
-    for name, settings, files in RUNS:
+    for name, files in RUNS:
         for ends, what in (("", "each growth alone"), ("..", "each growth and all behind it")):
-            more, ways, faults = sweep(program, library, settings, files, ends)
+            more, ways, faults = sweep(program, library, files, ends)
             print(f"{name}, refusing {what}: {more} growths, {faults} runs wrong; {dict(ways)}")
             runs, wrong = runs + more, wrong + faults
     for ends, what in (("", "alone"), ("..", "and all behind it")):
-        more, ways, faults = sweep(program, library, SETTINGS, LONG, ends, MOST_READING)
+        more, ways, faults = sweep(program, library, LONG, ends, MOST_READING)
         print(f"a long file, refusing each of the first {MOST_READING} growths {what}: {faults} runs wrong; {dict(ways)}")
         runs, wrong = runs + more, wrong + faults
     print(f"{runs} growths refused, {wrong} runs wrong")
