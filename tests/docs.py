@@ -1,0 +1,121 @@
+"""Counts the words of the docs, and tries their links and what they name in backticks: docs.py.
+
+A page of LIMITS has at most so many words, which are what stands between blanks and has a letter or a digit. In README.md,
+CONTRIBUTING.md, docs/ and the READMEs of the crates, but for what stands between lines of ```:
+
+- the file of a relative link is there, and where it names a place, so is the heading;
+- a path in backticks is there: from the top, from crates/, from the page's folder, or from a crate's folder or its src/, in
+  a crate's README from that crate's. One with NAME, MODULE or FUNCTION in it, or of what is built, is passed over;
+- of `name()` there is a function, and of `Type::name` or `crate::name` a declaration in a source that has the type, or in the
+  crate's sources. A name of std or of another crate is passed over.
+
+Each failure is a line `FILE:LINE: ..`, and the status is 1 where there is one.
+"""
+import re
+import sys
+from functools import cache
+from pathlib import Path
+
+ROOT = Path(__file__).resolve().parent.parent
+LIMITS = {
+    "README.md": 1100, "docs/ARCHITECTURE.md": 1800, "docs/GUARANTEES.md": 4000, "docs/FORMATS.md": 1200,
+    "docs/DECISIONS.md": 3000, "docs/PERFORMANCE.md": 1000, "docs/SERVER.md": 1400, "CHANGELOG.md": 600,
+    "CONTRIBUTING.md": 1000, "crates/*/README.md": 300,
+}
+PAGES = ("README.md", "CONTRIBUTING.md", "docs/*.md", "crates/README.md", "crates/*/README.md")
+FOLDERS = {"src", "specs", "proofs", "must-fail", "more-edits", *(it.name for it in ROOT.iterdir()), *(it.name for it in ROOT.glob("crates/*"))}
+FILE = re.compile(r"\.(rt|antt|md|sh|py|c|rs|txt|edit|svg)$")
+PASSED_OVER = re.compile(r"NAME|MODULE|FUNCTION|(^|/)out(/|$)")
+DECLARED = r"\b(?:fn|mod|struct|enum|trait|type|const|static|def|abbrev|theorem|structure|inductive)\s+{0}\b|^\s*{0}\b\s*(?:[,({{:]|$)|\buse\b[^;]*\b{0}\b"
+
+
+@cache
+def sources():
+    return {it: it.read_text() for it in ROOT.glob("crates/*/*/**/*") if it.suffix in (".rt", ".antt") and "out" not in it.parts}
+
+
+def is_declared(name, files):
+    pattern = re.compile(DECLARED.format(name), re.M)
+    return any(name in sources()[it] and pattern.search(sources()[it]) for it in files)
+
+
+@cache
+def is_name(path):
+    """Whether the function, or the last of a path of names, is declared where the names before it say."""
+    *front, name = path.split("::")
+    crates = [it for it in front if (ROOT / "crates" / it).is_dir()]
+    types = [it for it in front if it[0].isupper()]
+    files = [it for it in sources() if not crates or it.parts[len(ROOT.parts) + 1] in crates]
+    for of in types:
+        files = [it for it in files if of in sources()[it] and re.search(rf"\b{of}\b", sources()[it])]
+    return is_declared(name, files)
+
+
+def is_path(text, page):
+    of_crate = page.parent.parent == ROOT / "crates"
+    crates = [page.parent] if of_crate else ROOT.glob("crates/*")
+    bases = [ROOT, ROOT / "crates", page.parent, *(base for it in crates for base in (it, it / "src"))]
+    return any(next(base.glob(text), None) for base in bases if base.is_dir())
+
+
+def headings(page):
+    titles = (re.sub(r"[^\w\- ]", "", it.lower()) for it in re.findall(r"^#+ +(.*)$", page.read_text(), re.M))
+    return {it.replace(" ", "-") for it in titles}
+
+
+def fault_of_link(link, page):
+    file, _, place = link.partition("#")
+    target = (page.parent / file) if file else page
+    if not target.exists():
+        return f"no file {file}"
+    if place and target.suffix == ".md" and place not in headings(target):
+        return f"no heading {link}"
+    return None
+
+
+def fault_of_code(code, page):
+    word = code.split()[0] if code.split() else ""
+    looks = re.fullmatch(r"[\w.*-]+(/[\w.*-]+)*/?", word) and (word.split("/")[0] in FOLDERS or FILE.search(word))
+    if "/" in word and looks and not PASSED_OVER.search(word) and not is_path(word.rstrip("/"), page):
+        return f"no path {word}"
+    name = re.fullmatch(r"((?:\w+::)*\w+)(\([^()]*\)| \{[^{}]*\})?", code)
+    if name and ("::" in name[1] or code.endswith("()")) and not is_foreign(name[1]) and not is_name(name[1]):
+        return f"no declaration of {name[1]}"
+    return None
+
+
+@cache
+def is_foreign(path):
+    """Whether the first of the names is std's, or of a crate that stands elsewhere."""
+    first = path.split("::")[0]
+    used = re.findall(r"\w+", (ROOT / "crates.txt").read_text())
+    return first in {"std", "core"} or first in used and not (ROOT / "crates" / first).is_dir()
+
+
+def faults(page):
+    fenced = False
+    for number, line in enumerate(page.read_text().splitlines(), 1):
+        if line.lstrip().startswith("```"):
+            fenced = not fenced
+        elif not fenced:
+            told = [fault_of_code(code, page) for code in re.findall(r"`([^`]+)`", line)]
+            links = re.findall(r"\]\(([^)\s]+)\)", re.sub(r"`[^`]+`", "", line))
+            told += [fault_of_link(it, page) for it in links if not re.match(r"\w+:", it)]
+            yield from (f"{page.relative_to(ROOT)}:{number}: {it}" for it in told if it)
+
+
+def main():
+    wrong = []
+    for pattern, most in LIMITS.items():
+        for page in sorted(ROOT.glob(pattern)):
+            count = sum(any(it.isalnum() for it in word) for word in page.read_text().split())
+            if count > most:
+                wrong.append(f"{page.relative_to(ROOT)}:1: {count} words, and at most {most} may stand there")
+    pages = [page for pattern in PAGES for page in sorted(ROOT.glob(pattern))]
+    wrong += [it for page in pages for it in faults(page)]
+    print("".join(f"{it}\n" for it in wrong) + f"{len(pages)} pages, {len(wrong)} wrong")
+    sys.exit(1 if wrong else 0)
+
+
+if __name__ == "__main__":
+    main()
