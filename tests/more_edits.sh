@@ -11,6 +11,7 @@ root=$(cd "$(dirname "$(readlink -f "${BASH_SOURCE[0]}")")/.." && pwd)
 copy=$(mktemp -d)
 trap 'rm -rf "$copy"' EXIT
 
+shopt -s nullglob
 names=("$@")
 if [ $# -eq 0 ]; then
     for folder in "$root"/crates/*/more-edits; do
