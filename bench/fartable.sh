@@ -1,9 +1,9 @@
 #!/usr/bin/env bash
-# Times the proved program on command files, by one thread and by four, with ample frames and with few, beside the plain run,
+# Times the program on command files, by one thread and by four, with ample frames and with few, beside the plain run,
 # beside a plain Rust program that does the same, and beside work in registers, which tells what the machine has for threads:
 # fartable.sh [RUNS]. fartable.py says what is printed and what is wanted.
-# bin/build has the programs, proved or not: of sources that are committed both are as fast. FARTABLE=PATH and FARBENCH=PATH
-# take others.
+# bin/build has the programs, proved or not; of sources that differ from the commit it builds them with checks, which take
+# time. FARTABLE=PATH and FARBENCH=PATH take others.
 set -euo pipefail
 
 bench=$(cd "$(dirname "$(readlink -f "${BASH_SOURCE[0]}")")" && pwd)
