@@ -23,15 +23,18 @@ LIMITS = {
     "CONTRIBUTING.md": 1000, "crates/*/README.md": 300,
 }
 PAGES = ("README.md", "CONTRIBUTING.md", "docs/*.md", "crates/README.md", "crates/*/README.md")
-FOLDERS = {"src", "specs", "proofs", "must-fail", "more-edits", *(it.name for it in ROOT.iterdir()), *(it.name for it in ROOT.glob("crates/*"))}
+FOLDERS = {"src", "specs", "proofs", "must-fail", "more-edits", *(it.name for it in [*ROOT.iterdir(), *ROOT.glob("crates/*")])}
 FILE = re.compile(r"\.(rt|antt|md|sh|py|c|rs|txt|edit|svg)$")
 PASSED_OVER = re.compile(r"NAME|MODULE|FUNCTION|(^|/)out(/|$)")
-DECLARED = r"\b(?:fn|mod|struct|enum|trait|type|const|static|def|abbrev|theorem|structure|inductive)\s+{0}\b|^\s*{0}\b\s*(?:[,({{:]|$)|\buse\b[^;]*\b{0}\b"
+# A declaration, a variant or a field on a line of its own, or a name that is taken from elsewhere.
+DECLARED = (r"\b(?:fn|mod|struct|enum|trait|type|const|static|def|abbrev|theorem|structure|inductive)\s+{0}\b"
+            r"|^\s*{0}\b\s*(?:[,({{:]|$)|\buse\b[^;]*\b{0}\b")
 
 
 @cache
 def sources():
-    return {it: it.read_text() for it in ROOT.glob("crates/*/*/**/*") if it.suffix in (".rt", ".antt") and "out" not in it.parts}
+    files = [it for part in ("src/**/*.rt", "specs/**/*.antt", "proofs/**/*.antt") for it in ROOT.glob(f"crates/*/{part}")]
+    return {it: it.read_text() for it in files}
 
 
 def is_declared(name, files):
