@@ -42,12 +42,6 @@ pub enum CloseFault<K: FarObject, V: FarObject, J: Naming> {
     Missed,
 }
 
-/// The memory of a table that was closed. To drop it takes a while, since each object is given back by itself.
-#[derive(Drop)]
-pub struct ClosedTable<K: FarObject, V: FarObject, J: Naming, D: Device> {
-    table: FarTable<K, V, J, D>,
-}
-
 impl<K: FarObject, V: FarObject, J: Naming> CloseFault<K, V, J> {
     fn text(&self) -> &'static str {
         match self {
@@ -202,28 +196,28 @@ where
     }
 
     /// As `close`, for a large table: by as many threads as can be started, and at most four, where it has more than 16,384
-    /// buckets. The pairs come as they are written, in no order: `far_pairs::in_key_order` lends them in key order. What is
-    /// left of the table is its memory, which the caller lets go where nothing waits for it.
+    /// buckets. The pairs come as they are written, in no order: `far_pairs::in_key_order` lends them in key order. The table's
+    /// memory is given back in this call.
     pub fn close_on_threads<R: Threads + Wait + Sync>(
         self,
         rt: &R,
         alloc: Global,
         mut callers: Vec<Caller<K, V, J>>,
     ) -> Result<
-        (Vec<Bundle<K, V>>, ClosedTable<K, V, J, D>),
+        Vec<Bundle<K, V>>,
         (
             CloseFault<K, V, J>,
             FarTable<K, V, J, D>,
             Vec<Caller<K, V, J>>,
         ),
     >
-        ensures closed { IfOk result (λ c. ClosesSorted K.enc V.enc J.limits callers.items (all_of c.0.items)) }
+        ensures closed { IfOk result (λ v. ClosesSorted K.enc V.enc J.limits callers.items (all_of v.items)) }
         ensures fault { IfErr result (λ e. IsCloseFault K.enc V.enc J.limits (vec_len callers) e.0) }
         ensures table { IfErr result (λ e. e.1 ≡ self) }
         ensures back { IfErr result (λ e. AreBack callers.items e.2.items) }
     {
         match self.close_callers_on_threads(rt, alloc, &mut callers) {
-            Ok(bundles) => Ok((bundles, ClosedTable { table: self })),
+            Ok(bundles) => Ok(bundles),
             Err(fault) => Err((fault, self, callers)),
         }
     }

@@ -28,7 +28,7 @@ mod table;
 mod telling;
 
 pub use caller::Caller;
-pub use closing::{CloseFault, ClosedTable};
+pub use closing::CloseFault;
 pub use config::Config;
 pub use opening::{Opening, Vouched};
 pub use refusal::{OpenFault, ReclaimFault, Refusal};

@@ -94,37 +94,15 @@ impl<K: FarObject, V: FarObject, D: Device> Opening<K, V, D> {
         ensures lanes { IfOk result (λ t. t.lanes ≡ self.config.lanes) }
         ensures fault { IfErr result (λ e. IsNamedFault e) }
     {
-        let frames = match Frames::open(alloc, self.config.frames) {
-            Ok(frames) => frames,
-            Err(_) => return Err(OpenFault::Memory),
-        };
-        match self.named_over::<J>(alloc, frames) {
-            Ok(table) => Ok(table),
-            Err(fault) => Err(fault),
-        }
-    }
-
-    /// The same, over frames that were opened already, as many as the settings say: that takes a while where they are many, and
-    /// touches no device. Its faults are those of the lanes.
-    pub fn named_over<J: Naming>(
-        self,
-        alloc: Global,
-        frames: Frames<K, V, J>,
-    ) -> Result<FarTable<K, V, J, D>, OpenFault>
-        requires book { self.row.book ≡ J.book }
-        requires boards { self.row.names ≡ J.names }
-        requires limits { limits_of (sizes_of self.config) D.HONEST ≡ J.limits }
-        requires frames { frames ≡ self.config.frames }
-        ensures limit { IfOk result (λ t. t.limit ≡ self.config.limit) }
-        ensures frames { IfOk result (λ t. t.frames ≡ self.config.frames) }
-        ensures lanes { IfOk result (λ t. t.lanes ≡ self.config.lanes) }
-        ensures fault { IfErr result (λ e. IsNamedFault e) }
-    {
         let Opening {
             config,
             row,
             devices,
         } = self;
+        let frames = match Frames::open(alloc, config.frames) {
+            Ok(frames) => frames,
+            Err(_) => return Err(OpenFault::Memory),
+        };
         let lanes = match LaneStore::open(alloc, devices) {
             Ok(lanes) => lanes,
             Err(LaneFault::Memory) => return Err(OpenFault::Memory),
