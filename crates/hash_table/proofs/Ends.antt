@@ -10,14 +10,13 @@ use Rattle.table_core.specs.declared.event.Event.{Event}
 use Rattle.table_core.specs.declared.limits.Limits.{Limits}
 use Rattle.table_core.specs.declared.operation.Operation.{Operation}
 use Rattle.table_core.specs.Maps.{at_bucket, joined, map_of}
-use Rattle.table_core.specs.Logs.{history, passes_of}
-use Rattle.table_core.specs.Lawful.{IsLawful}
+use Rattle.table_core.specs.Logs.{history}
 use Rattle.table_core.proofs.Gathering.{joined_more}
 use Rattle.version_words.specs.Laws.{SameHistory}
-use Rattle.version_words.specs.Views.{PassView, Goes, IsWhole, AreNone, AreApart, calls_of}
+use Rattle.version_words.specs.Views.{PassView, Goes, IsWhole, AreNone, calls_of}
 use Rattle.version_words.proofs.Fronts.{prefix_self, prefix_trans}
 use Rattle.hash_table.specs.declared.caller.Caller.{Caller}
-use Rattle.hash_table.specs.Closes.{ClosesSorted, AreBack, AreTold, AllSeen, ArePairs, HistoryStays, pairs_from, passes}
+use Rattle.hash_table.specs.Closes.{ClosesSorted, IsFrontOf, AreBack, AreTold, AllSeen, ArePairs, HistoryStays, pairs_from, passes}
 use Rattle.hash_table.proofs.Fronts.{goes_self, goes_trans}
 
 -- ---- parts of joined lists
@@ -64,11 +63,6 @@ module _ {K V : Type 0} (ek : K → List ℕ) (ev : V → List ℕ) (l : Limits)
         let new : part next.front (from + n) ≡ part log (from + n) = ap (λ (h : List (ℕ × Operation K V)). at_bucket ek l.buckets (from + n) (map_of ek ev h)) at in
         seen honest ∙ (ap (λ (z : List (K × V)). z ++ part next.front (from + n)) old ∙ (ap (λ (z : List (K × V)). pairs_from ek ev l log from n ++ z) new ∙ sym (joined_more (λ i. part log (from + i)) n)));
   }
-
-  pub gathered_more : (is_honest : Bool) (mark : List (Event K V)) (start now next : PassView K V) (items more all : List (K × V)) (from n : ℕ) → Gathered is_honest mark start now items from n → Goes now next → all ≡ items ++ more
-      → (IsTrue is_honest → more ≡ part next.front (from + n)) → Gathered is_honest mark start next all from (n + 1)
-  gathered_more is_honest mark start now next items more all from n so goes is seen =
-      gathered_next is_honest mark start now next items all from n so goes (λ honest. is ∙ ap (λ (z : List (K × V)). items ++ z) (seen honest))
 
   whole_from : (log : List (Event K V)) (old new : PassView K V) → Goes old new → IsWhole log new → IsWhole log old
   whole_from log old new goes whole = record {
@@ -146,13 +140,12 @@ module _ {K V : Type 0} (ek : K → List ℕ) (ev : V → List ℕ) (l : Limits)
     pairs_by_first mark (c ∷ cs) now from count items some so = record { are = λ honest log seen stays. subst (λ (z : List (K × V)). IsPermutation z items) (so honest log (seen.each 0 now (omega arith)) stays) (IsPermutation-refl items) }
 
     -- the same of the one bundle of a list, whose pairs were put in another order
-    pub bundle_by_first : (mark : List (Event K V)) (olds : List (Caller K V J)) (now : Caller K V J) (from count : ℕ) (none bundles : List (List (K × V))) (bundle sorted : List (K × V)) → none ≡ [] → bundles ≡ none ++ sorted ∷ [] → IsPermutation bundle sorted → 0 < length olds
-        → (IsTrue l.honest → (log : List (Event K V)) → IsPrefix now.pass.front log → HistoryStays mark log → bundle ≡ pairs_from ek ev l log from count) → ArePairs ek ev l mark (slice_set olds 0 now) from count (all_of bundles)
-    bundle_by_first mark olds now from count none bundles bundle sorted empty is moved some so =
-        let first = pairs_by_first mark olds now from count bundle some so in
+    pub pairs_alone : (mark : List (Event K V)) (callers : List (Caller K V J)) (from count : ℕ) (none bundles : List (List (K × V))) (bundle sorted : List (K × V)) → none ≡ [] → bundles ≡ none ++ sorted ∷ [] → IsPermutation bundle sorted
+        → ArePairs ek ev l mark callers from count bundle → ArePairs ek ev l mark callers from count (all_of bundles)
+    pairs_alone mark callers from count none bundles bundle sorted empty is moved so =
         let alone : all_of bundles ≡ sorted =
         ap (λ (z : List (List (K × V))). all_of z) is ∙ (ap (λ (z : List (List (K × V))). all_of (z ++ sorted ∷ [])) empty ∙ append-nil sorted) in
-        record { are = λ honest log seen stays. IsPermutation-trans (pairs_from ek ev l log from count) bundle (all_of bundles) (first.are honest log seen stays) (subst (λ (z : List (K × V)). IsPermutation bundle z) (sym alone) moved) }
+        record { are = λ honest log seen stays. IsPermutation-trans (pairs_from ek ev l log from count) bundle (all_of bundles) (so.are honest log seen stays) (subst (λ (z : List (K × V)). IsPermutation bundle z) (sym alone) moved) }
 
     pub pairs_by_both : (mark : List (Event K V)) (xs ys : List (Caller K V J)) (from half rest : ℕ) (one more all : List (K × V)) → ArePairs ek ev l mark xs from half one → ArePairs ek ev l mark ys (from + half) rest more → all ≡ one ++ more
         → ArePairs ek ev l mark (xs ++ ys) from (half + rest) all
@@ -190,16 +183,15 @@ module _ {K V : Type 0} (ek : K → List ℕ) (ev : V → List ℕ) (l : Limits)
     back_gathered olds news count goes rest = record { count = count; goes = goes; limbos = λ k d lt. ap (λ (c : Caller K V J). c.limbo) (rest k d lt) }
 
     -- with no pass drawn there is no history
-    pub closed_none : (callers : List (Caller K V J)) (log : List (Event K V)) → SameHistory K V → length callers ≡ 0 → IsLawful ek ev l log → passes_of log ≡ length callers → AreApart (passes callers)
-        → ((k : ℕ) (d : Caller K V J) → k < length callers → IsWhole log (slice_index_or callers k d).pass) → ((pass : PassView K V) → AreNone pass (passes callers) → calls_of pass.number log ≡ []) → ClosesSorted ek ev l callers []
-    closed_none callers log law none lawful all apart whole other sorted moved up = record {
+    pub closed_none : (callers : List (Caller K V J)) (log : List (Event K V)) → SameHistory K V → length callers ≡ 0 → IsFrontOf ek ev l callers log → ClosesSorted ek ev l callers []
+    closed_none callers log law none front sorted moved up = record {
       log = log;
-      lawful = lawful;
-      all = all;
-      apart = apart;
-      whole = whole;
-      no_other = other;
-      pairs_are = λ honest. none_moved sorted moved ∙ sym (ap (λ (h : List (ℕ × Operation K V)). map_of ek ev h) (law [] log (passes callers) (log, refl) (λ k d lt. absurd (omega (arith, lt, none, length-map callers (λ (c : Caller K V J). c.pass)))) other log (log, refl) (prefix_self log)));
+      lawful = front.lawful;
+      all = front.all;
+      apart = front.apart;
+      whole = front.whole;
+      no_other = front.no_other;
+      pairs_are = λ honest. none_moved sorted moved ∙ sym (ap (λ (h : List (ℕ × Operation K V)). map_of ek ev h) (law [] log (passes callers) (log, refl) (λ k d lt. absurd (omega (arith, lt, none, length-map callers (λ (c : Caller K V J). c.pass)))) front.no_other log (log, refl) (prefix_self log)));
     }
       where
         no_pair : (all : List (K × V)) → length all ≡ 0 → all ≡ []
@@ -210,33 +202,29 @@ module _ {K V : Type 0} (ek : K → List ℕ) (ev : V → List ℕ) (l : Limits)
         none_moved all moved = no_pair all (length_permutation [] all moved)
 
     -- the callers as they were, with their passes at a first front, after all looks, and with their passes at a second front
-    module _ (olds mids reads : List (Caller K V J)) (first second : List (Event K V)) (gathered : AreBack olds mids) (told : AreTold first mids) (read : AreBack mids reads) (some : 0 < length olds) where
-      pub closed : (pairs : List (K × V)) → SameHistory K V → IsLawful ek ev l second → passes_of second ≡ length reads → AreApart (passes olds)
-          → ((k : ℕ) (d : Caller K V J) → k < length olds → IsWhole first (slice_index_or olds k d).pass)
-          → ((k : ℕ) (d : Caller K V J) → k < length reads → IsWhole second (slice_index_or reads k d).pass)
-          → ((pass : PassView K V) → AreNone pass (passes reads) → calls_of pass.number second ≡ [])
-          → ArePairs ek ev l first reads 0 l.buckets pairs → BucketsMakeMap K V ek ev → 0 < l.buckets → ClosesSorted ek ev l olds pairs
-      closed pairs same_law lawful all apart whole1 whole2 other are law buckets sorted moved up =
-          let back : AreBack olds reads = back_trans olds mids reads gathered read in
-          let long : length reads ≡ length olds = back.count in
-          let whole : (k : ℕ) (d : Caller K V J) → k < length olds → IsWhole second (slice_index_or olds k d).pass = λ k d lt. whole_from second (slice_index_or olds k d).pass (slice_index_or reads k d).pass (back.goes k d lt) (whole2 k d (omega (arith, lt, long))) in
-          let no_other : (pass : PassView K V) → AreNone pass (passes olds) → calls_of pass.number second ≡ [] = λ pass none. other pass (none_of pass olds reads long (λ k d lt. let g = back.goes k d lt in g.number) none) in
-          let seen : AllSeen reads second = record { each = λ k d lt. let w = whole2 k d lt in w.seen } in
-          let told_all : AreTold first reads = told_back first mids reads read told in
-          let head : Caller K V J = slice_index_or_head reads (omega (arith, long, some)) in
-          let pre : IsPrefix first second = prefix_trans first (slice_index_or reads 0 head).pass.front second (told_all 0 head (omega (arith, long, some))) (seen.each 0 head (omega (arith, long, some))) in
-          let stays : HistoryStays first second = same_law first second (passes olds) pre
-          (at_each (λ p. calls_of p.number second ≡ calls_of p.number first) olds (λ k d lt. let a = whole k d lt in let b = whole1 k d lt in a.all ∙ sym b.all)) no_other in
-          record {
-            log = second;
-            lawful = lawful;
-            all = all ∙ long;
-            apart = apart;
-            whole = whole;
-            no_other = no_other;
-            pairs_are = λ honest. law (history second) l.buckets sorted buckets (IsPermutation-trans _ pairs sorted (subst (λ (z : List (K × V)). IsPermutation z pairs) (joined_same (λ i. part second (0 + i)) (λ b. part second b) l.buckets (λ i. ap (λ b. part second b) (let e : 0 + i ≡ i = omega arith in e))) (are.are honest second seen stays)) moved) up;
-          }
-        where
-          slice_index_or_head : (cs : List (Caller K V J)) → 0 < length cs → Caller K V J
-          slice_index_or_head [] some = absurd (omega (arith, some))
-          slice_index_or_head (c ∷ cs) some = c
+    pub closed : (olds mids reads : List (Caller K V J)) (first second : List (Event K V)) (pairs : List (K × V)) → IsFrontOf ek ev l olds first → AreBack olds mids → AreTold first mids → AreBack mids reads → IsFrontOf ek ev l reads second → 0 < length olds
+        → ArePairs ek ev l first reads 0 l.buckets pairs → SameHistory K V → BucketsMakeMap K V ek ev → 0 < l.buckets → ClosesSorted ek ev l olds pairs
+    closed olds mids reads first second pairs start gathered told read end some are same_law law buckets sorted moved up =
+        let back : AreBack olds reads = back_trans olds mids reads gathered read in
+        let long : length reads ≡ length olds = back.count in
+        let whole : (k : ℕ) (d : Caller K V J) → k < length olds → IsWhole second (slice_index_or olds k d).pass = λ k d lt. whole_from second (slice_index_or olds k d).pass (slice_index_or reads k d).pass (back.goes k d lt) (end.whole k d (omega (arith, lt, long))) in
+        let no_other : (pass : PassView K V) → AreNone pass (passes olds) → calls_of pass.number second ≡ [] = λ pass none. end.no_other pass (none_of pass olds reads long (λ k d lt. let g = back.goes k d lt in g.number) none) in
+        let seen : AllSeen reads second = record { each = λ k d lt. let w = end.whole k d lt in w.seen } in
+        let told_all : AreTold first reads = told_back first mids reads read told in
+        let head : Caller K V J = slice_index_or_head reads (omega (arith, long, some)) in
+        let pre : IsPrefix first second = prefix_trans first (slice_index_or reads 0 head).pass.front second (told_all 0 head (omega (arith, long, some))) (seen.each 0 head (omega (arith, long, some))) in
+        let stays : HistoryStays first second = same_law first second (passes olds) pre
+        (at_each (λ p. calls_of p.number second ≡ calls_of p.number first) olds (λ k d lt. let a = whole k d lt in let b = start.whole k d lt in a.all ∙ sym b.all)) no_other in
+        record {
+          log = second;
+          lawful = end.lawful;
+          all = end.all ∙ long;
+          apart = start.apart;
+          whole = whole;
+          no_other = no_other;
+          pairs_are = λ honest. law (history second) l.buckets sorted buckets (IsPermutation-trans _ pairs sorted (subst (λ (z : List (K × V)). IsPermutation z pairs) (joined_same (λ i. part second (0 + i)) (λ b. part second b) l.buckets (λ i. ap (λ b. part second b) (let e : 0 + i ≡ i = omega arith in e))) (are.are honest second seen stays)) moved) up;
+        }
+      where
+        slice_index_or_head : (cs : List (Caller K V J)) → 0 < length cs → Caller K V J
+        slice_index_or_head [] some = absurd (omega (arith, some))
+        slice_index_or_head (c ∷ cs) some = c

@@ -56,6 +56,14 @@ module _ {K V J : Type 0} (ek : K → List ℕ) (ev : V → List ℕ) (l : Limit
     pub no_other : (pass : PassView K V) → AreNone pass (passes callers) → calls_of pass.number log ≡ []
     pub pairs_are : IsTrue l.honest → pairs ≡ map_of ek ev (history log)
 
+  -- a lawful log has as many passes as there are callers, which all differ, and their calls and no others
+  pub record IsFrontOf (callers : List (Caller K V J)) (log : List (Event K V)) : Type 0 where
+    pub lawful : IsLawful ek ev l log
+    pub all : passes_of log ≡ length callers
+    pub apart : AreApart (passes callers)
+    pub whole : (k : ℕ) (d : Caller K V J) → k < length callers → IsWhole log (slice_index_or callers k d).pass
+    pub no_other : (pass : PassView K V) → AreNone pass (passes callers) → calls_of pass.number log ≡ []
+
   -- in key order the pairs are those of a closed table
   abbrev pub ClosesSorted : List (Caller K V J) → List (K × V) → Type 0
   ClosesSorted callers pairs = (all : List (K × V)) → IsPermutation pairs all → IsSortedBy (λ a b. is_lt (key_cmp ek a.0 b.0)) all → IsClosed callers all

@@ -1,11 +1,12 @@
 //! The pairs of all buckets, read at the end of a table: by one caller, or by several side by side.
-ghost use Rattle.std.specs.Prelude.{◌≡◌, ◌+◌, ◌++◌, ◌<◌, ◌≤◌, IsTrue, IfOk, IfErr, OnOk, List, length};
+ghost use Rattle.std.specs.Prelude.{◌≡◌, ◌+◌, ◌++◌, ◌<◌, ◌≤◌, [], IsTrue, IfOk, IfErr, OnOk, List, length};
 ghost use Rattle.std.specs.Thread.{IsSync, IsSend};
 ghost use mathlib.Core.List.{IsPrefix};
 ghost use Rattle.far_pairs.specs.Bundles.{all_of};
 ghost use Rattle.table_core.specs.declared.event.Event.{Event};
 ghost use Rattle.table_core.specs.Maps.{at_bucket, map_of};
 ghost use Rattle.table_core.specs.Logs.{history};
+ghost use Rattle.table_core.specs.Lawful.{IsLawful};
 ghost use Rattle.version_words.specs.Views.{Goes};
 ghost use Rattle.hash_table.specs.Closes.{AreBack, AreTold, ArePairs, HistoryStays, pairs_from};
 ghost use Rattle.hash_table.specs.Stages.{IsUnreadFar};
@@ -15,7 +16,7 @@ use crate::refusal::Refusal;
 use crate::stages::seen::{Place, split};
 use crate::table::FarTable;
 use far_device::Device;
-use far_object::FarObject;
+use far_object::{FarObject, Memory, Object};
 use far_pairs::Bundle;
 use std::alloc::Global;
 use std::sync::Wait;
@@ -39,77 +40,64 @@ fn first_part(count: u32, callers: usize) -> u32
     }
 }
 
+/// What pairs are put into, those of one bucket behind those of another.
+pub(crate) trait Gathering<K: FarObject, V: FarObject>: Drop {
+    ghost use Rattle.std.specs.Prelude.{List};
+
+    ghost gathered: { Self → List (K × V) };
+
+    /// No pairs. It takes no memory.
+    fn none(alloc: Global) -> Self
+        ensures { gathered result ≡ [] };
+
+    /// Puts the object's pairs behind the others.
+    fn add(&mut self, object: &Object<K, V>) -> Result<(), Memory>
+        ensures { OnOk result (gathered self.new ≡ gathered self.old ++ object.now) };
+}
+
+/// Keys and values of their own.
+impl<K: FarObject, V: FarObject> Gathering<K, V> for Vec<(K, V)> {
+    ghost gathered = { λ pairs. pairs.items };
+
+    fn none(alloc: Global) -> Vec<(K, V)> {
+        Vec::new(alloc)
+    }
+
+    fn add(&mut self, object: &Object<K, V>) -> Result<(), Memory> {
+        let mut pairs = object.entries(*self.allocator())?;
+        self.append(&mut pairs)?;
+        Ok(())
+    }
+}
+
+/// The pairs as they are written.
+impl<K: FarObject, V: FarObject> Gathering<K, V> for Bundle<K, V> {
+    ghost gathered = { λ bundle. bundle };
+
+    fn none(alloc: Global) -> Bundle<K, V> {
+        Bundle::new(alloc)
+    }
+
+    fn add(&mut self, object: &Object<K, V>) -> Result<(), Memory> {
+        Bundle::add(self, object)
+    }
+}
+
 impl<K: FarObject, V: FarObject, J: Naming, D: Device> FarTable<K, V, J, D> {
-    // The pairs of so many buckets from this one on, one bucket behind the other, behind a mark. At each later log that has
-    // the mark's history they are its map's.
-    fn read_range<R: Wait>(
-        &self,
-        rt: &R,
-        alloc: Global,
-        caller: &mut Caller<K, V, J>,
-        mark: &Mark<K, V, J>,
-        from: u32,
-        count: u32,
-    ) -> Result<Vec<(K, V)>, Refusal>
-        requires within { from + count ≤ J.limits.buckets }
-        requires told { IsPrefix mark.now caller.old.pass.front }
-        ensures goes { Goes caller.old.pass caller.new.pass }
-        ensures limbo { caller.new.limbo ≡ caller.old.limbo }
-        ensures pairs { IfOk result (λ v. IsTrue J.limits.honest → (log : List (Event K V)) → IsPrefix caller.new.pass.front log → HistoryStays mark.now log
-            → v.items ≡ pairs_from K.enc V.enc J.limits log from count) }
-        ensures why { IfErr result (λ e. IsUnreadFar J.limits.honest e) }
-    {
-        let _buckets = self.words.buckets();
-        let mut all = Vec::new(alloc);
-        for i in 0..count {
-            let mut pairs = match self.pairs_in(rt, alloc, caller, from + i) {
-                Ok(pairs) => pairs,
-                Err(refusal) => return Err(refusal),
-            };
-            match all.append(&mut pairs) {
-                Ok(()) => {}
-                Err(_) => return Err(Refusal::Memory),
-            }
-        }
-        Ok(all)
-    }
-
-    // The same, read by the first of the callers.
-    pub(crate) fn read_by_first<R: Wait>(
-        &self,
-        rt: &R,
-        alloc: Global,
-        callers: &mut [Caller<K, V, J>],
-        mark: &Mark<K, V, J>,
-        from: u32,
-        count: u32,
-    ) -> Result<Vec<(K, V)>, Refusal>
-        requires within { from + count ≤ J.limits.buckets }
-        requires some { 0 < length callers.old }
-        requires told { AreTold mark.now callers.old }
-        ensures back { AreBack callers.old callers.new }
-        ensures pairs { IfOk result (λ v. ArePairs K.enc V.enc J.limits mark.now callers.new from count v.items) }
-        ensures why { IfErr result (λ e. IsUnreadFar J.limits.honest e) }
-    {
-        match self.read_range(rt, alloc, &mut callers[0], mark, from, count) {
-            Ok(pairs) => Ok(pairs),
-            Err(refusal) => Err(refusal),
-        }
-    }
-
-    // Puts the pairs of a bucket, read by one try, behind those of the bundle.
-    fn bundle_bucket<R: Wait>(
+    // Puts the pairs of a bucket, read by one try, behind those that were gathered.
+    pub(crate) fn gather_bucket<R: Wait, G: Gathering<K, V>>(
         &self,
         rt: &R,
         alloc: Global,
         caller: &mut Caller<K, V, J>,
         bucket: u32,
-        bundle: &mut Bundle<K, V>,
+        all: &mut G,
     ) -> Result<(), Refusal>
         requires bucket { bucket < J.limits.buckets }
+        ensures lawful { IsLawful K.enc V.enc J.limits caller.new.pass.front }
         ensures goes { Goes caller.old.pass caller.new.pass }
         ensures limbo { caller.new.limbo ≡ caller.old.limbo }
-        ensures pairs { OnOk result (IsTrue J.limits.honest → bundle.new ≡ bundle.old ++ at_bucket K.enc J.limits.buckets bucket (map_of K.enc V.enc (history caller.new.pass.front))) }
+        ensures pairs { OnOk result (IsTrue J.limits.honest → G.gathered all.new ≡ G.gathered all.old ++ at_bucket K.enc J.limits.buckets bucket (map_of K.enc V.enc (history caller.new.pass.front))) }
         ensures why { IfErr result (λ e. IsUnreadFar J.limits.honest e) }
     {
         let word = self.words.look(&mut caller.pass, bucket);
@@ -122,7 +110,7 @@ impl<K: FarObject, V: FarObject, J: Naming, D: Device> FarTable<K, V, J, D> {
                 let Ok(scope) = self.enter_frame(&caller.pass, bucket, word, frame) else {
                     return Err(Refusal::Missed);
                 };
-                let added = bundle.add(scope.object());
+                let added = all.add(scope.object());
                 scope.close();
                 return match added {
                     Ok(()) => Ok(()),
@@ -134,14 +122,15 @@ impl<K: FarObject, V: FarObject, J: Naming, D: Device> FarTable<K, V, J, D> {
                 Err(refusal) => return Err(refusal),
             },
         };
-        match bundle.add(&object) {
+        match all.add(&object) {
             Ok(()) => Ok(()),
             Err(_) => Err(Refusal::Memory),
         }
     }
 
-    // As `read_range`, in a bundle.
-    fn bundle_range<R: Wait>(
+    // The pairs of so many buckets from this one on, one bucket behind the other, behind a mark. At each later log that has
+    // the mark's history they are its map's.
+    fn gather_range<R: Wait, G: Gathering<K, V>>(
         &self,
         rt: &R,
         alloc: Global,
@@ -149,27 +138,50 @@ impl<K: FarObject, V: FarObject, J: Naming, D: Device> FarTable<K, V, J, D> {
         mark: &Mark<K, V, J>,
         from: u32,
         count: u32,
-    ) -> Result<Bundle<K, V>, Refusal>
+    ) -> Result<G, Refusal>
         requires within { from + count ≤ J.limits.buckets }
         requires told { IsPrefix mark.now caller.old.pass.front }
         ensures goes { Goes caller.old.pass caller.new.pass }
         ensures limbo { caller.new.limbo ≡ caller.old.limbo }
-        ensures pairs { IfOk result (λ bundle. IsTrue J.limits.honest → (log : List (Event K V)) → IsPrefix caller.new.pass.front log → HistoryStays mark.now log
-            → bundle ≡ pairs_from K.enc V.enc J.limits log from count) }
+        ensures pairs { IfOk result (λ all. IsTrue J.limits.honest → (log : List (Event K V)) → IsPrefix caller.new.pass.front log → HistoryStays mark.now log
+            → G.gathered all ≡ pairs_from K.enc V.enc J.limits log from count) }
         ensures why { IfErr result (λ e. IsUnreadFar J.limits.honest e) }
     {
         let _buckets = self.words.buckets();
-        let mut bundle = Bundle::new(alloc);
+        let mut all = G::none(alloc);
         for i in 0..count {
-            match self.bundle_bucket(rt, alloc, caller, from + i, &mut bundle) {
+            match self.gather_bucket(rt, alloc, caller, from + i, &mut all) {
                 Ok(()) => {}
                 Err(refusal) => return Err(refusal),
             }
         }
-        Ok(bundle)
+        Ok(all)
     }
 
-    // The same in key order, read by the first of the callers: the one bundle of a list.
+    // The same, read by the first of the callers.
+    pub(crate) fn gather_by_first<R: Wait, G: Gathering<K, V>>(
+        &self,
+        rt: &R,
+        alloc: Global,
+        callers: &mut [Caller<K, V, J>],
+        mark: &Mark<K, V, J>,
+        from: u32,
+        count: u32,
+    ) -> Result<G, Refusal>
+        requires within { from + count ≤ J.limits.buckets }
+        requires some { 0 < length callers.old }
+        requires told { AreTold mark.now callers.old }
+        ensures back { AreBack callers.old callers.new }
+        ensures pairs { IfOk result (λ all. ArePairs K.enc V.enc J.limits mark.now callers.new from count (G.gathered all)) }
+        ensures why { IfErr result (λ e. IsUnreadFar J.limits.honest e) }
+    {
+        match self.gather_range(rt, alloc, &mut callers[0], mark, from, count) {
+            Ok(all) => Ok(all),
+            Err(refusal) => Err(refusal),
+        }
+    }
+
+    // The same in key order, as the one bundle of a list.
     fn bundle_by_first<R: Wait>(
         &self,
         rt: &R,
@@ -186,7 +198,9 @@ impl<K: FarObject, V: FarObject, J: Naming, D: Device> FarTable<K, V, J, D> {
         ensures pairs { IfOk result (λ v. ArePairs K.enc V.enc J.limits mark.now callers.new from count (all_of v.items)) }
         ensures why { IfErr result (λ e. IsUnreadFar J.limits.honest e) }
     {
-        let bundle = match self.bundle_range(rt, alloc, &mut callers[0], mark, from, count) {
+        let bundle: Bundle<K, V> = match self.gather_by_first(
+            rt, alloc, callers, mark, from, count,
+        ) {
             Ok(bundle) => bundle,
             Err(refusal) => return Err(refusal),
         };

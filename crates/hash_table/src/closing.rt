@@ -10,7 +10,7 @@ ghost use Rattle.std.specs.List.Sorted.{IsPermutation, IsSortedBy};
 ghost use Rattle.std.specs.Ordering.{is_lt};
 ghost use Rattle.far_object.specs.Buckets.{key_cmp};
 ghost use Rattle.far_pairs.specs.Bundles.{all_of};
-ghost use Rattle.hash_table.specs.Closes.{IsClosed, ClosesSorted, IsCloseFault, AreBack};
+ghost use Rattle.hash_table.specs.Closes.{IsClosed, ClosesSorted, IsCloseFault, IsFrontOf, AreBack, AreTold};
 ghost use Rattle.hash_table.specs.Stages.{IsUnreadFar};
 
 use crate::caller::Caller;
@@ -91,6 +91,24 @@ fn sorted<K: FarObject, V: FarObject>(mut pairs: Vec<(K, V)>) -> Vec<(K, V)>
 }
 
 impl<K: FarObject, V: FarObject, J: Naming, D: Device> FarTable<K, V, J, D> {
+    // All passes at one front, where the callers are all that there are.
+    fn gather(
+        &self,
+        alloc: Global,
+        callers: &mut [Caller<K, V, J>],
+    ) -> Result<Mark<K, V, J>, CloseFault<K, V, J>>
+        ensures front { IfOk result (λ m. IsFrontOf K.enc V.enc J.limits callers.old m) }
+        ensures told { IfOk result (λ m. AreTold m callers.new) }
+        ensures fault { IfErr result (λ e. IsCloseFault K.enc V.enc J.limits (length callers.old) e) }
+        ensures back { AreBack callers.old callers.new }
+    {
+        match self.words.gather(alloc, callers) {
+            Ok(mark) => Ok(mark),
+            Err(GatherFault::Missing(mark)) => Err(CloseFault::PassMissing(mark)),
+            Err(GatherFault::Memory) => Err(CloseFault::Memory),
+        }
+    }
+
     // All pairs in any order, where the callers are all that there are.
     fn close_callers<R: Wait>(
         &self,
@@ -104,23 +122,21 @@ impl<K: FarObject, V: FarObject, J: Naming, D: Device> FarTable<K, V, J, D> {
     {
         buckets_make_map::<K, V>();
         same_history::<K, V>();
-        let first = match self.words.gather(alloc, callers) {
+        let first = match self.gather(alloc, callers) {
             Ok(mark) => mark,
-            Err(GatherFault::Missing(mark)) => return Err(CloseFault::PassMissing(mark)),
-            Err(GatherFault::Memory) => return Err(CloseFault::Memory),
+            Err(fault) => return Err(fault),
         };
         if callers.len() == 0 {
             return Ok(Vec::new(alloc));
         }
         let buckets = self.words.buckets();
-        let pairs = match self.read_by_first(rt, alloc, callers, &first, 0, buckets) {
+        let pairs = match self.gather_by_first(rt, alloc, callers, &first, 0, buckets) {
             Ok(pairs) => pairs,
             Err(refusal) => return Err(unread(refusal)),
         };
-        match self.words.gather(alloc, callers) {
+        match self.gather(alloc, callers) {
             Ok(_) => Ok(pairs),
-            Err(GatherFault::Missing(mark)) => Err(CloseFault::PassMissing(mark)),
-            Err(GatherFault::Memory) => Err(CloseFault::Memory),
+            Err(fault) => Err(fault),
         }
     }
 
@@ -175,10 +191,9 @@ where
     {
         buckets_make_map::<K, V>();
         same_history::<K, V>();
-        let first = match self.words.gather(alloc, callers) {
+        let first = match self.gather(alloc, callers) {
             Ok(mark) => mark,
-            Err(GatherFault::Missing(mark)) => return Err(CloseFault::PassMissing(mark)),
-            Err(GatherFault::Memory) => return Err(CloseFault::Memory),
+            Err(fault) => return Err(fault),
         };
         if callers.len() == 0 {
             return Ok(Vec::new(alloc));
@@ -188,16 +203,15 @@ where
             Ok(bundles) => bundles,
             Err(refusal) => return Err(unread(refusal)),
         };
-        match self.words.gather(alloc, callers) {
+        match self.gather(alloc, callers) {
             Ok(_) => Ok(bundles),
-            Err(GatherFault::Missing(mark)) => Err(CloseFault::PassMissing(mark)),
-            Err(GatherFault::Memory) => Err(CloseFault::Memory),
+            Err(fault) => Err(fault),
         }
     }
 
     /// As `close`, for a large table: by as many threads as can be started, and at most four, where it has more than 16,384
-    /// buckets. The pairs come as they are written, in no order: `far_pairs::in_key_order` lends them in key order. The table's
-    /// memory is given back in this call.
+    /// buckets. The pairs come as they are written, in no order: `far_pairs::in_key_order` lends them in key order. The table is
+    /// dropped in this call, each object by itself, which takes a while. Its faults are those of `close`.
     pub fn close_on_threads<R: Threads + Wait + Sync>(
         self,
         rt: &R,

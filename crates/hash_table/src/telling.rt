@@ -18,7 +18,7 @@ use far_object::FarObject;
 use std::alloc::Global;
 use std::sync::Wait;
 use table_core::word::name_of;
-use version_words::{Mark, Naming, empty_holds};
+use version_words::{Mark, Naming};
 
 /// Where a bucket's contents lie, with the name of its word.
 #[derive(Clone, Copy, Debug, PartialEq, Eq)]
@@ -61,7 +61,7 @@ impl<K: FarObject, V: FarObject, J: Naming, D: Device> FarTable<K, V, J, D> {
 
     /// All pairs of a bucket, in key order, by one try. It is no call of the history.
     ///
-    /// `Missed` comes where the frame has another version by now or the lane has no receipt, `Device` where the device
+    /// `Missed` comes where the frame does not give the version or the lane has no receipt, `Device` where the device
     /// fails, `Damaged` where what it gives is no object of this bucket and name, `Memory` where a growth is refused.
     pub fn pairs_in<R: Wait>(
         &self,
@@ -77,31 +77,10 @@ impl<K: FarObject, V: FarObject, J: Naming, D: Device> FarTable<K, V, J, D> {
         ensures pairs { IfOk result (λ v. IsTrue J.limits.honest → v.items ≡ at_bucket K.enc J.limits.buckets bucket (map_of K.enc V.enc (history caller.new.pass.front))) }
         ensures why { IfErr result (λ e. IsUnreadFar J.limits.honest e) }
     {
-        let word = self.words.look(&mut caller.pass, bucket);
-        let object = match split(word) {
-            Place::Nothing => {
-                empty_holds::<K, V>();
-                return Ok(Vec::new(alloc));
-            }
-            Place::Frame(frame) => {
-                let Ok(scope) = self.enter_frame(&caller.pass, bucket, word, frame) else {
-                    return Err(Refusal::Missed);
-                };
-                let entries = scope.object().entries(alloc);
-                scope.close();
-                return match entries {
-                    Ok(entries) => Ok(entries),
-                    Err(_) => Err(Refusal::Memory),
-                };
-            }
-            Place::Device => match self.read_device(rt, alloc, &caller.pass, bucket, word) {
-                Ok(object) => object,
-                Err(refusal) => return Err(refusal),
-            },
-        };
-        match object.entries(alloc) {
-            Ok(entries) => Ok(entries),
-            Err(_) => Err(Refusal::Memory),
+        let mut pairs = Vec::new(alloc);
+        match self.gather_bucket(rt, alloc, caller, bucket, &mut pairs) {
+            Ok(()) => Ok(pairs),
+            Err(refusal) => Err(refusal),
         }
     }
 
@@ -114,7 +93,7 @@ impl<K: FarObject, V: FarObject, J: Naming, D: Device> FarTable<K, V, J, D> {
         self.frames.seen(frame)
     }
 
-    /// Whether the frame was read since the last such question, or since it was filled. Nothing is claimed of it.
+    /// Whether the frame was read since the last such question. Nothing is claimed of it.
     pub fn touched(&self, frame: u32) -> bool {
         self.frames.touched(frame)
     }
