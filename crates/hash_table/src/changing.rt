@@ -253,6 +253,11 @@ impl<K: FarObject, V: FarObject, J: Naming, D: Device> FarTable<K, V, J, D> {
     }
 
     /// One try of a put, over a frame.
+    ///
+    /// `LimboFull` comes before all; `Far` where the bucket's object lies on the device, `Missed` where the frame does not give
+    /// the version, `Memory` where a growth is refused, `TooLong` where the new object would be longer than the limit,
+    /// `NoFrame` where no frame that is named was free, `NamesSpent` where the last name was drawn, `Moved`
+    /// where another name was drawn at that moment or the bucket's word is another one at the end.
     pub fn try_put(
         &self,
         alloc: Global,
@@ -272,6 +277,9 @@ impl<K: FarObject, V: FarObject, J: Naming, D: Device> FarTable<K, V, J, D> {
     }
 
     /// One try of a removal, over a frame.
+    ///
+    /// Its refusals are those of `try_put` but `TooLong`. Where the key is not there no frame and no name is looked for, and
+    /// where no pair is left no frame.
     pub fn try_remove(
         &self,
         alloc: Global,
@@ -290,6 +298,9 @@ impl<K: FarObject, V: FarObject, J: Naming, D: Device> FarTable<K, V, J, D> {
     }
 
     /// One try of a put where the key's value is the expected one, over a frame.
+    ///
+    /// Its refusals are those of `try_put`. Where the value is not the expected one nothing is made, so that `TooLong`,
+    /// `NoFrame` and `NamesSpent` don't come.
     pub fn try_put_if(
         &self,
         alloc: Global,
@@ -309,8 +320,10 @@ impl<K: FarObject, V: FarObject, J: Naming, D: Device> FarTable<K, V, J, D> {
         self.try_change(alloc, caller, &Edit::PutIf(key, expected, value))
     }
 
-    /// A put that goes on until it is done: it repeats while it is moved or missed, and reads a far bucket through. Its refusals
-    /// are those of `try_put` but `Far`, `Moved` and `Missed`, and those of `read_through`.
+    /// A put that goes on until it is done: it repeats while it is moved or missed, and reads a far bucket through.
+    ///
+    /// `LimboFull`, `Memory`, `TooLong`, `NoFrame` and `NamesSpent` come as at `try_put`; `Device` where the device fails,
+    /// `Damaged` where what it gives is no object of this bucket and name.
     pub fn put<R: Wait>(
         &self,
         rt: &R,
@@ -330,7 +343,7 @@ impl<K: FarObject, V: FarObject, J: Naming, D: Device> FarTable<K, V, J, D> {
         self.change(rt, alloc, caller, &Edit::Put(key, value))
     }
 
-    /// A removal that goes on until it is done, as `put` does.
+    /// A removal that goes on until it is done, as `put` does, with its refusals but `TooLong`.
     pub fn remove<R: Wait>(
         &self,
         rt: &R,
@@ -349,7 +362,7 @@ impl<K: FarObject, V: FarObject, J: Naming, D: Device> FarTable<K, V, J, D> {
         self.change(rt, alloc, caller, &Edit::Remove(key))
     }
 
-    /// A put_if that goes on until it is done, as `put` does.
+    /// A put_if that goes on until it is done, as `put` does, with its refusals.
     pub fn put_if<R: Wait>(
         &self,
         rt: &R,

@@ -28,7 +28,7 @@ impl<K: FarObject, V: FarObject, J: Naming, D: Device> FarTable<K, V, J, D> {
     ///
     /// `LimboFull` comes before all; `Missed` where the lane has no receipt, `Device` where the device fails, `Damaged`
     /// where what it gives is no object of this bucket and name, `Memory` where a growth is refused, `NoFrame` where no
-    /// frame is found free, `NamesSpent` where the last name was drawn, `Moved` where another name was drawn at that
+    /// frame that is named was free, `NamesSpent` where the last name was drawn, `Moved` where another name was drawn at that
     /// moment or the bucket's word is another one at the end.
     pub fn fetch<R: Wait>(
         &self,
@@ -78,7 +78,7 @@ impl<K: FarObject, V: FarObject, J: Naming, D: Device> FarTable<K, V, J, D> {
     /// One try of a swap-out of what lies in a frame: its object goes to the device under a new name. False where what
     /// lies there is not what its bucket's word names.
     ///
-    /// `LimboFull` comes before all; `Missed` where the frame has another version by now, `NamesSpent` where the last name
+    /// `LimboFull` comes before all; `Missed` where the frame does not give the version, `NamesSpent` where the last name
     /// was drawn, `Memory` where a growth of the lane or its device is refused, `Device` where the device fails, `Moved`
     /// where another name was drawn at that moment or the bucket's word is another one at the end.
     pub fn swap_out<R: Wait>(

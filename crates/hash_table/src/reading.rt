@@ -126,8 +126,10 @@ impl<K: FarObject, V: FarObject, J: Naming, D: Device> FarTable<K, V, J, D> {
 
     /// One try of a get, from a frame: the value of the key, copied, or none. It waits for nothing, and touches the frame.
     ///
-    /// `Far` comes where the bucket's object lies on the device, `Missed` where the frame has another version by now,
-    /// `Memory` where the copy is refused, `Moved` where the bucket's word is another one at the end.
+    /// `Far` comes where the bucket's object lies on the device, `Missed` where the frame does not give the version: it has
+    /// another one by now, is being filled or emptied, has as many readers as can be counted, or 1,000 claims to read it in a
+    /// row each met a change by another thread. `Memory` comes where the copy is refused, `Moved` where the bucket's word is
+    /// another one at the end.
     pub fn try_get(
         &self,
         alloc: Global,
@@ -155,7 +157,7 @@ impl<K: FarObject, V: FarObject, J: Naming, D: Device> FarTable<K, V, J, D> {
 
     /// One try of a get, from a frame or from the device, where the object stays.
     ///
-    /// `Missed` comes where the frame has another version by now or the lane has no receipt, `Device` where the device
+    /// `Missed` comes where the frame does not give the version or the lane has no receipt, `Device` where the device
     /// fails, `Damaged` where what it gives is no object of this bucket and name, `Memory` where a growth is refused,
     /// `Moved` where the bucket's word is another one at the end.
     pub fn read_through<R: Wait>(

@@ -4,8 +4,9 @@
 //! and the next one is looked for among those, all callers write the same few words at every change, and wait for one
 //! another. A caller who recycles fills the frame that it emptied, and writes none of these words.
 //!
-//! A kept frame is free, and reserved for nobody: where no frame is named as free, each call looks at the next 64 frames,
-//! and may find it there. Its caller finds it gone then, and looks for another one.
+//! A kept frame is free, and reserved for nobody. It is not named: once one was kept, a call for which no frame that is named
+//! was free looks at the next 64 frames, in turn. It may find the kept one there, and its caller then finds it gone and looks
+//! for another one; or it answers `NoFrame` while the kept one is free.
 ghost use Rattle.std.specs.Prelude.{◌≡◌, ◌<◌, IfOk, IfErr};
 ghost use Rattle.table_core.specs.BucketWords.{place_of, empty_place};
 
@@ -56,8 +57,9 @@ impl<K: FarObject, V: FarObject, J: Naming> Caller<K, V, J> {
     /// its calls that needs a frame. For a caller that reclaims its own spares: several such callers don't contend for the
     /// same free frames. No contract speaks of it, since none says which frame is filled.
     ///
-    /// While it is kept, `FarTable::free` does not count the frame, and others find it only where no other one is named as
-    /// free, when a look at 64 frames in turn comes to it. So it stays also where the caller is dropped;
+    /// While it is kept, `FarTable::free` does not count the frame, and others find it only where no frame that is named was
+    /// free, when a look at 64 frames in turn comes to it: until then their calls answer `NoFrame`. So it stays also where the
+    /// caller is dropped;
     /// `FarTable::stop_recycling` gives it back. A table that is closed has no use of it.
     pub fn recycle(&mut self)
         ensures pass { self.new.pass ≡ self.old.pass }
@@ -90,7 +92,8 @@ impl<K: FarObject, V: FarObject, J: Naming, D: Device> FarTable<K, V, J, D> {
         caller.limbo.set_recycling(Recycling::Off);
     }
 
-    /// A free frame: the one that the caller has, where it still is free, or else one behind the last that it had, or else any.
+    /// A free frame: the one that the caller has, where it still is free, or else one that is named behind the last that it had,
+    /// or else any that is named. `NoFrame` comes as `Refusal::NoFrame` says.
     pub(crate) fn reserve(
         &self,
         limbo: &mut Limbo<K, V, J>,

@@ -78,8 +78,8 @@ impl<K: FarObject, V: FarObject, J: Naming, D: Device> FarTable<K, V, J, D> {
     /// One try of a get whose value stays readable, from a frame: a scope on the value, or none. It waits for nothing, takes
     /// no memory and copies nothing, and touches the frame.
     ///
-    /// `Far` comes where the bucket's object lies on the device, `Missed` where the frame has another version by now,
-    /// `Moved` where the bucket's word is another one at the end.
+    /// `Far` comes where the bucket's object lies on the device, `Missed` where the frame does not give the version, `Moved`
+    /// where the bucket's word is another one at the end.
     pub fn open_scope(
         &self,
         caller: &mut Caller<K, V, J>,
