@@ -174,14 +174,6 @@ module _ {K V : Type 0} (ek : K → List ℕ) (ev : V → List ℕ) (l : Limits)
     none_of p (o ∷ os) (c ∷ cs) same numbers none =
         (λ is. none.0 (is ∙ numbers 0 c (omega arith)), none_of p os cs (omega (arith, same)) (λ k d lt. numbers (suc k) d (omega (arith, lt))) none.1)
 
-    abbrev with_pass : Caller K V J → PassView K V → Caller K V J
-    with_pass caller pass = record { pass = pass; limbo = caller.limbo }
-
-    -- callers whose passes were gathered come back
-    pub back_gathered : (olds news : List (Caller K V J)) → length news ≡ length olds → ((k : ℕ) (d : Caller K V J) → k < length olds → Goes (slice_index_or olds k d).pass (slice_index_or news k d).pass)
-        → ((k : ℕ) (d : Caller K V J) → k < length olds → slice_index_or news k d ≡ with_pass (slice_index_or olds k d) (slice_index_or news k d).pass) → AreBack olds news
-    back_gathered olds news count goes rest = record { count = count; goes = goes; limbos = λ k d lt. ap (λ (c : Caller K V J). c.limbo) (rest k d lt) }
-
     -- with no pass drawn there is no history
     pub closed_none : (callers : List (Caller K V J)) (log : List (Event K V)) → SameHistory K V → length callers ≡ 0 → IsFrontOf ek ev l callers log → ClosesSorted ek ev l callers []
     closed_none callers log law none front sorted moved up = record {
