@@ -1,0 +1,5 @@
+//! The tests of `far_object`, `far_pairs`, `far_device` and `table_core`, apart from these: they call what everybody may call.
+#![tactic(auto)]
+
+#[cfg(test)]
+mod tests;
