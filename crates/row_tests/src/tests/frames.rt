@@ -1,0 +1,103 @@
+//! Frames: the calls of one caller, what a scope shows another pass, readers beside a reclaimer, and threads that share frames.
+ghost use Rattle.std.specs.Prelude.{◌≡◌, ◌<◌, false};
+
+mod calls;
+mod readers;
+mod reading;
+mod script;
+mod shared;
+mod user;
+
+use super::common::TRIES;
+use far_object::{Object, Text};
+use frame_cache::{Frames, Missed, Version};
+use table_core::word::{EMPTY_PLACE, place_of};
+use version_words::{Name, Naming, Pass, Spare, Words};
+
+/// Draws a name of the bucket for the object, also while other threads draw, and makes the version of it.
+fn version<J: Naming>(
+    words: &Words<Text, Text, J>,
+    pass: &mut Pass<Text, Text, J>,
+    bucket: u32,
+    object: Object<Text, Text>,
+) -> Option<(Name<Text, Text, J>, Version<Text, Text, J>)>
+    requires { J.limits.honest ≡ false }
+{
+    if bucket >= words.buckets() {
+        return None;
+    }
+    for _ in 0..TRIES {
+        if let Ok(name) = words.name(pass, bucket, &object) {
+            let version = Version::new(&name, object);
+            return Some((name, version));
+        }
+    }
+    None
+}
+
+/// A name whose version was put into a frame.
+#[derive(Drop)]
+struct Filled<J: Naming> {
+    frame: u32,
+    name: Name<Text, Text, J>,
+    ghost below: { frame < 65536 },
+}
+
+impl<J: Naming> Filled<J> {
+    // Gives the name up with the frame as its place.
+    fn spare(self) -> Spare<Text, Text, J> {
+        let Filled { frame, name } = self;
+        name.give_up(frame)
+    }
+}
+
+/// Puts a version of the object, under the bucket's next name, into the first free frame.
+fn fill<J: Naming>(
+    words: &Words<Text, Text, J>,
+    pass: &mut Pass<Text, Text, J>,
+    frames: &Frames<Text, Text, J>,
+    bucket: u32,
+    object: Object<Text, Text>,
+) -> Option<Filled<J>>
+    requires { J.limits.honest ≡ false }
+{
+    let reserved = frames.reserve().ok()?;
+    let frame = reserved.frame();
+    let Some((name, version)) = version(words, pass, bucket, object) else {
+        reserved.cancel();
+        return None;
+    };
+    let answered = reserved.fill(version);
+    if answered != frame {
+        return None;
+    }
+    Some(Filled { frame, name })
+}
+
+/// Reclaims the spare's version, and keeps the frame or names it as free. The place of each spare of these tests is a frame's.
+fn reclaimed<J: Naming>(
+    frames: &Frames<Text, Text, J>,
+    spare: Spare<Text, Text, J>,
+    kept: bool,
+) -> Result<bool, Spare<Text, Text, J>> {
+    if place_of(spare.word()) < EMPTY_PLACE {
+        if kept {
+            frames.reclaim_kept(spare)
+        } else {
+            frames.reclaim(spare)
+        }
+    } else {
+        Ok(false)
+    }
+}
+
+/// Whether the name does not lie in the frame.
+fn misses<J: Naming>(frames: &Frames<Text, Text, J>, frame: u32, name: u64) -> bool {
+    match frames.enter(frame, name) {
+        Ok(scope) => {
+            scope.close();
+            false
+        }
+        Err(Missed) => true,
+    }
+}
