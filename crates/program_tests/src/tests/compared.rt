@@ -1,8 +1,9 @@
-//! Random files of one thread: on the table they are replied, and leave behind, what the plain run says.
-ghost use Rattle.std.specs.Prelude.{◌<◌, ◌≤◌};
+//! Random files of one thread: on the table that files share they are replied, and leave behind, what the plain run says.
+ghost use Rattle.std.specs.Prelude.{◌<◌};
 
-use super::expect::{equal, made};
-use super::{run_readers, settings};
+use super::expect::made;
+use super::plain::plainly;
+use super::runs::{MANY, expect, few};
 use hash_table::Config;
 use std::alloc::Global;
 use std::io::Write;
@@ -46,18 +47,6 @@ fn random_file(rt: &impl Abort, alloc: Global, seed: u32) -> Vec<u8> {
     file
 }
 
-/// What the plain run writes, with four buckets.
-pub(super) fn plainly(rt: &impl Abort, alloc: Global, limit: u32, file: &[u8]) -> Vec<u8>
-    requires { limit ≤ 1048576 }
-{
-    let mut file = file;
-    let mut out = Vec::new(alloc);
-    match plain_run::run_file(alloc, 4, limit, &mut file, &mut out) {
-        Ok(()) => out,
-        Err(fault) => panic!(rt; "{fault}"),
-    }
-}
-
 #[test]
 fn random_files(rt: HostRuntime) {
     let mut seed = 7;
@@ -65,15 +54,10 @@ fn random_files(rt: HostRuntime) {
         let file = random_file(&rt, rt.alloc(), number);
         let limit = 10 + next(&mut seed, 30);
         let config = Config {
-            frames: 1 + next(&mut seed, 4),
-            limit,
             format: 1 + next(&mut seed, 2),
-            ..settings()
+            ..few(1 + next(&mut seed, 4), limit, MANY)
         };
-        let wanted = plainly(&rt, rt.alloc(), limit, file.as_slice());
-        let files = made(&rt, Vec::from_array(rt.alloc(), [file.as_slice()]));
-        let (ended, out) = run_readers(&rt, &config, files);
-        equal(&rt, ended, Ok(()));
-        equal(&rt, out.as_slice(), wanted.as_slice());
+        let wanted = plainly(&rt, 4, limit, file.as_slice());
+        expect(&rt, &config, &[file.as_slice()], Ok(()), wanted.as_slice());
     }
 }

@@ -1,5 +1,5 @@
 //! Runtimes for tests: one without files, whose standard input is in memory and may fail; and one that has arguments alone.
-use super::inputs::Faltering;
+use super::readers::Faltering;
 use std::alloc::{Alloc, Allocator, Global};
 use std::env::{Env, FillError};
 use std::fs::{File, Metadata, OpenOptions};
@@ -16,7 +16,7 @@ pub struct InputAlone<R> {
     pub threads: R,
     pub alloc: Global,
     pub bytes: &'static [u8],
-    pub failing: u8,
+    pub failing: u32,
 }
 
 fn unsupported() -> io::Error {
@@ -47,7 +47,7 @@ impl<R> Input for InputAlone<R> {
     }
 
     fn reader(&self) -> Faltering<'static> {
-        Faltering::new(self.bytes, self.failing)
+        Faltering::new(self.bytes, 5, self.failing)
     }
 }
 

@@ -1,7 +1,6 @@
-//! The texts of replies, what is written, and writers that have no room.
-mod expect;
+//! `run_lines`: the texts of replies, what is written, and writers that have no room.
 
-use expect::{equal, holds, made};
+use super::expect::{equal, holds, made, prints};
 use far_object::Text;
 use run_lines::{PairLines, Refusal, push_line, reply_text, write_contents, write_files};
 use std::alloc::Global;
@@ -10,7 +9,7 @@ use std::io::{ErrorKind, Write};
 use std::process::Abort;
 
 #[test]
-fn refusals(rt: HostRuntime) {
+fn replies(rt: HostRuntime) {
     let rows = [
         (Refusal::Memory, "memory"),
         (Refusal::TooLong, "too long"),
@@ -22,14 +21,9 @@ fn refusals(rt: HostRuntime) {
         (Refusal::HeldAlready, "held already"),
     ];
     for (refusal, wanted) in rows {
-        let text = made(&rt, format!(in rt.alloc(); "{refusal}"));
-        equal(&rt, text.as_str(), wanted);
+        prints(&rt, &refusal, wanted);
         holds(&rt, reply_text(&Err(refusal)) == wanted.as_bytes());
     }
-}
-
-#[test]
-fn values(rt: HostRuntime) {
     let mut lines = Vec::new(rt.alloc());
     let value = made(&rt, Text::new(rt.alloc(), b"1"));
     made(&rt, push_line(&mut lines, reply_text(&Ok(Some(value)))));
@@ -45,53 +39,54 @@ fn pair(rt: &impl Abort, alloc: Global, key: &[u8], value: &[u8]) -> (Text, Text
     )
 }
 
-#[test]
-fn files_and_contents(rt: HostRuntime) {
-    let mut texts = Vec::new(rt.alloc());
-    for text in [b"none\n1\n".as_slice(), b"".as_slice(), b"2\n".as_slice()] {
-        made(
-            &rt,
-            texts.push(made(&rt, Vec::from_slice(rt.alloc(), text))),
-        );
+fn texts(rt: &impl Abort, alloc: Global, texts: &[&[u8]]) -> Vec<Vec<u8>> {
+    let mut all = Vec::new(alloc);
+    for text in texts {
+        made(rt, all.push(made(rt, Vec::from_slice(alloc, text))));
     }
-    let first = pair(&rt, rt.alloc(), b"a", b"1");
-    let second = pair(&rt, rt.alloc(), b"b", b"none");
-    let mut out = Vec::new(rt.alloc());
-    made(&rt, write_files(&mut out, texts.as_slice()));
-    made(&rt, write_contents(&mut out, &[first, second]));
-    let wanted = b"file 1\nnone\n1\nfile 2\nfile 3\n2\ncontents\na 1\nb none\n".as_slice();
-    holds(&rt, out.as_slice() == wanted);
+    all
 }
 
 #[test]
-fn numbers_of_files(rt: HostRuntime) {
-    let mut texts = Vec::new(rt.alloc());
-    for _ in 0..64 {
-        made(&rt, texts.push(Vec::new(rt.alloc())));
-    }
+fn files_and_contents(rt: HostRuntime) {
+    let files = texts(&rt, rt.alloc(), &[b"none\n1\n", b"", b"2\n"]);
+    let first = pair(&rt, rt.alloc(), b"a", b"1");
+    let second = pair(&rt, rt.alloc(), b"b", b"none");
     let mut out = Vec::new(rt.alloc());
-    made(&rt, write_files(&mut out, texts.as_slice()));
+    made(&rt, write_files(&mut out, files.as_slice()));
+    made(&rt, write_contents(&mut out, &[first, second]));
+    let wanted = b"file 1\nnone\n1\nfile 2\nfile 3\n2\ncontents\na 1\nb none\n".as_slice();
+    holds(&rt, out.as_slice() == wanted);
+    let files = texts(&rt, rt.alloc(), &[b"".as_slice(); 64]);
+    let mut out = Vec::new(rt.alloc());
+    made(&rt, write_files(&mut out, files.as_slice()));
     holds(&rt, out.as_slice().starts_with(b"file 1\nfile 2\n"));
     holds(&rt, out.as_slice().ends_with(b"file 63\nfile 64\n"));
 }
 
-/// What fits is written, and then the write fails.
+/// What fits is written, and then the write fails; also that of lines that were made at once.
 #[test]
 fn little_room(rt: HostRuntime) {
-    let mut texts = Vec::new(rt.alloc());
-    made(
-        &rt,
-        texts.push(made(&rt, Vec::from_slice(rt.alloc(), b"none\n"))),
-    );
+    let files = texts(&rt, rt.alloc(), &[b"none\n"]);
     let pair = pair(&rt, rt.alloc(), b"a", b"1");
     let wanted = b"file 1\nnone\ncontents\na 1\n".as_slice();
     for room in 0..=wanted.len() {
         let mut bytes = [0u8; 32];
         let mut out = &mut bytes[..room];
-        let mut ended = write_files(&mut out, texts.as_slice());
+        let mut ended = write_files(&mut out, files.as_slice());
         if ended.is_ok() {
             ended = write_contents(&mut out, &[&pair]);
         }
+        equal(&rt, ended.is_ok(), room == wanted.len());
+        holds(&rt, bytes[..room] == wanted[..room]);
+    }
+    let lists = lists_of(&rt, rt.alloc(), [0, 1, 1, 2]);
+    let lines = made(&rt, PairLines::of(&rt, rt.alloc(), lists.as_slice()));
+    let wanted = b"contents\n0 value\n1 value\n".as_slice();
+    for room in 0..=wanted.len() {
+        let mut bytes = [0u8; 32];
+        let mut out = &mut bytes[..room];
+        let ended = lines.write_contents(&mut out);
         equal(&rt, ended.is_ok(), room == wanted.len());
         holds(&rt, bytes[..room] == wanted[..room]);
     }
@@ -119,7 +114,7 @@ fn lists_of(rt: &impl Abort, alloc: Global, cuts: [u32; 4]) -> Vec<Vec<(Text, Te
 }
 
 #[test]
-fn lines_of_pairs_are_those_written_one_by_one(rt: HostRuntime) {
+fn lines_made_at_once_are_those_written_one_by_one(rt: HostRuntime) {
     for cuts in [
         [0, 0, 0, 0],
         [0, 0, 1, 1],
@@ -134,20 +129,6 @@ fn lines_of_pairs_are_those_written_one_by_one(rt: HostRuntime) {
         let mut one_by_one = Vec::new(rt.alloc());
         made(&rt, write_contents(&mut one_by_one, pairs.as_slice()));
         holds(&rt, at_once.as_slice() == one_by_one.as_slice());
-    }
-}
-
-#[test]
-fn lines_of_pairs_with_little_room(rt: HostRuntime) {
-    let lists = lists_of(&rt, rt.alloc(), [0, 1, 1, 2]);
-    let lines = made(&rt, PairLines::of(&rt, rt.alloc(), lists.as_slice()));
-    let wanted = b"contents\n0 value\n1 value\n".as_slice();
-    for room in 0..=wanted.len() {
-        let mut bytes = [0u8; 32];
-        let mut out = &mut bytes[..room];
-        let ended = lines.write_contents(&mut out);
-        equal(&rt, ended.is_ok(), room == wanted.len());
-        holds(&rt, bytes[..room] == wanted[..room]);
     }
 }
 

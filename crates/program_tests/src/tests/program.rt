@@ -1,5 +1,7 @@
 //! The program's words, the texts of its faults, and its statuses.
+
 use super::expect::{equal, holds, made};
+use super::readers::NEVER;
 use super::runtime::{InputAlone, WordsAlone};
 use far_driver::{ProgramFault, read_words, run_program};
 use std::alloc::{AllocError, Global};
@@ -8,6 +10,8 @@ use std::process::Abort;
 use std::rt::Files;
 use std::sync::Wait;
 use std::thread::Threads;
+
+const USAGE: &str = "usage: fartable BUCKETS FRAMES LIMIT FILE...\n";
 
 fn owned_words(alloc: Global, words: &[&str]) -> Result<Vec<String>, AllocError> {
     let mut owned = Vec::new(alloc);
@@ -38,21 +42,98 @@ where
     holds(handle, err.as_slice() == err_wanted.as_bytes());
 }
 
+/// The files that lie there, by their names.
+const FILES: [(&str, &str); 5] = [
+    ("empty", ""),
+    ("good", "put a 1\nget a\n"),
+    ("row", "put a 1\nget a\ndel a\nget a\nput b 2\n"),
+    ("bad", "put a 1\nput a\n"),
+    ("put", "put a"),
+];
+
+const GOOD: &str = "file 1\nnone\n1\ncontents\na 1\n";
+
+/// Words, the status, standard output, and standard error.
+const ROWS: [(&[&str], u8, &str, &str); 25] = [
+    (&[], 2, "", USAGE),
+    (&["4", "2", "4096"], 2, "", USAGE),
+    (&["4", "2", "4096", "-", "-"], 2, "", USAGE),
+    (&["00000004", "2", "4096", "-"], 2, "", USAGE),
+    (&["4", "2", "x", "-"], 2, "", USAGE),
+    (&["+4", "2", "4096", "-"], 2, "", USAGE),
+    (&["", "2", "4096", "-"], 2, "", USAGE),
+    (&["4", "2", "", "-"], 2, "", USAGE),
+    (&["0", "2", "4096", "good"], 2, "", "bad config 1\n"),
+    (&["4", "0", "4096", "good"], 2, "", "bad config 2\n"),
+    (&["4", "2", "3", "good"], 2, "", "bad config 3\n"),
+    (&["0", "2", "4096", "bad"], 2, "", "bad config 1\n"),
+    (
+        &["4", "2", "4096", "absent"],
+        1,
+        "",
+        "file 1: cannot open\n",
+    ),
+    (
+        &["0", "2", "4096", "absent"],
+        1,
+        "",
+        "file 1: cannot open\n",
+    ),
+    (&["4", "2", "4096", ""], 1, "", "file 1: cannot open\n"),
+    (
+        &["0", "2", "4096", "bad", "absent", "gone"],
+        1,
+        "",
+        "file 2: cannot open\n",
+    ),
+    (&["4", "2", "4096", "empty"], 0, "file 1\ncontents\n", ""),
+    (&["4", "2", "4096", "good"], 0, GOOD, ""),
+    (&["0000004", "02", "4096", "good"], 0, GOOD, ""),
+    (
+        &["4", "2", "4096", "row"],
+        0,
+        "file 1\nnone\n1\n1\nnone\nnone\ncontents\nb 2\n",
+        "",
+    ),
+    (
+        &["4", "4", "4096", "good", "empty"],
+        0,
+        "file 1\nnone\n1\nfile 2\ncontents\na 1\n",
+        "",
+    ),
+    (
+        &["4", "2", "4096", "put"],
+        2,
+        "",
+        "file 1 line 1: bad command\n",
+    ),
+    (
+        &["4", "2", "4096", "bad"],
+        2,
+        "",
+        "file 1 line 2: bad command\n",
+    ),
+    (
+        &["4", "2", "4096", "good", "bad"],
+        2,
+        "",
+        "file 2 line 2: bad command\n",
+    ),
+    (
+        &["4", "4", "4096", "good", "bad", "absent"],
+        1,
+        "",
+        "file 3: cannot open\n",
+    ),
+];
+
 #[test]
-fn wrong_words(rt: HostRuntime) {
-    let rows: [&[&str]; 8] = [
-        &[],
-        &["4", "2", "4096"],
-        &["4", "2", "4096", "-", "-"],
-        &["00000004", "2", "4096", "-"],
-        &["4", "2", "x", "-"],
-        &["+4", "2", "4096", "-"],
-        &["", "2", "4096", "-"],
-        &["4", "2", "", "-"],
-    ];
-    for words in &rows {
-        let usage = "usage: fartable BUCKETS FRAMES LIMIT FILE...\n";
-        assert_ends(&rt, &rt, words, 2, "", usage);
+fn words_texts_and_statuses(rt: HostRuntime) {
+    for (name, text) in FILES {
+        made(&rt, fs::write(&rt, name, text));
+    }
+    for (words, status, out, err) in ROWS {
+        assert_ends(&rt, &rt, words, status, out, err);
     }
 }
 
@@ -69,10 +150,6 @@ fn words_of_the_process(rt: HostRuntime) {
     assert_words(&rt, rt.alloc(), &[b"fartable"], &[]);
     let words: [&[u8]; 4] = [b"fartable", b"4", b"", b"-"];
     assert_words(&rt, rt.alloc(), &words, &["4", "", "-"]);
-}
-
-#[test]
-fn words_that_are_no_text(rt: HostRuntime) {
     let rows: [&[&[u8]]; 3] = [
         &[b"fartable", b"4", b"2", b"4096", b"\xff"],
         &[b"fartable", b"\xc3", b"2", b"4096", b"-"],
@@ -90,80 +167,12 @@ fn words_that_are_no_text(rt: HostRuntime) {
 }
 
 #[test]
-fn wrong_settings(rt: HostRuntime) {
-    made(&rt, fs::write(&rt, "settings", "get a"));
-    assert_ends(
-        &rt,
-        &rt,
-        &["0", "2", "4096", "settings"],
-        2,
-        "",
-        "bad config 1\n",
-    );
-    assert_ends(
-        &rt,
-        &rt,
-        &["4", "0", "4096", "settings"],
-        2,
-        "",
-        "bad config 2\n",
-    );
-    assert_ends(
-        &rt,
-        &rt,
-        &["4", "2", "3", "settings"],
-        2,
-        "",
-        "bad config 3\n",
-    );
-}
-
-#[test]
-fn absent_files(rt: HostRuntime) {
-    assert_ends(
-        &rt,
-        &rt,
-        &["4", "2", "4096", "absent"],
-        1,
-        "",
-        "file 1: cannot open\n",
-    );
-    assert_ends(
-        &rt,
-        &rt,
-        &["0", "2", "4096", "absent"],
-        1,
-        "",
-        "file 1: cannot open\n",
-    );
-    assert_ends(
-        &rt,
-        &rt,
-        &["4", "2", "4096", ""],
-        1,
-        "",
-        "file 1: cannot open\n",
-    );
-    made(&rt, fs::write(&rt, "there", "get"));
-    assert_ends(
-        &rt,
-        &rt,
-        &["0", "2", "4096", "there", "absent", "gone"],
-        1,
-        "",
-        "file 2: cannot open\n",
-    );
-}
-
-#[test]
 fn sixty_four_files(rt: HostRuntime) {
     made(&rt, fs::write(&rt, "short", "get a\n"));
     let mut words = made(&rt, owned_words(rt.alloc(), &["4", "2", "4096"]));
     for _ in 0..64 {
-        made(
-            &rt,
-            words.push(made(&rt, String::from_str(rt.alloc(), "short"))),
-        );
+        let short = String::from_str(rt.alloc(), "short");
+        made(&rt, words.push(made(&rt, short)));
     }
     let mut out = Vec::new(rt.alloc());
     let mut err = Vec::new(rt.alloc());
@@ -172,67 +181,13 @@ fn sixty_four_files(rt: HostRuntime) {
     holds(&rt, err.is_empty());
     equal(&rt, out.iter().filter(|byte| **byte == b'\n').count(), 129);
     holds(&rt, out.as_slice().ends_with(b"file 64\nnone\ncontents\n"));
-    made(
-        &rt,
-        words.push(made(&rt, String::from_str(rt.alloc(), "short"))),
-    );
+    let short = String::from_str(rt.alloc(), "short");
+    made(&rt, words.push(made(&rt, short)));
     out.clear();
     let ended = run_program(&rt, words.as_slice(), &mut out, &mut err);
     equal(&rt, ended, 2);
     holds(&rt, out.is_empty());
-    holds(
-        &rt,
-        err.as_slice() == b"usage: fartable BUCKETS FRAMES LIMIT FILE...\n".as_slice(),
-    );
-}
-
-#[test]
-fn files(rt: HostRuntime) {
-    made(&rt, fs::write(&rt, "good", "put a 1\nget a\n"));
-    made(&rt, fs::write(&rt, "bad", "put a 1\nput a\n"));
-    let out = "file 1\nnone\n1\ncontents\na 1\n";
-    assert_ends(&rt, &rt, &["4", "2", "4096", "good"], 0, out, "");
-    assert_ends(&rt, &rt, &["0000004", "02", "4096", "good"], 0, out, "");
-    assert_ends(
-        &rt,
-        &rt,
-        &["4", "2", "4096", "bad"],
-        2,
-        "",
-        "file 1 line 2: bad command\n",
-    );
-    made(
-        &rt,
-        fs::write(
-            &rt,
-            "other",
-            "put b 2\nget b\nshow\nrelease\nhold b\nshow\nrelease\n",
-        ),
-    );
-    assert_ends(
-        &rt,
-        &rt,
-        &["4", "4", "4096", "good", "other"],
-        0,
-        "file 1\nnone\n1\nfile 2\nnone\n2\nnothing held\nnothing held\n2\n2\nreleased\ncontents\na 1\nb 2\n",
-        "",
-    );
-    assert_ends(
-        &rt,
-        &rt,
-        &["4", "4", "4096", "good", "bad", "absent"],
-        1,
-        "",
-        "file 3: cannot open\n",
-    );
-    assert_ends(
-        &rt,
-        &rt,
-        &["4", "4", "4096", "good", "bad"],
-        2,
-        "",
-        "file 2 line 2: bad command\n",
-    );
+    holds(&rt, err.as_slice() == USAGE.as_bytes());
 }
 
 #[test]
@@ -256,19 +211,12 @@ fn standard_input(rt: HostRuntime) {
         threads: &rt,
         alloc: rt.alloc(),
         bytes: b"put a 1\nget a",
-        failing: 255,
+        failing: NEVER,
     };
-    let out = "file 1\nnone\n1\ncontents\na 1\n";
-    assert_ends(&rt, &alone, &["4", "2", "4096", "-"], 0, out, "");
+    let words: [&str; 4] = ["4", "2", "4096", "-"];
+    assert_ends(&rt, &alone, &words, 0, GOOD, "");
     for failing in 0..3 {
         let alone = InputAlone { failing, ..alone };
-        assert_ends(
-            &rt,
-            &alone,
-            &["4", "2", "4096", "-"],
-            1,
-            "",
-            "file 1: read failed\n",
-        );
+        assert_ends(&rt, &alone, &words, 1, "", "file 1: read failed\n");
     }
 }
