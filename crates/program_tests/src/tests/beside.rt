@@ -4,7 +4,7 @@ use super::expect::{equal, equal_texts, made};
 use super::runs::{MANY, alone, expect, expect_run, failing, few, lanes, run, settings};
 use command_file::read_file;
 use far_device::{FakeDevice, WatchedDevice};
-use far_driver::RunFault;
+use far_driver::{Gate, OpenGate, RunFault};
 use hash_table::Config;
 use std::alloc::Global;
 use std::process::Abort;
@@ -12,7 +12,7 @@ use std::sync::atomic::{AtomicU64, Ordering};
 use std::sync::{Arc, Wait};
 use std::thread;
 use std::thread::Threads;
-use threaded_run::{Gate, OpenGate, Remains, ThreadedFault, run_files};
+use threaded_run::{ThreadedFault, run_files};
 
 /// How often a held command looks whether it may go on.
 const MOST_LOOKS: u64 = 10_000_000;
@@ -216,17 +216,7 @@ fn handed_in<R: Alloc<A = Global> + Threads + Wait + Abort + Sync>(
     );
     assert_eq!(rt; scripts.len(), 1);
     let mut out = Vec::new(alloc);
-    let gate = &OpenGate;
-    let ended = run_files(
-        rt,
-        alloc,
-        config,
-        devices,
-        scripts,
-        Remains::GivenBack,
-        gate,
-        &mut out,
-    );
+    let ended = run_files(rt, alloc, config, devices, scripts, &OpenGate, &mut out);
     (ended, out)
 }
 

@@ -2,9 +2,7 @@
 
 use super::expect::{holds, made};
 use super::readers::{Faltering, NEVER};
-use command_file::{
-    Command, FileFault, FileText, MapCommand, Script, TableCommand, read_file, read_file_into,
-};
+use command_file::{Command, FileFault, FileText, MapCommand, Script, TableCommand, read_file};
 use std::alloc::{AllocError, Global};
 use std::io::{BufRead, BufReader, ErrorKind};
 use std::process::Abort;
@@ -222,21 +220,5 @@ fn readers_that_give_little_or_fail(rt: HostRuntime) {
             .parse(rt.alloc())
             .err();
         holds(&rt, found == Some(FileFault::BadLine(1)));
-    }
-}
-
-/// What a room held is no part of the text that is read into it, whether the text is shorter or longer.
-#[test]
-fn text_read_into_a_room(rt: HostRuntime) {
-    for held in [b"".as_slice(), b"x", b"del c\ndel d\ndel e\ndel f\n"] {
-        let mut file = TWO.0;
-        let room = made(&rt, Vec::from_slice(rt.alloc(), held));
-        let text = FileText::read_into(rt.alloc(), room, &mut file);
-        let script = made(&rt, text.parse(rt.alloc()));
-        holds(&rt, shown(&rt, rt.alloc(), &script).as_slice() == TWO.1);
-        let mut bad: &[u8] = b"get a\nget";
-        let room = made(&rt, Vec::from_slice(rt.alloc(), held));
-        let found = read_file_into(rt.alloc(), room, &mut bad).err();
-        holds(&rt, found == Some(FileFault::BadLine(2)));
     }
 }

@@ -6,7 +6,7 @@ use super::runs::{MANY, alone, expect_run, few, run};
 use far_device::{
     CannedDevice, Device, DeviceFault, FakeDevice, FaultyDevice, LyingDevice, WatchedDevice,
 };
-use far_driver::{Refusal, RunFault};
+use far_driver::{Gate, OpenGate, Refusal, RunFault};
 use hash_table::Config;
 use std::alloc::Global;
 use std::io::Write;
@@ -15,7 +15,6 @@ use std::str;
 use std::sync::atomic::{AtomicU64, Ordering};
 use std::sync::{Arc, Wait};
 use std::thread::Threads;
-use threaded_run::{Gate, OpenGate};
 
 const DAMAGED: Result<(), RunFault> = Err(RunFault::Contents(Refusal::Damaged));
 

@@ -4,13 +4,12 @@ use super::expect::{equal, holds, made, prints};
 use super::readers::{Faltering, NEVER, Stumbling};
 use super::runs::{MANY, expect, lanes, run_to, settings, with};
 use command_file::Script;
-use far_driver::{Refusal, RunFault, open_lanes, read_files};
+use far_driver::{OpenGate, Refusal, RunFault, open_lanes, read_files};
 use hash_table::Config;
 use std::alloc::Global;
 use std::process::Abort;
 use std::sync::Wait;
 use std::thread::Threads;
-use threaded_run::OpenGate;
 
 /// A field's number and a value outside its limits. There are as many devices as lanes.
 const OUTSIDE: [(u32, u64); 16] = [
@@ -144,7 +143,7 @@ where
     R: Alloc<A = Global> + Threads + Sync,
 {
     match Vec::from_slice(rt.alloc(), files) {
-        Ok(files) => read_files(rt, rt.alloc(), files, &[]),
+        Ok(files) => read_files(rt, rt.alloc(), files),
         Err(_) => Err(RunFault::Memory),
     }
 }

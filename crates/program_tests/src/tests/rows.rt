@@ -4,9 +4,8 @@
 use super::expect::equal_texts;
 use super::plain::plainly;
 use super::runs::{MANY, expect, expect_run, failing, few};
-use far_driver::{Refusal, RunFault};
+use far_driver::{OpenGate, Refusal, RunFault};
 use hash_table::Config;
-use threaded_run::OpenGate;
 
 /// The limit of an object, a file that asks the map alone, and what is written. An object with the pair of `a` and `1` has 10
 /// bytes: its count of 4, and two texts of 3. Keys are in the order of their encoded bytes, and those begin with the length.

@@ -3,14 +3,13 @@ ghost use Rattle.std.specs.Prelude.{◌≡◌, ◌≤◌, IsTrue, vec_len};
 
 use super::expect::{equal, equal_texts, made};
 use far_device::{Device, FakeDevice, FaultyDevice};
-use far_driver::{Hints, RunFault, open_lanes, run_files};
+use far_driver::{Gate, OpenGate, RunFault, open_lanes, run_files};
 use hash_table::Config;
 use std::alloc::Global;
 use std::io::{BufRead, Write};
 use std::process::Abort;
 use std::sync::Wait;
 use std::thread::Threads;
-use threaded_run::{Gate, OpenGate};
 
 /// More names than a run draws.
 pub const MANY: u64 = (1 << 40) - 1;
@@ -94,7 +93,7 @@ where
     R: Threads + Wait + AllocGlobal + Abort + Sync,
 {
     assert!(rt; !files.is_empty() && files.len() <= 64);
-    run_files(rt, *config, devices, files, Hints::none(), gate, out)
+    run_files(rt, *config, devices, files, gate, out)
 }
 
 /// The same, and what was written.
