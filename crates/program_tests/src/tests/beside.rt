@@ -144,7 +144,7 @@ fn the_evictor_has_a_thread(rt: HostRuntime) {
     for _ in 0..4 {
         let (writes, failures) = (made(&rt, writes.clone()), made(&rt, failures.clone()));
         let device = WatchedDevice::new(FakeDevice::new(rt.alloc()), writes, failures);
-        made(&rt, devices.push(device).map_err(|_| "no room"));
+        made(&rt, devices.push(device));
     }
     let gate = UntilWritten { writes };
     expect_run(&rt, &config, devices, &files, &gate, Ok(()), wanted);

@@ -178,10 +178,7 @@ fn second_file_is_not_read(rt: HostRuntime) {
     for failing in 0..3 {
         let first = Faltering::new(b"put a 1", 5, NEVER);
         let second = Faltering::new(b"put b 1\n", 5, failing);
-        let files = made(
-            &rt,
-            Vec::from_array(rt.alloc(), [first, second]).map_err(|_| "memory"),
-        );
+        let files = made(&rt, Vec::from_array(rt.alloc(), [first, second]));
         let devices = lanes(&rt, &settings());
         let mut out = Vec::new(rt.alloc());
         let ended = run_to(&rt, &settings(), devices, files, &OpenGate, &mut out);

@@ -64,7 +64,7 @@ pub fn lanes<R: Alloc<A = Global> + Abort>(rt: &R, config: &Config) -> Vec<FakeD
 /// The devices of a run over this one alone.
 pub fn alone<D: Device, R: Alloc<A = Global> + Abort>(rt: &R, device: D) -> Vec<D> {
     let mut devices = Vec::new(rt.alloc());
-    assert!(rt; devices.push(device).is_ok());
+    made(rt, devices.push(device));
     devices
 }
 

@@ -1,7 +1,0 @@
-use Rattle.version_words.specs.Rows.{limits_of}
-use Rattle.hash_table.specs.Configs.{sizes_of}
-use Rattle.hash_table_tests.proofs.tests.closing.meets.Given as goal
-
--- the row that was just opened
-abbrev pub ghosts-fault_of_close : goal.ghosts-fault_of_close
-ghosts-fault_of_close g a = record { book = a.opening.row.book; names = a.opening.row.names; limits = limits_of (sizes_of a.opening.config) g.D.Device.HONEST }

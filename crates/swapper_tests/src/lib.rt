@@ -1,5 +1,0 @@
-//! The tests of `swapper`, apart from it: they call what everybody may call.
-#![tactic(auto)]
-
-#[cfg(test)]
-mod tests;

@@ -1,0 +1,145 @@
+//! Callers who keep a frame that they emptied.
+
+use super::scene::played;
+use super::script::{Said, Step};
+use super::users::{Answer, MANY, User, few};
+use far_device::Device;
+use hash_table::Refusal;
+use std::sync::Wait;
+use version_words::Naming;
+
+/// Puts the values from 1 to this one, and reclaims the spare of each. How often the put answered the value before, and the
+/// version before was there.
+pub fn put_and_reclaim<J: Naming, D: Device, R: Wait>(
+    rt: &R,
+    user: &mut User<'_, J, D>,
+    key: &[u8],
+    most: u32,
+) -> u32 {
+    let mut right = 0u32;
+    let mut before = None;
+    for value in 1..=most {
+        let put = user.try_put(key, value) == Ok(before);
+        if put && (before.is_none() || user.reclaim(rt) == Some(Ok(true))) {
+            right = right.wrapping_add(1);
+        }
+        before = Some(value);
+    }
+    right
+}
+
+/// Puts by a caller who enters for this.
+pub fn put_by_another<J: Naming, D: Device>(
+    user: &User<'_, J, D>,
+    key: &[u8],
+    value: u32,
+) -> Answer {
+    match User::enter(user.alloc, user.table) {
+        Some(mut another) => another.try_put(key, value),
+        None => Err(Refusal::Memory),
+    }
+}
+
+/// The same by one who recycles.
+pub fn put_by_a_recycler<J: Naming, D: Device>(
+    user: &User<'_, J, D>,
+    key: &[u8],
+    value: u32,
+) -> Answer {
+    match User::enter(user.alloc, user.table) {
+        Some(mut another) => {
+            another.caller.recycle();
+            another.try_put(key, value)
+        }
+        None => Err(Refusal::Memory),
+    }
+}
+
+const TWO_FRAMES_GO_TO_AND_FRO: &[(Step, Said)] = &[
+    (Step::Recycle, Said::Nothing),
+    (Step::PutsAndReclaims(b'a', 1_000), Said::Count(1_000)),
+    (Step::Waiting, Said::Count(0)),
+    (Step::TryGet(b'a'), Said::Value(1_000)),
+    (Step::Seen(2), Said::Nothing),
+    (Step::Seen(3), Said::Nothing),
+    (Step::Free, Said::Count(2)),
+    (Step::Recycle, Said::Nothing),
+    (Step::Free, Said::Count(2)),
+    (Step::Keeps, Said::Is(true)),
+    (Step::StopRecycling, Said::Nothing),
+    (Step::Keeps, Said::Is(false)),
+    (Step::Free, Said::Count(3)),
+    (Step::StopRecycling, Said::Nothing),
+    (Step::Free, Said::Count(3)),
+];
+
+const ONE_FRAME_IS_KEPT_AT_MOST: &[(Step, Said)] = &[
+    (Step::TryPuts(b'a', 3), Said::Count(3)),
+    (Step::Recycle, Said::Nothing),
+    (Step::Keeps, Said::Is(false)),
+    (Step::Reclaim, Said::Is(true)),
+    (Step::Keeps, Said::Is(true)),
+    (Step::Free, Said::Count(1)),
+    (Step::Reclaim, Said::Is(true)),
+    (Step::Free, Said::Count(2)),
+    (Step::TryPut(b'b', 1), Said::Nothing),
+    (Step::Keeps, Said::Is(false)),
+    (Step::Seen(0), Said::Frame(1, 4)),
+    (Step::Free, Said::Count(2)),
+];
+
+const ANOTHER_CALLER_TAKES_A_KEPT_FRAME_LAST: &[(Step, Said)] = &[
+    (Step::Recycle, Said::Nothing),
+    (Step::PutsAndReclaims(b'a', 2), Said::Count(2)),
+    (Step::Free, Said::Count(2)),
+    (Step::PutByAnother(b'b', 1), Said::Nothing),
+    (Step::PutByAnother(b'c', 1), Said::Nothing),
+    (Step::Free, Said::Count(0)),
+    (Step::Seen(0), Said::Nothing),
+    (Step::PutByAnother(b'd', 1), Said::Nothing),
+    (Step::Seen(0), Said::Frame(3, 5)),
+    (Step::TryPut(b'a', 3), Said::Refused(Refusal::NoFrame)),
+    (Step::StopRecycling, Said::Nothing),
+    (Step::Free, Said::Count(0)),
+];
+
+const A_PUT_THAT_FINDS_ITS_FRAME_GONE_TAKES_ANOTHER: &[(Step, Said)] = &[
+    (Step::Recycle, Said::Nothing),
+    (Step::PutsAndReclaims(b'a', 2), Said::Count(2)),
+    (Step::PutByAnother(b'b', 1), Said::Nothing),
+    (Step::PutByAnother(b'c', 1), Said::Nothing),
+    (Step::SwapOut(2), Said::Is(true)),
+    (Step::Reclaim, Said::Is(true)),
+    (Step::TryPut(b'a', 3), Said::Value(2)),
+    (Step::Seen(2), Said::Frame(0, 6)),
+];
+
+const CALLERS_WHO_RECYCLE_BEGIN_FAR_FROM_ONE_ANOTHER: &[(Step, Said)] = &[
+    (Step::Recycle, Said::Nothing),
+    (Step::TryPut(b'a', 1), Said::Nothing),
+    (Step::PutByRecycler(b'b', 1), Said::Nothing),
+    (Step::PutByRecycler(b'c', 1), Said::Nothing),
+    (Step::PutByAnother(b'd', 1), Said::Nothing),
+    (Step::TryPut(b'a', 2), Said::Value(1)),
+    (Step::Seen(0), Said::Frame(0, 1)),
+    (Step::Seen(512), Said::Frame(1, 2)),
+    (Step::Seen(256), Said::Frame(2, 3)),
+    (Step::Seen(1), Said::Frame(3, 4)),
+    (Step::Seen(2), Said::Frame(0, 5)),
+];
+
+/// How many frames there are, and the steps.
+const ROWS: [(u32, &[(Step, Said)]); 5] = [
+    (4, TWO_FRAMES_GO_TO_AND_FRO),
+    (4, ONE_FRAME_IS_KEPT_AT_MOST),
+    (4, ANOTHER_CALLER_TAKES_A_KEPT_FRAME_LAST),
+    (3, A_PUT_THAT_FINDS_ITS_FRAME_GONE_TAKES_ANOTHER),
+    (1_024, CALLERS_WHO_RECYCLE_BEGIN_FAR_FROM_ONE_ANOTHER),
+];
+
+#[test]
+fn kept_frames(rt: HostRuntime) {
+    for (frames, script) in ROWS {
+        played(&rt, few(frames, 4_096, MANY), script);
+    }
+}
