@@ -14,7 +14,7 @@ use swapper::{Evictor, QueueNaming};
 use version_words::Naming;
 
 /// How many calls each thread makes.
-const ROUNDS: u64 = 100_000;
+const ROUNDS: u64 = 20_000;
 
 /// How often one call is tried, and the evictor's thread makes room, while others work.
 const MOST_TRIES: u64 = 1_000_000_000;

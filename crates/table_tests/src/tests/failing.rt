@@ -193,10 +193,8 @@ fn longest(rt: &impl Abort, alloc: Global) -> Vec<u8> {
 const MOST_PAIRS: &[(Step, Said)] = &[
     (Step::Put(b'a', 1), Said::Nothing),
     (Step::SwapOut(0), Said::Is(true)),
-    (Step::ReadThrough(b'a'), Said::Nothing),
     (Step::Put(b'a', 2), Said::Refused(Refusal::TooLong)),
     (Step::PutIf(b'a', None, 2), Said::Refused(Refusal::TooLong)),
-    (Step::Remove(b'a'), Said::Nothing),
     (Step::State(b'a'), Said::In(BucketState::Far(2))),
     (Step::Waiting, Said::Count(1)),
 ];
