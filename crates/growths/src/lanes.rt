@@ -2,23 +2,26 @@
 ghost use Rattle.std.specs.Prelude.{◌≡◌, ◌<◌, ◌≤◌, IfOk, vec_len, false};
 ghost use Rattle.version_words.specs.Rows.{limits_of};
 
-mod cases;
 mod drawn;
 mod keeper;
+mod kept;
 
-use crate::shared::Unvouched;
-use cases::{Case, Prepared};
+use crate::rows::Unvouched;
+use crate::trials::{Answer, Outcome, Tried, answer, tell, tell_of};
 use drawn::{Drawn, Row};
 use far_device::{Device, FakeDevice};
 use far_object::{Format, Memory};
-use growth_trials::{Answer, Outcome, tell, tell_of};
 use keeper::Keeper;
+use kept::Kept;
 use lane_store::{Lane, LaneFault, LaneStore, Receipt};
 use std::alloc::Global;
 use std::io;
 use std::marker::Brand;
 use std::sync::Wait;
 use version_words::{Naming, Opened, Sizes};
+
+/// How many names are written one after another: the table of receipts grows more than once meanwhile.
+const MANY: usize = 20;
 
 /// More names than a call is made with.
 const SIZES: Sizes = Sizes {
@@ -30,11 +33,21 @@ const SIZES: Sizes = Sizes {
 /// The id that a device has bytes at before it is made a lane's.
 const KNOWN: u64 = 1;
 
-/// What a call is made on.
+/// Whether the keeper is one lane, or lanes behind locks.
 #[derive(Clone, Copy)]
 enum Kind {
     Lane,
     Store,
+}
+
+/// Which call is made.
+#[derive(Clone, Copy)]
+enum Call {
+    WriteNew(Format),
+    WriteKnown(Format),
+    WriteMany,
+    Read,
+    Remove,
 }
 
 type NumberLane = Lane<u64, u64, Brand, FakeDevice>;
@@ -81,9 +94,9 @@ fn is_empty(alloc: Global, mut lane: NumberLane) -> bool {
 }
 
 /// Opens a lane, which takes no memory over a device in the process.
-fn open_lane(alloc: Global) -> Result<Outcome, Memory> {
+fn open_lane(alloc: Global) -> Tried {
     match NumberLane::open(alloc, device(alloc)?) {
-        Ok(lane) => Ok(Outcome::at_once(is_empty(alloc, lane))),
+        Ok(lane) => Ok(Outcome::at_once(Answer::of(is_empty(alloc, lane)))),
         Err(_) => Ok(Outcome::Wrong),
     }
 }
@@ -92,38 +105,33 @@ fn open_lane(alloc: Global) -> Result<Outcome, Memory> {
 fn open_over<R: Wait>(rt: &R, alloc: Global, devices: Vec<FakeDevice>) -> Answer
     requires { vec_len devices ≡ 2 }
 {
-    match NumberStore::open(alloc, devices) {
-        Ok(store) => {
-            let first = lacks(rt, alloc, &store, KNOWN);
-            Answer::of(lacks(rt, alloc, &store, KNOWN + 1) && first)
-        }
-        Err(fault) => Answer::refused(fault == LaneFault::Memory),
-    }
+    answer!(
+        NumberStore::open(alloc, devices),
+        store => lacks(rt, alloc, &store, KNOWN) && lacks(rt, alloc, &store, KNOWN + 1),
+        LaneFault::Memory
+    )
 }
 
 /// Opens two lanes, and after a refusal, which drops their devices, two of others.
-fn open_store<R: Wait>(rt: &R, alloc: Global) -> Result<Outcome, Memory> {
-    let devices = (devices(alloc)?, devices(alloc)?);
-    let first = open_over(rt, alloc, devices.0);
-    if first != Answer::Memory {
-        return Ok(Outcome::of(first, first));
-    }
-    Ok(Outcome::of(first, open_over(rt, alloc, devices.1)))
+fn open_store<R: Wait>(rt: &R, alloc: Global) -> Tried {
+    let (first, second) = (devices(alloc)?, devices(alloc)?);
+    Ok(match open_over(rt, alloc, first) {
+        Answer::Memory => Outcome::after_memory(true, open_over(rt, alloc, second)),
+        answer => Outcome::at_once(answer),
+    })
 }
 
-/// An empty lane.
-fn alone<J: Naming>(alloc: Global) -> Result<Keeper<J>, Memory> {
-    match Lane::open(alloc, FakeDevice::new(alloc)) {
-        Ok(lane) => Ok(Keeper::Lane(lane)),
-        Err(_) => Err(Memory),
-    }
-}
-
-/// Two empty lanes.
-fn together<J: Naming>(alloc: Global) -> Result<Keeper<J>, Memory> {
-    match LaneStore::open(alloc, devices(alloc)?) {
-        Ok(store) => Ok(Keeper::Store(store)),
-        Err(_) => Err(Memory),
+/// An empty keeper.
+fn empty_keeper<J: Naming>(alloc: Global, kind: Kind) -> Result<Keeper<J>, Memory> {
+    match kind {
+        Kind::Lane => match Lane::open(alloc, FakeDevice::new(alloc)) {
+            Ok(lane) => Ok(Keeper::Lane(lane)),
+            Err(_) => Err(Memory),
+        },
+        Kind::Store => match LaneStore::open(alloc, devices(alloc)?) {
+            Ok(store) => Ok(Keeper::Store(store)),
+            Err(_) => Err(Memory),
+        },
     }
 }
 
@@ -145,43 +153,56 @@ fn on_row<R: Wait, J: Naming>(
     alloc: Global,
     opened: Opened<u64, u64, Unvouched>,
     kind: Kind,
-    case: Case,
-) -> Result<Outcome, Memory>
+    call: Call,
+) -> Tried
     requires named { (opened.book ≡ J.book) × (opened.names ≡ J.names) × (limits_of opened.sizes false ≡ J.limits) }
 {
-    let names = names::<J>(alloc, opened, case.names())?;
-    let keeper = match kind {
-        Kind::Lane => alone(alloc),
-        Kind::Store => together(alloc),
+    let count = match call {
+        Call::WriteMany => MANY,
+        _ => 2,
     };
-    Prepared::new(alloc, keeper?, names)?.make(rt, case)
+    let names = names::<J>(alloc, opened, count)?;
+    let mut kept = Kept::new(alloc, empty_keeper(alloc, kind)?, names)?;
+    match call {
+        Call::WriteNew(format) => kept.write_new(rt, format),
+        Call::WriteKnown(format) => kept.write_known(rt, format),
+        Call::WriteMany => kept.write_many(rt),
+        Call::Read => kept.read(rt, alloc),
+        Call::Remove => kept.remove(rt),
+    }
 }
 
 /// Makes a call on a keeper, with names of a row that is opened for it.
-fn made<R: Wait>(rt: &R, alloc: Global, kind: Kind, case: Case) -> Result<Outcome, Memory> {
+fn made<R: Wait>(rt: &R, alloc: Global, kind: Kind, call: Call) -> Tried {
     let opened = Opened::<u64, u64, Unvouched>::open(alloc, SIZES)?;
-    on_row::<R, Brand>(rt, alloc, opened, kind, case)
+    on_row::<R, Brand>(rt, alloc, opened, kind, call)
 }
 
 /// Each call on a keeper.
-const CASES: [(&str, Case); 7] = [
-    ("write, a new name, format one", Case::New(Format::One)),
-    ("write, a new name, format two", Case::New(Format::Two)),
-    ("write, a known name, format one", Case::Known(Format::One)),
-    ("write, a known name, format two", Case::Known(Format::Two)),
-    ("write, many names", Case::Many),
-    ("read", Case::Read),
-    ("remove", Case::Remove),
+const CALLS: [(&str, Call); 7] = [
+    ("write, a new name, format one", Call::WriteNew(Format::One)),
+    ("write, a new name, format two", Call::WriteNew(Format::Two)),
+    (
+        "write, a known name, format one",
+        Call::WriteKnown(Format::One),
+    ),
+    (
+        "write, a known name, format two",
+        Call::WriteKnown(Format::Two),
+    ),
+    ("write, many names", Call::WriteMany),
+    ("read", Call::Read),
+    ("remove", Call::Remove),
 ];
 
 /// Makes each call on a keeper and tells of it.
 fn tell_keeper<R: Alloc<A = Global> + Print + Wait>(
     rt: &R,
-    keeper: &str,
+    owner: &str,
     kind: Kind,
 ) -> io::Result<()> {
-    for (call, case) in CASES {
-        tell_of(rt, keeper, call, made(rt, rt.alloc(), kind, case))?;
+    for (name, call) in CALLS {
+        tell_of(rt, owner, name, made(rt, rt.alloc(), kind, call))?;
     }
     Ok(())
 }
@@ -189,7 +210,7 @@ fn tell_keeper<R: Alloc<A = Global> + Print + Wait>(
 /// Makes each call and tells of it.
 pub fn tell_all<R: Alloc<A = Global> + Print + Wait>(rt: &R) -> io::Result<()> {
     tell(rt, "Lane::open", open_lane(rt.alloc()))?;
-    tell_keeper(rt, "Lane", Kind::Lane)?;
+    tell_keeper(rt, "Lane::", Kind::Lane)?;
     tell(rt, "LaneStore::open", open_store(rt, rt.alloc()))?;
-    tell_keeper(rt, "LaneStore", Kind::Store)
+    tell_keeper(rt, "LaneStore::", Kind::Store)
 }

@@ -1,24 +1,26 @@
-//! Makes each public call of objects, devices, the machine, words, frames and lanes that can answer want of memory, and
-//! prints what it answered, a line for each. A call that answers want of memory is made once more, and it is looked at
-//! whether what should stand does.
+//! Makes each public call of the libraries that can answer want of memory, and prints what it answered, a line for each. A
+//! call that answers want of memory is made once more, and it is looked at whether what should stand does.
 //!
-//! `tests/refused_growths.sh` runs this with each of its growths refused in turn.
+//! A script of tests/ runs this with each of its growths refused in turn.
 #![tactic(auto)]
 
 mod devices;
+mod evicting;
 mod lanes;
-mod machines;
+mod machine;
 mod objects;
-mod passes;
-mod shared;
+mod rows;
+mod tables;
+mod trials;
 
 use std::io;
 
 fn main(rt: HostRuntime) -> io::Result<()> {
     objects::tell_all(&rt)?;
     devices::tell_all(&rt)?;
-    machines::tell_all(&rt)?;
-    shared::tell_all(&rt)?;
-    passes::tell_all(&rt)?;
-    lanes::tell_all(&rt)
+    machine::tell_all(&rt)?;
+    rows::tell_all(&rt)?;
+    lanes::tell_all(&rt)?;
+    tables::tell_all(&rt)?;
+    evicting::tell_all(&rt)
 }

@@ -1,10 +1,12 @@
 //! The calls of `far_object`.
 
+use crate::trials::{
+    Answer, Outcome, Tried, answer, is_appended, is_nine, is_pair, is_text, is_value, nine, tell,
+    text, tried,
+};
 use far_object::{FarObject, Format, Memory, Object, ObjectFault, Text, TextFault};
-use growth_trials::{Answer, Outcome, Trial, is_text, tell, text, tried};
 use std::alloc::Global;
 use std::io;
-use std::sync::Wait;
 
 type TextObject = Object<Text, Text>;
 
@@ -31,203 +33,89 @@ const HEADER: &[u8] = &[255, 255, 255, 255, 0, 0, 0, 3, 0, 0, 0, 0, 0, 0, 0, 5];
 /// A text so long that a body which asked for no room at first would grow twice, and could be refused between.
 const LONG: &[u8] = &[97; 100];
 
-/// The object of `a -> 1` and `e -> 2`, for what a call works on.
+/// The object of `a -> 1` and `e -> 2`.
 fn two(alloc: Global) -> Result<TextObject, Memory> {
     Object::read(Vec::from_slice(alloc, TWO)?).map_err(|_| Memory)
 }
 
-/// Which call is made.
-#[derive(Clone, Copy)]
-enum Call {
-    NewText,
-    /// Those that encode or write do so behind the byte 9, which stands after a refusal.
-    EncodeText,
-    EncodeNumber,
-    DecodeText,
-    CopyText,
-    Empty,
-    OfPair,
-    /// Puts a pair beside `a -> 1` and `e -> 2`.
-    WithNew,
-    /// Puts a pair in place of one of them.
-    WithKnown,
-    WithoutKnown,
-    WithoutUnknown,
-    Entries,
-    Value,
-    WriteOne,
-    WriteTwo,
+fn new_text(alloc: Global) -> Outcome {
+    tried!(
+        answer!(Text::new(alloc, b"abc"), made => is_text(&made, b"abc"), TextFault::Memory),
+        true
+    )
 }
 
-impl Call {
-    /// The key that it is made with, or the text.
-    fn key(self) -> &'static [u8] {
-        match self {
-            Call::EncodeText => LONG,
-            Call::CopyText => b"abc",
-            Call::WithNew | Call::WithoutUnknown => b"b",
-            _ => b"a",
-        }
-    }
-
-    /// The value that it is made with.
-    fn value(self) -> &'static [u8] {
-        match self {
-            Call::WithNew | Call::WithKnown => b"3",
-            _ => b"1",
-        }
-    }
-
-    /// The bytes of what it makes: of a text, an object, or behind the byte 9 and what stands before the end.
-    fn wanted(self) -> &'static [u8] {
-        match self {
-            Call::NewText | Call::DecodeText | Call::CopyText => b"abc",
-            Call::EncodeText => LONG,
-            Call::EncodeNumber => &[0, 0, 0, 0, 0, 0, 1, 2],
-            Call::Empty => &[0, 0, 0, 0],
-            Call::OfPair => ONE,
-            Call::WithNew => THREE,
-            Call::WithKnown => CHANGED,
-            Call::WithoutKnown => OTHER,
-            Call::Value => b"1",
-            _ => TWO,
-        }
-    }
-
-    /// What stands between the byte 9 and that.
-    fn front(self) -> &'static [u8] {
-        match self {
-            Call::EncodeText => &[0, 100],
-            Call::WriteTwo => HEADER,
-            _ => &[],
-        }
-    }
+fn encode_text(alloc: Global) -> Tried {
+    let key = text(alloc, LONG)?;
+    let mut out = nine(alloc)?;
+    Ok(tried!(
+        answer!(key.encode(&mut out), () => is_appended(&out, &[0, 100], LONG)),
+        is_nine(&out)
+    ))
 }
 
-/// What the calls are made on.
-#[derive(Drop)]
-struct Prepared {
-    alloc: Global,
-    call: Call,
-    object: TextObject,
-    key: Text,
-    value: Text,
-    out: Vec<u8>,
+fn encode_number(alloc: Global) -> Tried {
+    let mut out = nine(alloc)?;
+    Ok(tried!(
+        answer!(258.encode(&mut out), () => is_appended(&out, &[], &[0, 0, 0, 0, 0, 0, 1, 2])),
+        is_nine(&out)
+    ))
 }
 
-impl Prepared {
-    fn new(alloc: Global, call: Call) -> Result<Prepared, Memory> {
-        Ok(Prepared {
-            alloc,
-            call,
-            object: two(alloc)?,
-            key: text(alloc, call.key())?,
-            value: text(alloc, call.value())?,
-            out: Vec::from_slice(alloc, &[9])?,
-        })
-    }
-
-    /// The text that a call makes.
-    fn text(&self) -> Result<Text, Memory> {
-        match self.call {
-            Call::CopyText => self.key.copy(self.alloc),
-            _ => Text::new(self.alloc, b"abc").map_err(|_| Memory),
-        }
-    }
-
-    /// The object that a call makes.
-    fn object(&self) -> Result<TextObject, Memory> {
-        let (alloc, key) = (self.alloc, &self.key);
-        match self.call {
-            Call::Empty => TextObject::empty(alloc),
-            Call::OfPair => Object::of_pair(alloc, key, &self.value),
-            Call::WithNew | Call::WithKnown => self.with(),
-            _ => self.object.without(alloc, key),
-        }
-    }
-
-    fn with(&self) -> Result<TextObject, Memory> {
-        if self.object.count() != 2 {
-            return Err(Memory);
-        }
-        self.object.with(self.alloc, &self.key, &self.value)
-    }
-
-    /// Makes a call that appends to the list.
-    fn append(&mut self) -> Result<(), Memory> {
-        match self.call {
-            Call::EncodeText => self.key.encode(&mut self.out),
-            Call::EncodeNumber => 258.encode(&mut self.out),
-            Call::WriteOne => self.object.write_at(Format::One, 3, 5, &mut self.out),
-            _ => self.object.write_at(Format::Two, 3, 5, &mut self.out),
-        }
-    }
-
-    /// Whether the list is what the call appends, behind the byte 9.
-    fn is_appended(&self) -> bool {
-        match self.out.split_first() {
-            Some((first, rest)) => {
-                *first == 9 && is_behind(rest, self.call.front(), self.call.wanted())
-            }
-            None => false,
-        }
-    }
+fn decode_text(alloc: Global) -> Outcome {
+    tried!(
+        answer!(
+            Text::decode(alloc, &[0, 3, 97, 98, 99, 7]),
+            (made, count) => count == 5 && is_text(&made, b"abc"),
+            ObjectFault::Memory
+        ),
+        true
+    )
 }
 
-/// Whether the bytes are these in turn.
-fn is_behind(bytes: &[u8], front: &[u8], rest: &[u8]) -> bool {
-    match bytes.split_at_checked(front.len()) {
-        Some((one, two)) => one == front && two == rest,
-        None => false,
-    }
+fn copy_text(alloc: Global) -> Tried {
+    let key = text(alloc, b"abc")?;
+    Ok(tried!(
+        answer!(key.copy(alloc), made => is_text(&made, b"abc")),
+        is_text(&key, b"abc")
+    ))
 }
 
-fn of_text(made: Result<Text, Memory>, wanted: &[u8]) -> Answer {
-    match made {
-        Ok(text) => Answer::of(is_text(&text, wanted)),
-        Err(Memory) => Answer::Memory,
-    }
+fn empty(alloc: Global) -> Outcome {
+    tried!(
+        answer!(TextObject::empty(alloc), made => made.as_bytes() == [0; 4].as_slice()),
+        true
+    )
 }
 
-fn of_decoded(read: Result<(Text, usize), ObjectFault>, wanted: &[u8]) -> Answer {
-    match read {
-        Ok((text, count)) => Answer::of(count == 5 && is_text(&text, wanted)),
-        Err(fault) => Answer::refused(fault == ObjectFault::Memory),
-    }
+fn of_pair(alloc: Global) -> Tried {
+    let (key, value) = (text(alloc, b"a")?, text(alloc, b"1")?);
+    Ok(tried!(
+        answer!(Object::of_pair(alloc, &key, &value), made => made.as_bytes() == ONE),
+        is_text(&key, b"a") && is_text(&value, b"1")
+    ))
 }
 
-fn of_value(found: Result<Option<Text>, Memory>, wanted: &[u8]) -> Answer {
-    match found {
-        Ok(Some(value)) => Answer::of(is_text(&value, wanted)),
-        Ok(None) => Answer::Wrong,
-        Err(Memory) => Answer::Memory,
+/// Puts the value 3 at the key.
+fn with(alloc: Global, key: &[u8], wanted: &[u8]) -> Tried {
+    let (key, value) = (text(alloc, key)?, text(alloc, b"3")?);
+    let object = two(alloc)?;
+    if object.count() != 2 {
+        return Err(Memory);
     }
+    Ok(tried!(
+        answer!(object.with(alloc, &key, &value), made => made.as_bytes() == wanted),
+        object.as_bytes() == TWO
+    ))
 }
 
-fn of_object(made: Result<TextObject, Memory>, wanted: &[u8]) -> Answer {
-    match made {
-        Ok(object) => Answer::of(object.as_bytes() == wanted),
-        Err(Memory) => Answer::Memory,
-    }
-}
-
-fn of_entries(made: Result<Vec<(Text, Text)>, Memory>) -> Answer {
-    match made {
-        Ok(entries) => Answer::of(are_two(&entries)),
-        Err(Memory) => Answer::Memory,
-    }
-}
-
-fn of_append(done: Result<(), Memory>) -> Answer {
-    match done {
-        Ok(()) => Answer::Right,
-        Err(Memory) => Answer::Memory,
-    }
-}
-
-/// Whether the pair is this one.
-pub fn is_pair(pair: &(Text, Text), key: &[u8], value: &[u8]) -> bool {
-    is_text(&pair.0, key) && is_text(&pair.1, value)
+fn without(alloc: Global, key: &[u8], wanted: &[u8]) -> Tried {
+    let key = text(alloc, key)?;
+    let object = two(alloc)?;
+    Ok(tried!(
+        answer!(object.without(alloc, &key), made => made.as_bytes() == wanted),
+        object.as_bytes() == TWO
+    ))
 }
 
 fn are_two(entries: &[(Text, Text)]) -> bool {
@@ -237,56 +125,64 @@ fn are_two(entries: &[(Text, Text)]) -> bool {
     }
 }
 
-impl Trial for Prepared {
-    fn call<R: Wait>(&mut self, _rt: &R) -> Answer {
-        let alloc = self.alloc;
-        let wanted = self.call.wanted();
-        match self.call {
-            Call::NewText | Call::CopyText => of_text(self.text(), wanted),
-            Call::DecodeText => of_decoded(Text::decode(alloc, &[0, 3, 97, 98, 99, 7]), wanted),
-            Call::Entries => of_entries(self.object.entries(alloc)),
-            Call::Value => of_value(self.object.value(alloc, &self.key), wanted),
-            Call::EncodeText | Call::EncodeNumber | Call::WriteOne | Call::WriteTwo => {
-                of_append(self.append()).and(self.is_appended())
-            }
-            _ => of_object(self.object(), wanted),
-        }
-    }
-
-    fn stands<R: Wait>(&mut self, _rt: &R) -> bool {
-        self.object.as_bytes() == TWO
-            && self.out.as_slice() == [9].as_slice()
-            && is_text(&self.key, self.call.key())
-    }
+fn entries(alloc: Global) -> Tried {
+    let object = two(alloc)?;
+    Ok(tried!(
+        answer!(object.entries(alloc), made => are_two(&made)),
+        object.as_bytes() == TWO
+    ))
 }
 
-fn made<R: Wait>(rt: &R, alloc: Global, call: Call) -> Result<Outcome, Memory> {
-    Ok(tried(rt, &mut Prepared::new(alloc, call)?))
+fn value(alloc: Global) -> Tried {
+    let key = text(alloc, b"a")?;
+    let object = two(alloc)?;
+    Ok(tried!(
+        answer!(object.value(alloc, &key), made => is_value(&made, Some(b"1"))),
+        object.as_bytes() == TWO
+    ))
 }
 
-/// Each call.
-const CALLS: [(&str, Call); 15] = [
-    ("Text::new", Call::NewText),
-    ("Text::encode", Call::EncodeText),
-    ("u64::encode", Call::EncodeNumber),
-    ("Text::decode", Call::DecodeText),
-    ("Text::copy", Call::CopyText),
-    ("Object::empty", Call::Empty),
-    ("Object::of_pair", Call::OfPair),
-    ("Object::with, a new key", Call::WithNew),
-    ("Object::with, a known key", Call::WithKnown),
-    ("Object::without, a known key", Call::WithoutKnown),
-    ("Object::without, an unknown key", Call::WithoutUnknown),
-    ("Object::entries", Call::Entries),
-    ("Object::value", Call::Value),
-    ("Object::write_at, format one", Call::WriteOne),
-    ("Object::write_at, format two", Call::WriteTwo),
-];
+fn write_at(alloc: Global, format: Format, front: &[u8]) -> Tried {
+    let object = two(alloc)?;
+    let mut out = nine(alloc)?;
+    Ok(tried!(
+        answer!(object.write_at(format, 3, 5, &mut out), () => is_appended(&out, front, TWO)),
+        object.as_bytes() == TWO && is_nine(&out)
+    ))
+}
 
 /// Makes each call and tells of it.
-pub fn tell_all<R: Alloc<A = Global> + Print + Wait>(rt: &R) -> io::Result<()> {
-    for (name, call) in CALLS {
-        tell(rt, name, made(rt, rt.alloc(), call))?;
-    }
-    Ok(())
+pub fn tell_all<R: Alloc<A = Global> + Print>(rt: &R) -> io::Result<()> {
+    let alloc = rt.alloc();
+    tell(rt, "Text::new", Ok(new_text(alloc)))?;
+    tell(rt, "Text::encode", encode_text(alloc))?;
+    tell(rt, "u64::encode", encode_number(alloc))?;
+    tell(rt, "Text::decode", Ok(decode_text(alloc)))?;
+    tell(rt, "Text::copy", copy_text(alloc))?;
+    tell(rt, "Object::empty", Ok(empty(alloc)))?;
+    tell(rt, "Object::of_pair", of_pair(alloc))?;
+    tell(rt, "Object::with, a new key", with(alloc, b"b", THREE))?;
+    tell(rt, "Object::with, a known key", with(alloc, b"a", CHANGED))?;
+    tell(
+        rt,
+        "Object::without, a known key",
+        without(alloc, b"a", OTHER),
+    )?;
+    tell(
+        rt,
+        "Object::without, an unknown key",
+        without(alloc, b"b", TWO),
+    )?;
+    tell(rt, "Object::entries", entries(alloc))?;
+    tell(rt, "Object::value", value(alloc))?;
+    tell(
+        rt,
+        "Object::write_at, format one",
+        write_at(alloc, Format::One, &[]),
+    )?;
+    tell(
+        rt,
+        "Object::write_at, format two",
+        write_at(alloc, Format::Two, HEADER),
+    )
 }

@@ -4,7 +4,8 @@ ghost use Rattle.table_core.specs.BucketWords.{place_of, far_place};
 ghost use Rattle.table_core.specs.Logs.{contents};
 ghost use Rattle.version_words.specs.Rows.{limits_of};
 
-use crate::shared::Unvouched;
+use super::keeper::Found;
+use crate::rows::Unvouched;
 use far_object::{Format, Memory, Object};
 use lane_store::Receipt;
 use std::alloc::Global;
@@ -43,7 +44,11 @@ impl<J: Naming> Row<J> {
             return Err(Memory);
         }
         match self.words.name(&mut self.pass, BUCKET, &object) {
-            Ok(name) => Ok(Drawn { name, object }),
+            Ok(name) => Ok(Drawn {
+                name,
+                object,
+                format: Format::One,
+            }),
             Err(_) => Err(Memory),
         }
     }
@@ -59,17 +64,18 @@ impl<J: Naming> Row<J> {
     }
 }
 
-/// A name with the object that it was drawn for.
+/// A name with the object that it was drawn for, and the format that this is written in.
 #[derive(Drop)]
 pub struct Drawn<J: Naming> {
     pub name: Name<u64, u64, J>,
     pub object: Object<u64, u64>,
+    pub format: Format,
     ghost own: { contents name.front name.number ≡ object },
 }
 
 impl<J: Naming> Drawn<J> {
     /// Whether the receipt is the name's.
-    pub fn is_of(&self, receipt: &Receipt<u64, u64, J>) -> bool {
+    fn is_of(&self, receipt: &Receipt<u64, u64, J>) -> bool {
         receipt.number() == self.name.number() && receipt.bucket() == self.name.bucket()
     }
 
@@ -80,9 +86,9 @@ impl<J: Naming> Drawn<J> {
         (0xffff_ffff << 96) | (bucket << 64) | number
     }
 
-    /// Whether these bytes are the object in this format.
-    pub fn is_spelled(&self, bytes: &[u8], format: Format) -> bool {
-        match format {
+    /// Whether these bytes are the object in its format.
+    fn is_spelled(&self, bytes: &[u8]) -> bool {
+        match self.format {
             Format::One => bytes == self.object.as_bytes(),
             Format::Two => self.is_behind_header(bytes),
         }
@@ -94,6 +100,14 @@ impl<J: Naming> Drawn<J> {
                 u128::from_be_bytes(*header) == self.header() && object == self.object.as_bytes()
             }
             None => false,
+        }
+    }
+
+    /// Whether a read answered the name's receipt, and its object.
+    pub fn is_found(&self, found: &Found<J>, bytes: &[u8]) -> bool {
+        match found {
+            Ok(Some(receipt)) => self.is_of(receipt) && self.is_spelled(bytes),
+            _ => false,
         }
     }
 

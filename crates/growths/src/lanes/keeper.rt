@@ -2,7 +2,6 @@
 
 use super::drawn::Drawn;
 use far_device::FakeDevice;
-use far_object::Format;
 use lane_store::{Lane, LaneFault, LaneStore, Receipt};
 use std::sync::Wait;
 use version_words::Naming;
@@ -18,15 +17,10 @@ pub enum Keeper<J: Naming> {
 }
 
 impl<J: Naming> Keeper<J> {
-    pub fn write<R: Wait>(
-        &mut self,
-        rt: &R,
-        drawn: &Drawn<J>,
-        format: Format,
-    ) -> Result<(), LaneFault> {
+    pub fn write<R: Wait>(&mut self, rt: &R, drawn: &Drawn<J>) -> Result<(), LaneFault> {
         match self {
-            Keeper::Lane(lane) => lane.write(&drawn.name, &drawn.object, format),
-            Keeper::Store(store) => store.write(rt, &drawn.name, &drawn.object, format),
+            Keeper::Lane(lane) => lane.write(&drawn.name, &drawn.object, drawn.format),
+            Keeper::Store(store) => store.write(rt, &drawn.name, &drawn.object, drawn.format),
         }
     }
 

@@ -1,4 +1,4 @@
-use Rattle.table_growths.proofs.evicting.on_table.Given as goal
+use Rattle.growths.proofs.evicting.make.Given as goal
 
 -- the queue that was just opened
 abbrev pub ghosts-on_queue : goal.ghosts-on_queue

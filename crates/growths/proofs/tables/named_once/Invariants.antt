@@ -1,7 +1,7 @@
 use Rattle.std.specs.Prelude.{true}
 use Rattle.version_words.specs.Rows.{limits_of}
 use Rattle.hash_table.specs.Configs.{sizes_of}
-use Rattle.table_growths.proofs.tables.named_once.Given as goal
+use Rattle.growths.proofs.tables.named_once.Given as goal
 
 -- the row that was opened
 abbrev pub ghosts-is_named : goal.ghosts-is_named

@@ -1,4 +1,4 @@
-use Rattle.table_growths.proofs.evicting.named_once.Given as goal
+use Rattle.growths.proofs.evicting.named_once.Given as goal
 
 -- the queue that was just opened
 abbrev pub ghosts-is_named : goal.ghosts-is_named
