@@ -10,14 +10,13 @@
 # 0 gets in a hundred calls, the others puts; 1, 2 and 4 threads; memory for all, a half, a quarter and an eighth of the
 # buckets, or of the pairs. Both programs read keys and draws from the same files. Every answer is copied.
 #
-# It needs crates/farbench/out/farbench, which `cd crates/farbench && rt run` proves and builds; cargo; and the
-# distribution's package librust-dashmap-dev, from which the peers are built without a network. COMPARE_UNDER is a command
-# under which each measured program is started, as `taskset -c 0-3`. What the runs print is kept in the file COMPARE_RUNS,
-# where that is set: runs are added to those that it has, so that rounds may be made at different times.
+# It needs bin/build, which has farbench; cargo; and the distribution's package librust-dashmap-dev, from which the peers are
+# built without a network. COMPARE_UNDER is a command under which each measured program is started, as `taskset -c 0-3`.
+# What the runs print is kept in the file COMPARE_RUNS, where that is set: runs are added to those that it has, so that
+# rounds may be made at different times.
 set -euo pipefail
 
 bench=$(cd "$(dirname "$(readlink -f "${BASH_SOURCE[0]}")")" && pwd)
-program=$bench/../crates/farbench/out/farbench
 registry=/usr/share/cargo/registry
 buckets=65536
 # Buckets without a key.
@@ -51,14 +50,12 @@ fi
 rounds=${1:-$rounds}
 results=${COMPARE_RUNS:-$work/runs}
 
-if [ ! -x "$program" ]; then
-    say "build the table's program first: cd crates/farbench && rt run"
-    exit 1
-fi
 if ! command -v cargo >/dev/null || ! compgen -G "$registry/dashmap-*" >/dev/null; then
     say "the peers need cargo and the package librust-dashmap-dev: apt-get install cargo librust-dashmap-dev"
     exit 1
 fi
+
+program=$("$bench/../bin/build" farbench)
 
 # Builds the peers from the distribution's crates.
 mkdir -p "$work/peers/.cargo"

@@ -15,6 +15,11 @@ const DRAW: usize = 4;
 /// Bytes of a key.
 const KEY: usize = 16;
 
+/// How many keys there are.
+pub fn key_count(keys: &[u8]) -> usize {
+    keys.len() / KEY
+}
+
 /// The key of this number.
 pub fn key_at(alloc: Global, keys: &[u8], number: usize) -> Result<Text> {
     let from = number.wrapping_mul(KEY);

@@ -9,38 +9,23 @@ use std::thread;
 use swapper::{Evictor, QueueNaming, SpareQueue};
 use version_words::Naming;
 
+pub type Table<J> = FarTable<Text, Text, J, FakeDevice>;
+
 /// The table, the queue of spares to the evictor, and the evictor.
 #[derive(Drop)]
 pub struct Shared<J: Naming, B: QueueNaming> {
-    pub table: FarTable<Text, Text, J, FakeDevice>,
-    queue: SpareQueue<Text, Text, J, B>,
-    evictor: Mutex<Evictor<Text, Text, J, B>>,
+    pub table: Table<J>,
+    pub queue: SpareQueue<Text, Text, J, B>,
+    pub evictor: Mutex<Evictor<Text, Text, J, B>>,
     /// How many frames there are.
     pub frames: u32,
-    /// How many frames the evictor's thread keeps free. At 0 nothing is swapped out.
+    /// How many frames the evictor's thread keeps free. At 0, where each bucket has a frame, nothing is swapped out.
     pub reserve: u32,
     /// Whether the users have ended.
     pub ended: AtomicBool,
 }
 
 impl<J: Naming, B: QueueNaming> Shared<J, B> {
-    pub fn new(
-        table: FarTable<Text, Text, J, FakeDevice>,
-        queue: SpareQueue<Text, Text, J, B>,
-        evictor: Evictor<Text, Text, J, B>,
-        frames: u32,
-        reserve: u32,
-    ) -> Shared<J, B> {
-        Shared {
-            table,
-            queue,
-            evictor: Mutex::new(evictor),
-            frames,
-            reserve,
-            ended: AtomicBool::new(false),
-        }
-    }
-
     /// What helps where no frame was free: a turn of the evictor, or else time.
     pub fn make_room<R: Wait>(&self, rt: &R) {
         if self.reserve == 0 {

@@ -1,10 +1,13 @@
 //! One thread's calls.
 
+use super::entered;
+use super::files::{calls_each, draw_at, key_at};
 use super::shared::Shared;
-use crate::together::{Lost, Runner};
+use crate::timing::Runner;
+use anyhow::{Result, bail};
 use far_object::Text;
 use hash_table::{Caller, Refusal};
-use std::alloc::{AllocError, Global};
+use std::alloc::Global;
 use std::sync::Wait;
 use swapper::{QueueNaming, RoomMaker};
 use version_words::Naming;
@@ -15,35 +18,80 @@ const MOST_TRIES: u32 = 1_000_000;
 /// The most spares that wait in a caller.
 const MOST_SPARES: u32 = 64;
 
-/// The keys in the order of calls, so that each is in the cache when it is called, and whether each call is a get.
-#[derive(Drop)]
-pub struct Calls {
-    pub keys: Vec<Text>,
-    pub gets: Vec<bool>,
-}
-
-impl Calls {
-    pub fn push(&mut self, key: Text, is_get: bool) -> Result<(), AllocError> {
-        self.keys.push(key)?;
-        self.gets.push(is_get)?;
-        Ok(())
-    }
-}
-
 /// A caller that makes room by itself.
 #[derive(Drop)]
 pub struct Hand<J: Naming> {
-    pub caller: Caller<Text, Text, J>,
-    pub room: RoomMaker,
+    caller: Caller<Text, Text, J>,
+    room: RoomMaker,
 }
 
-/// A caller with its calls.
+impl<J: Naming> Hand<J> {
+    pub fn new<B: QueueNaming>(
+        alloc: Global,
+        shared: &Shared<J, B>,
+        number: u32,
+    ) -> Result<Hand<J>> {
+        if shared.frames == 0 {
+            bail!("there are no frames");
+        }
+        let Ok(room) = RoomMaker::open(alloc, shared.frames, number) else {
+            bail!("there is no memory for a clock");
+        };
+        Ok(Hand {
+            caller: entered(&shared.table)?,
+            room,
+        })
+    }
+}
+
+/// A caller with its calls: the keys in their order, so that each is in the cache when it is called, and whether it is a get.
 #[derive(Drop)]
 pub struct User<J: Naming> {
-    pub alloc: Global,
-    pub hand: Hand<J>,
-    pub calls: Calls,
-    pub value: Text,
+    alloc: Global,
+    hand: Hand<J>,
+    calls: Vec<(Text, bool)>,
+    value: Text,
+}
+
+impl<J: Naming> User<J> {
+    /// One with the calls of this part of the draws, of which so many in a hundred are gets.
+    pub fn new<B: QueueNaming>(
+        alloc: Global,
+        shared: &Shared<J, B>,
+        keys: &[u8],
+        value: &Text,
+        draws: &[u8],
+        part: u32,
+        gets: u32,
+    ) -> Result<User<J>> {
+        let mut hand = Hand::new(alloc, shared, part)?;
+        // A user who reclaims its own spares fills the frame that it emptied.
+        hand.caller.recycle();
+        Ok(User {
+            alloc,
+            hand,
+            calls: calls_of(alloc, keys, draws, part, gets)?,
+            value: Text::new(alloc, value.as_bytes())?,
+        })
+    }
+}
+
+fn calls_of(
+    alloc: Global,
+    keys: &[u8],
+    draws: &[u8],
+    part: u32,
+    gets: u32,
+) -> Result<Vec<(Text, bool)>> {
+    let count = calls_each(draws)? as usize;
+    let mut calls = Vec::with_capacity(alloc, count)?;
+    let first = (part as usize).wrapping_mul(count);
+    for at in 0..count {
+        let draw = draw_at(draws, first.wrapping_add(at))?;
+        let key = key_at(alloc, keys, (draw & 0xff_ffff) as usize)?;
+        calls.push((key, (draw >> 24) < gets))?;
+    }
+    Ok(calls)
 }
 
 /// Reclaims what waits in the caller, up to a spare that comes back.
@@ -114,38 +162,25 @@ fn get<R: Wait, J: Naming, B: QueueNaming>(
     found
 }
 
-/// Makes the call of this number.
-fn make<R: Wait, J: Naming, B: QueueNaming>(
-    rt: &R,
-    shared: &Shared<J, B>,
-    user: &mut User<J>,
-    at: usize,
-) -> bool {
-    let (Some(key), Some(is_get)) = (user.calls.keys.get(at), user.calls.gets.get(at)) else {
-        return false;
-    };
-    if *is_get {
-        get(rt, user.alloc, shared, &mut user.hand.caller, key)
-    } else {
-        put(rt, user.alloc, shared, &mut user.hand, key, &user.value)
-    }
-}
-
 impl<J: Naming, B: QueueNaming> Runner<Shared<J, B>> for User<J> {
-    fn run<R: Wait>(&mut self, rt: &R, shared: &Shared<J, B>, rounds: u32) -> Lost {
-        let mut lost = Lost::NONE;
-        // A user who reclaims its own spares fills the frame that it emptied.
-        self.hand.caller.recycle();
-        for at in 0..rounds {
-            lost = lost.unless(make(rt, shared, self, at as usize));
+    fn call<R: Wait>(&mut self, rt: &R, shared: &Shared<J, B>, number: u32) -> bool {
+        let Some((key, is_get)) = self.calls.get(number as usize) else {
+            return false;
+        };
+        if *is_get {
+            get(rt, self.alloc, shared, &mut self.hand.caller, key)
+        } else {
+            put(rt, self.alloc, shared, &mut self.hand, key, &self.value)
         }
-        // A reader may still be in the frame of a spare: what is dropped with the caller stays taken.
+    }
+
+    /// A reader may still be in the frame of a spare: what is dropped with the caller stays taken.
+    fn end<R: Wait>(&mut self, rt: &R, shared: &Shared<J, B>) {
         for _ in 0..MOST_TRIES {
             if self.hand.caller.limbo_len() == 0 {
                 break;
             }
             reclaim(rt, shared, &mut self.hand.caller);
         }
-        lost
     }
 }

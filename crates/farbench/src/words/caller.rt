@@ -5,8 +5,9 @@ ghost use Rattle.far_object.specs.Encodings.{enc_u64};
 ghost use Rattle.table_core.specs.Logs.{word};
 ghost use Rattle.version_words.specs.Rows.{limits_of};
 
-use crate::together::{Lost, Runner};
-use crate::unvouched::Unvouched;
+use crate::timing::{MOST_THREADS, Runner};
+use crate::words::Unvouched;
+use anyhow::{Result, bail};
 use far_object::{Object, bucket_of};
 use std::sync::Wait;
 use version_words::{Change, Moved, Naming, Opened, Pass, Probe, Words};
@@ -33,10 +34,21 @@ impl<J: Naming> Row<J> {
     }
 }
 
+/// What is called.
+#[derive(Clone, Copy)]
+pub enum Call {
+    Look,
+    /// Finds the word that was seen still there.
+    Check,
+    /// Draws a name and installs it.
+    Put,
+}
+
 /// A pass at one bucket, with the word that it has seen there last.
 #[derive(Drop)]
 pub struct Caller<J: Naming> {
     pass: Pass<u64, u64, J>,
+    call: Call,
     key: u64,
     own_bucket: u32,
     last_word: u64,
@@ -45,21 +57,18 @@ pub struct Caller<J: Naming> {
     ghost stands: { word enc_u64 J.limits.buckets pass.front own_bucket ≡ last_word },
 }
 
-/// How a put ended.
-enum Put {
-    Installed,
-    NoName,
-    Moved,
-}
-
 impl<J: Naming> Caller<J> {
-    /// A new pass at the bucket of the key, if one is left.
-    pub fn enter(row: &Row<J>, key: u64) -> Option<Caller<J>> {
-        let mut pass = row.words.enter().ok()?;
+    /// A new pass for this thread, at a word 128 bytes from the next thread's: none share a cache line.
+    pub fn enter(row: &Row<J>, thread: u32, call: Call) -> Result<Caller<J>> {
+        let Ok(mut pass) = row.words.enter() else {
+            bail!("no pass is left");
+        };
+        let key = u64::from(thread % MOST_THREADS) * 16;
         let own_bucket = bucket_of(&key, row.words.buckets());
         let last_word = row.words.look(&mut pass, own_bucket);
-        Some(Caller {
+        Ok(Caller {
             pass,
+            call,
             key,
             own_bucket,
             last_word,
@@ -84,11 +93,11 @@ impl<J: Naming> Caller<J> {
     }
 
     /// Draws a name and installs it in place of the last word. Where either is lost, the word that stands is looked up.
-    fn put(&mut self, row: &Row<J>) -> Put {
+    fn put(&mut self, row: &Row<J>) -> bool {
         let words = &row.words;
         let Ok(name) = words.name(&mut self.pass, self.own_bucket, &row.object) else {
             self.last_word = words.look(&mut self.pass, self.own_bucket);
-            return Put::NoName;
+            return false;
         };
         let change = Change::Put(&self.key, &self.key);
         match words.install(
@@ -101,76 +110,26 @@ impl<J: Naming> Caller<J> {
         ) {
             Ok(installed) => {
                 self.last_word = installed.word;
-                Put::Installed
+                true
             }
             Err((Moved, name)) => {
                 let _ = name.give_up(FRAME);
                 self.last_word = words.look(&mut self.pass, self.own_bucket);
-                Put::Moved
+                false
             }
         }
     }
 }
 
-/// Looks.
-#[derive(Drop)]
-pub struct Looks<J: Naming>(Caller<J>);
-
-impl<J: Naming> From<Caller<J>> for Looks<J> {
-    fn from(caller: Caller<J>) -> Looks<J> {
-        Looks(caller)
-    }
-}
-
-impl<J: Naming> Runner<Row<J>> for Looks<J> {
-    fn run<R: Wait>(&mut self, _rt: &R, row: &Row<J>, rounds: u32) -> Lost {
-        for _ in 0..rounds {
-            self.0.look(row);
-        }
-        Lost::NONE
-    }
-}
-
-/// Finds the word that was seen still there.
-#[derive(Drop)]
-pub struct Checks<J: Naming>(Caller<J>);
-
-impl<J: Naming> From<Caller<J>> for Checks<J> {
-    fn from(caller: Caller<J>) -> Checks<J> {
-        Checks(caller)
-    }
-}
-
-impl<J: Naming> Runner<Row<J>> for Checks<J> {
-    fn run<R: Wait>(&mut self, _rt: &R, row: &Row<J>, rounds: u32) -> Lost {
-        let mut lost = Lost::NONE;
-        for _ in 0..rounds {
-            lost = lost.unless(self.0.check(row));
-        }
-        lost
-    }
-}
-
-/// Draws names and installs them.
-#[derive(Drop)]
-pub struct Puts<J: Naming>(Caller<J>);
-
-impl<J: Naming> From<Caller<J>> for Puts<J> {
-    fn from(caller: Caller<J>) -> Puts<J> {
-        Puts(caller)
-    }
-}
-
-impl<J: Naming> Runner<Row<J>> for Puts<J> {
-    fn run<R: Wait>(&mut self, _rt: &R, row: &Row<J>, rounds: u32) -> Lost {
-        let mut lost = Lost::NONE;
-        for _ in 0..rounds {
-            match self.0.put(row) {
-                Put::Installed => {}
-                Put::NoName => lost.names = lost.names.wrapping_add(1),
-                Put::Moved => lost.words = lost.words.wrapping_add(1),
+impl<J: Naming> Runner<Row<J>> for Caller<J> {
+    fn call<R: Wait>(&mut self, _rt: &R, row: &Row<J>, _number: u32) -> bool {
+        match self.call {
+            Call::Look => {
+                self.look(row);
+                true
             }
+            Call::Check => self.check(row),
+            Call::Put => self.put(row),
         }
-        lost
     }
 }

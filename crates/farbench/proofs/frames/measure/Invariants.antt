@@ -3,5 +3,5 @@ use Rattle.version_words.specs.Rows.{limits_of}
 use Rattle.farbench.proofs.frames.measure.Given as goal
 
 -- the row that was just opened
-abbrev pub ghosts-table : goal.ghosts-table
-ghosts-table g a = record { book = a.opened.book; names = a.opened.names; limits = limits_of a.opened.sizes false }
+abbrev pub ghosts-on_opened : goal.ghosts-on_opened
+ghosts-on_opened g a = record { book = a.opened.book; names = a.opened.names; limits = limits_of a.opened.sizes false }
