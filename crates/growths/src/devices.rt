@@ -1,7 +1,7 @@
 //! The calls of each device of `far_device`, over a device in the process.
 
 use crate::trials::{
-    Answer, Outcome, Tried, answer, behind_nine, is_nine, nine, tell, tell_of, tried,
+    Answer, Outcome, Tried, answer, is_appended, is_nine, nine, tell, tell_of, tried,
 };
 use far_device::{
     CannedDevice, Device, DeviceFault, FakeDevice, FaultyDevice, LyingDevice, WatchedDevice,
@@ -52,6 +52,10 @@ struct Tested<'s, D> {
     seen: Vec<u8>,
 }
 
+fn is_same(seen: &[u8], wanted: &[u8]) -> bool {
+    seen == wanted
+}
+
 impl<D: Device> Tested<'_, D> {
     /// Whether the id has bytes, which are then seen.
     fn look(&mut self, id: u64) -> Option<bool> {
@@ -61,12 +65,12 @@ impl<D: Device> Tested<'_, D> {
 
     /// Whether the id has its bytes of before.
     fn has_old(&mut self, id: u64) -> bool {
-        self.look(id) == Some(true) && self.seen.as_slice() == self.shown.old
+        self.look(id) == Some(true) && is_same(&self.seen, self.shown.old)
     }
 
     /// Whether the id has what a call wrote.
     fn has_written(&mut self, id: u64) -> bool {
-        self.look(id) == Some(true) && self.seen.as_slice() == self.shown.written
+        self.look(id) == Some(true) && is_same(&self.seen, self.shown.written)
     }
 
     /// Whether the id has none.
@@ -114,7 +118,7 @@ impl<D: Device> Tested<'_, D> {
     fn read(&mut self, out: &mut Vec<u8>) -> Outcome {
         tried!(
             answer!(self.device.read(KNOWN, out), found => found, DeviceFault::Memory).and(
-                behind_nine(out) == Some(self.shown.old)
+                is_appended(out, &[], self.shown.old)
             ),
             is_nine(out) && self.has_old(KNOWN)
         )

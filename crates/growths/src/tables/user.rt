@@ -152,16 +152,16 @@ impl<'t, J: Naming> User<'t, J> {
     fn holds(&mut self, value: Option<&[u8]>) -> bool {
         match self.state() {
             BucketState::Empty(_) => value.is_none(),
-            BucketState::Far(_) => value == Some(OLD),
+            BucketState::Far(_) => is_old(value),
             BucketState::Local(_) => self.shows(value),
         }
     }
 
-    /// Whether a scope shows it, behind two bytes of length.
+    /// Whether a scope shows it.
     fn shows(&mut self, value: Option<&[u8]>) -> bool {
         match self.table.open_scope(&mut self.caller, &KEY) {
             Ok(Some(scope)) => {
-                let is_shown = scope.bytes().get(2..) == value;
+                let is_shown = is_spelled(scope.bytes(), value);
                 scope.close();
                 is_shown
             }
@@ -301,6 +301,22 @@ impl<'t, J: Naming> User<'t, J> {
             answer!(self.pairs_in_once(rt), pairs => is_pair(&pairs), Refusal::Memory),
             self.holds(Some(OLD))
         )
+    }
+}
+
+/// Whether it is the old value.
+fn is_old(value: Option<&[u8]>) -> bool {
+    match value {
+        Some(value) => value == OLD,
+        None => false,
+    }
+}
+
+/// Whether the bytes are this value, behind two bytes of length.
+fn is_spelled(bytes: &[u8], value: Option<&[u8]>) -> bool {
+    match (bytes.split_first_chunk::<2>(), value) {
+        (Some((_, text)), Some(value)) => text == value,
+        _ => false,
     }
 }
 
