@@ -31,13 +31,13 @@ use version_words::{Naming, Pass, empty_holds, seen_answers};
 
 impl<K: FarObject, V: FarObject, J: Naming, D: Device> FarTable<K, V, J, D> {
     /// What the operation makes of the contents of a word that was seen, which lie in a frame.
-    fn build_local(
+    fn build_local<'a>(
         &self,
         alloc: Global,
         pass: &Pass<K, V, J>,
         b: u32,
         old: u64,
-        edit: &Edit<'_, K, V>,
+        operation: &Operation<&'a K, &'a V>,
     ) -> Result<Built<K, V>, Refusal>
         requires lawful { IsLawful K.enc V.enc J.limits pass.now.front }
         requires seen { WasSeen K.enc J.limits.buckets pass.now.front b old }
@@ -70,14 +70,14 @@ impl<K: FarObject, V: FarObject, J: Naming, D: Device> FarTable<K, V, J, D> {
     }
 
     /// Installs what was built over the word that was seen, or finds that word still there where it is left.
-    fn settle(
+    fn settle<'a>(
         &self,
         pass: &mut Pass<K, V, J>,
         limbo: &mut Limbo<K, V, J>,
         b: u32,
         old: u64,
         built: Built<K, V>,
-        edit: &Edit<'_, K, V>,
+        operation: &Operation<&'a K, &'a V>,
     ) -> Result<Option<V>, Refusal>
         requires bucket { (b < J.limits.buckets) × (bucket K.enc J.limits.buckets (key_of (edited edit.now)) ≡ b) }
         requires lawful { IsLawful K.enc V.enc J.limits pass.old.front }
@@ -114,11 +114,11 @@ impl<K: FarObject, V: FarObject, J: Naming, D: Device> FarTable<K, V, J, D> {
     }
 
     /// One try of a change, from a frame.
-    fn try_change(
+    fn try_change<'a>(
         &self,
         alloc: Global,
         caller: &mut Caller<K, V, J>,
-        edit: &Edit<'_, K, V>,
+        operation: &Operation<&'a K, &'a V>,
     ) -> Result<Option<V>, Refusal>
         ensures lawful { IsLawful K.enc V.enc J.limits caller.new.pass.front }
         ensures limbo { AtMostOneMore caller.old.limbo caller.new.limbo }
@@ -145,14 +145,14 @@ impl<K: FarObject, V: FarObject, J: Naming, D: Device> FarTable<K, V, J, D> {
     }
 
     // What the operation makes of the contents of a word that was seen, wherever they lie.
-    fn build_anywhere<R: Wait>(
+    fn build_anywhere<'a, R: Wait>(
         &self,
         rt: &R,
         alloc: Global,
         pass: &Pass<K, V, J>,
         b: u32,
         old: u64,
-        edit: &Edit<'_, K, V>,
+        operation: &Operation<&'a K, &'a V>,
     ) -> Result<Built<K, V>, Refusal>
         requires lawful { IsLawful K.enc V.enc J.limits pass.now.front }
         requires seen { WasSeen K.enc J.limits.buckets pass.now.front b old }
@@ -187,12 +187,12 @@ impl<K: FarObject, V: FarObject, J: Naming, D: Device> FarTable<K, V, J, D> {
     }
 
     // One round of a change, wherever the contents lie.
-    fn change_round<R: Wait>(
+    fn change_round<'a, R: Wait>(
         &self,
         rt: &R,
         alloc: Global,
         caller: &mut Caller<K, V, J>,
-        edit: &Edit<'_, K, V>,
+        operation: &Operation<&'a K, &'a V>,
     ) -> Result<Round<V>, Refusal>
         ensures lawful { IsLawful K.enc V.enc J.limits caller.new.pass.front }
         ensures limbo { AtMostOneMore caller.old.limbo caller.new.limbo }
@@ -227,12 +227,12 @@ impl<K: FarObject, V: FarObject, J: Naming, D: Device> FarTable<K, V, J, D> {
     }
 
     // A change that goes on until it is done.
-    fn change<R: Wait>(
+    fn change<'a, R: Wait>(
         &self,
         rt: &R,
         alloc: Global,
         caller: &mut Caller<K, V, J>,
-        edit: &Edit<'_, K, V>,
+        operation: &Operation<&'a K, &'a V>,
     ) -> Result<Option<V>, Refusal>
         ensures lawful { IsLawful K.enc V.enc J.limits caller.new.pass.front }
         ensures limbo { IsPrefix caller.old.limbo caller.new.limbo }

@@ -81,9 +81,9 @@ fn only<K: FarObject, V: FarObject>(
 
 /// What the operation makes of a bucket without a pair. It takes no memory where it leaves the bucket, and one allocation
 /// where it sets the key.
-pub(crate) fn build_first<K: FarObject, V: FarObject>(
+pub(crate) fn build_first<'a, K: FarObject, V: FarObject>(
     alloc: Global,
-    edit: &Edit<'_, K, V>,
+    operation: &Operation<&'a K, &'a V>,
     limit: u32,
 ) -> Result<Built<K, V>, Refusal>
     ensures answer { IfOk result (λ t. t.answer ≡ reply K.enc [] (edited edit.now)) }
@@ -122,10 +122,10 @@ pub(crate) fn build_first<K: FarObject, V: FarObject>(
 }
 
 /// What the operation makes of the object, of which it looks for its key once.
-pub(crate) fn build<K: FarObject, V: FarObject>(
+pub(crate) fn build<'a, K: FarObject, V: FarObject>(
     alloc: Global,
     object: &Object<K, V>,
-    edit: &Edit<'_, K, V>,
+    operation: &Operation<&'a K, &'a V>,
     limit: u32,
 ) -> Result<Built<K, V>, Refusal>
     requires limited { limit ≤ 1048576 }
