@@ -57,7 +57,18 @@ fn are(pairs: &[(Text, Text)], wanted: Pairs) -> bool {
     right
 }
 
-/// The same of pairs that are lent as they are written: a text behind its length in two bytes, and here below ten.
+/// Whether a pair is this one, as it is written: a text behind its length in two bytes, and the value here one digit.
+fn is_pair(key: &[u8], value: &[u8], wanted: Option<&(&[u8], u32)>) -> bool {
+    match wanted {
+        Some((letters, number)) => {
+            let digit = b'0'.wrapping_add((*number % 10) as u8);
+            key.ends_with(letters) && value == [0, 1, digit].as_slice()
+        }
+        None => false,
+    }
+}
+
+/// The same of pairs that are lent as they are written.
 fn are_lent<R: Threads + Sync + Abort>(
     rt: &R,
     alloc: Global,
@@ -65,19 +76,15 @@ fn are_lent<R: Threads + Sync + Abort>(
     wanted: Pairs,
 ) -> bool {
     let lists = made(rt, in_key_order(rt, alloc, bundles));
-    let mut left = wanted;
+    let mut at = 0usize;
     let mut right = true;
     for lent in &lists {
         for pair in lent {
-            let Some(((key, value), behind)) = left.split_first() else {
-                return false;
-            };
-            let digit = b'0'.wrapping_add(*value as u8 % 10);
-            right = right && pair.key().ends_with(key) && pair.value() == [0, 1, digit].as_slice();
-            left = behind;
+            right = right && is_pair(pair.key(), pair.value(), wanted.get(at));
+            at = at.saturating_add(1);
         }
     }
-    right && left.is_empty()
+    right && at == wanted.len()
 }
 
 fn close<J, D, R>(

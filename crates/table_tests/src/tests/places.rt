@@ -8,11 +8,11 @@ use hash_table::{BucketState, Config, ReclaimFault, Refusal};
 use std::sync::Wait;
 use version_words::Naming;
 
-const NO_PAIR: Said = Said::Has(([(0, 0), (0, 0), (0, 0)], 0));
+const NO_PAIR: Said = Said::Has((0, (0, 0), (0, 0), (0, 0)));
 
-const ONE_PAIR: Said = Said::Has(([(b'a', 1), (0, 0), (0, 0)], 1));
+const ONE_PAIR: Said = Said::Has((1, (b'a', 1), (0, 0), (0, 0)));
 
-const THREE_PAIRS: Said = Said::Has(([(b'a', 1), (b'e', 2), (b'i', 3)], 3));
+const THREE_PAIRS: Said = Said::Has((3, (b'a', 1), (b'e', 2), (b'i', 3)));
 
 const OUT_AND_IN_AGAIN: &[(Step, Said)] = &[
     (Step::State(b'a'), Said::In(BucketState::Empty(0))),

@@ -112,16 +112,26 @@ fn answer(found: Result<Option<Text>, Refusal>) -> Answer {
     }
 }
 
-/// The keys' letters and the values of the first three pairs, 0 and 0 where there are not as many; and how many there are.
-pub type Pairs = ([(u8, u32); 3], usize);
+/// How many pairs there are, and the letters and the values of the first three, 0 and 0 where there are not as many.
+pub type Pairs = (usize, (u8, u32), (u8, u32), (u8, u32));
+
+fn shown_pair(pair: Option<&(Text, Text)>) -> (u8, u32) {
+    match pair {
+        Some((key, value)) => (
+            key.as_bytes().first().copied().unwrap_or(0),
+            number_of(value),
+        ),
+        None => (0, 0),
+    }
+}
 
 fn shown_pairs(pairs: &[(Text, Text)]) -> Pairs {
-    let mut shown = [(0, 0); 3];
-    for (place, pair) in shown.iter_mut().zip(pairs) {
-        let letter = pair.0.as_bytes().first().copied().unwrap_or(0);
-        *place = (letter, number_of(&pair.1));
-    }
-    (shown, pairs.len())
+    (
+        pairs.len(),
+        shown_pair(pairs.get(0)),
+        shown_pair(pairs.get(1)),
+        shown_pair(pairs.get(2)),
+    )
 }
 
 /// What a scope shows: the bytes of its value, the value, and the name of its version. The scope is closed again.
