@@ -5,7 +5,6 @@ use Rattle.far_object.specs.Encodings.{enc_text}
 use Rattle.table_core.specs.declared.limits.Limits.{Limits}
 use Rattle.hash_table.specs.declared.caller.Caller.{Caller}
 use Rattle.hash_table.specs.Closes.{AreBack, ClosesSorted, IsClosed, passes}
-use Rattle.hash_table.proofs.Fronts.{goes_self, goes_trans}
 use Rattle.version_words.specs.Views.{Goes, IsWhole, AreNone, AreApart, calls_of}
 use Rattle.version_words.proofs.Fronts.{prefix_trans}
 use Rattle.run_lines.specs.Calls.{Texts}
@@ -17,22 +16,22 @@ whole_back log old new goes whole = record {
   all = ap (λ (p : ℕ). calls_of p log) (sym goes.number) ∙ (whole.all ∙ goes.calls_stay);
 }
 
-module _ {J : Type 0} where
-  abbrev Callers : Type 0
-  Callers = List (Caller (List ℕ) (List ℕ) J)
+abbrev Callers : Type 0 → Type 0
+Callers J = List (Caller (List ℕ) (List ℕ) J)
 
+module _ {J : Type 0} where
   -- each has the number of the other at its place
-  abbrev SameNumbers : Callers → Callers → Type 0
+  abbrev SameNumbers : Callers J → Callers J → Type 0
   SameNumbers xs ys = (k : ℕ) (d : Caller (List ℕ) (List ℕ) J) → k < length xs → (slice_index_or ys k d).pass.number ≡ (slice_index_or xs k d).pass.number
 
-  none_moved : (p q : View) (xs ys : Callers) → p.number ≡ q.number → length ys ≡ length xs → SameNumbers xs ys → AreNone p (passes xs) → AreNone q (passes ys)
+  none_moved : (p q : View) (xs ys : Callers J) → p.number ≡ q.number → length ys ≡ length xs → SameNumbers xs ys → AreNone p (passes xs) → AreNone q (passes ys)
   none_moved p q [] [] same count numbers none = tt
   none_moved p q [] (y ∷ ys) same count numbers none = absurd (omega (arith, count))
   none_moved p q (x ∷ xs) [] same count numbers none = absurd (omega (arith, count))
   none_moved p q (x ∷ xs) (y ∷ ys) same count numbers none =
       (λ is. none.0 (same ∙ (is ∙ numbers 0 x (omega arith))), none_moved p q xs ys same (omega (arith, count)) (λ k d lt. numbers (suc k) d (omega (arith, lt))) none.1)
 
-  apart_moved : (xs ys : Callers) → length ys ≡ length xs → SameNumbers xs ys → AreApart (passes xs) → AreApart (passes ys)
+  apart_moved : (xs ys : Callers J) → length ys ≡ length xs → SameNumbers xs ys → AreApart (passes xs) → AreApart (passes ys)
   apart_moved [] [] count numbers apart = tt
   apart_moved [] (y ∷ ys) count numbers apart = absurd (omega (arith, count))
   apart_moved (x ∷ xs) [] count numbers apart = absurd (omega (arith, count))
@@ -41,10 +40,7 @@ module _ {J : Type 0} where
       let shorter : length ys ≡ length xs = omega (arith, count) in
       (none_moved x.pass y.pass xs ys (sym (numbers 0 x (omega arith))) shorter rest apart.0, apart_moved xs ys shorter rest apart.1)
 
-  pub back_self : (callers : Callers) → AreBack callers callers
-  back_self callers = record { count = refl; goes = λ k d lt. goes_self (slice_index_or callers k d).pass; limbos = λ k d lt. refl }
-
-  pub closed_back : (l : Limits) (olds news : Callers) (pairs : Texts) → AreBack olds news → ClosesSorted enc_text enc_text l news pairs → ClosesSorted enc_text enc_text l olds pairs
+  pub closed_back : (l : Limits) (olds news : Callers J) (pairs : Texts) → AreBack olds news → ClosesSorted enc_text enc_text l news pairs → ClosesSorted enc_text enc_text l olds pairs
   closed_back l olds news pairs back closes all moved up =
       let c = closes all moved up in
       let forth : SameNumbers olds news = λ k d lt. let g = back.goes k d lt in g.number in

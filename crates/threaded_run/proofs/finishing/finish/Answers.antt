@@ -21,4 +21,4 @@ by l callers bundles given old new text same closes wrote =
 pub returns-in-Ok-write_all-clause-written : goal.returns-in-Ok-write_all-clause-written
 returns-in-Ok-write_all-clause-written g c =
     by g.J.Naming.limits c.args.callers.items c.in-Ok.bundles.items c.as_slice.result.now (g.W.Write.contents c.args.out.now) (g.W.Write.contents c.write_all.new.out) (file_texts 1 (map (λ t. t.items) c.args.texts.now))
-    c.as_slice.ensures.value c.in-Ok.ensures.closed c.in-Ok-write_all.ensures.written
+    c.as_slice.ensures.value c.in-Ok.ensures c.in-Ok-write_all.ensures.written
