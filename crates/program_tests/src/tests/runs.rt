@@ -1,5 +1,4 @@
 //! What the tests of whole runs share: settings, lanes, and a run of files.
-ghost use Rattle.std.specs.Prelude.{◌≡◌, ◌≤◌, IsTrue, vec_len};
 
 use super::expect::{equal, equal_texts, made};
 use far_device::{Device, FakeDevice, FaultyDevice};
