@@ -7,6 +7,6 @@ pub returns-in-Ok-clause-said : goal.returns-in-Ok-clause-said
 returns-in-Ok-clause-said g c =
     known (λ (all : List (List ℕ)). IsFile all c.in-Ok.script) (g.B.Read.remaining c.args.file) c.read_text-text.result.lines c.read_text-text.result.end c.read_text-text.ensures c.in-Ok.ensures.said
 
-pub returns-clause-fault : goal.returns-clause-fault
-returns-clause-fault g c =
+pub returns-in-Err-clause-fault : goal.returns-in-Err-clause-fault
+returns-in-Err-clause-fault g c =
     known (λ (all : List (List ℕ)). IsFileFault all c.in-Err.fault) (g.B.Read.remaining c.args.file) c.read_text-text.result.lines c.read_text-text.result.end c.read_text-text.ensures c.in-Err.ensures.fault
