@@ -1,4 +1,5 @@
 //! `far_driver`: settings and files that are refused, in the order of the work, writers that fail, and the texts of the faults.
+ghost use Rattle.std.specs.Prelude.{◌≤◌, length};
 
 use super::expect::{equal, holds, made, prints};
 use super::readers::{Faltering, NEVER, Stumbling};
@@ -141,6 +142,7 @@ fn refused_files(rt: HostRuntime) {
 fn read<R>(rt: &R, files: &[&[u8]]) -> Result<Vec<Script>, RunFault>
 where
     R: Alloc<A = Global> + Threads + Sync,
+    requires { length files.now ≤ 64 }
 {
     match Vec::from_slice(rt.alloc(), files) {
         Ok(files) => read_files(rt, rt.alloc(), files),
