@@ -4,5 +4,5 @@ use Rattle.hash_table.specs.Configs.{sizes_of}
 use Rattle.farbench.proofs.table.measure.Given as goal
 
 -- the table that was just opened
-abbrev pub ghosts-on_opening : goal.ghosts-table
+abbrev pub ghosts-on_opening : goal.ghosts-on_opening
 ghosts-on_opening g a = record { book = a.opening.row.book; names = a.opening.row.names; limits = limits_of (sizes_of a.opening.config) true }
