@@ -10,7 +10,7 @@ use Rattle.table_core.specs.BucketWords.{place_of, far_place}
 use Rattle.table_core.specs.Maps.{at_bucket, after, map_of}
 use Rattle.table_core.specs.Logs.{history, names_of, word}
 use Rattle.version_words.specs.Views.{PassView, Calls, EndsWith, IsAnswered}
-use Rattle.hash_table.specs.Edits.{Sets}
+use Rattle.hash_table.specs.Changes.{Sets}
 use Rattle.hash_table.specs.declared.refusal.Refusal.{Refusal}
 use Rattle.hash_table.specs.declared.refusal.Refusal.TheVariants as refusal
 

@@ -2,7 +2,7 @@ pub mod Configs
 pub mod Openings
 pub mod Limbos
 pub mod Refusals
-pub mod Edits
+pub mod Changes
 pub mod Stages
 pub mod Calls
 pub mod Rounds

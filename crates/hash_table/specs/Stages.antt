@@ -7,7 +7,7 @@ use Rattle.table_core.specs.BucketWords.{place_of, empty_place, far_place}
 use Rattle.table_core.specs.Maps.{after}
 use Rattle.table_core.specs.Logs.{names_of, word}
 use Rattle.version_words.specs.Views.{PassView, has_object}
-use Rattle.hash_table.specs.Edits.{Sets}
+use Rattle.hash_table.specs.Changes.{Sets}
 use Rattle.hash_table.specs.declared.refusal.Refusal.{Refusal}
 use Rattle.hash_table.specs.declared.refusal.Refusal.TheVariants as refusal
 use Rattle.hash_table.specs.declared.stages.seen.Place.{Place}

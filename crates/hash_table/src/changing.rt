@@ -1,22 +1,21 @@
 //! Changes: put, remove and put_if.
-ghost use Rattle.std.specs.Prelude.{◌≡◌, ◌<◌, ◌≤◌, IsTrue, IfOk, IfErr, IfNone, length};
+ghost use Rattle.std.specs.Prelude.{◌≡◌, ◌<◌, ◌≤◌, Some, IsTrue, IfOk, IfErr, length};
 ghost use mathlib.Core.List.{IsPrefix};
 ghost use Rattle.far_object.specs.Buckets.{bucket};
 ghost use Rattle.table_core.specs.declared.operation.Operation.TheVariants as op;
 ghost use Rattle.table_core.specs.BucketWords.{name_of};
 ghost use Rattle.table_core.specs.Maps.{key_of, reply};
-ghost use Rattle.table_core.specs.Lent.{lent_value};
+ghost use Rattle.table_core.specs.Lent.{lent, lent_value};
 ghost use Rattle.table_core.specs.Logs.{contents};
 ghost use Rattle.table_core.specs.Lawful.{IsLawful};
-ghost use Rattle.version_words.specs.Views.{Goes, WasSeen};
+ghost use Rattle.version_words.specs.Views.{Goes, WasSeen, operation_of, probed};
 ghost use Rattle.hash_table.specs.Calls.{most_spares, AtMostOneMore, IsFinished, IsUnchanged, IsFull};
-ghost use Rattle.hash_table.specs.Edits.{edited, MayLeave, Leaves};
 ghost use Rattle.hash_table.specs.Refusals.{OfLocalChange, OfChange};
 ghost use Rattle.hash_table.specs.Rounds.{IsRound};
+ghost use Rattle.hash_table.specs.Changes.{MayChange, MayLeave, MayMake, Leaves};
 ghost use Rattle.hash_table.specs.Stages.{IsUnbuilt, IsUnbuiltFar, IsUnpublished};
 
 use crate::caller::Caller;
-use crate::edit::Edit;
 use crate::limbo::Limbo;
 use crate::refusal::Refusal;
 use crate::round::{Round, after};
@@ -27,7 +26,34 @@ use far_device::Device;
 use far_object::FarObject;
 use std::alloc::Global;
 use std::sync::Wait;
-use version_words::{Naming, Pass, empty_holds, seen_answers};
+use table_core::Operation;
+use version_words::{Change, Naming, Pass, Probe, empty_holds, seen_answers};
+
+// As it is installed.
+fn change_of<'a, K, V>(operation: &Operation<&'a K, &'a V>) -> Change<'a, K, V>
+    requires { MayChange (lent operation.now) }
+    ensures { operation_of result ≡ Some (lent operation.now) }
+{
+    match operation {
+        Operation::Put(key, value) => Change::Put(key, value),
+        Operation::Get(_) => unreachable!(),
+        Operation::Remove(key) => Change::Remove(key),
+        Operation::PutIf(key, expected, value) => Change::PutIf(key, *expected, value),
+    }
+}
+
+// As it leaves its bucket.
+fn probe_of<'a, K, V>(operation: &Operation<&'a K, &'a V>) -> Probe<'a, K, V>
+    requires { MayLeave (lent operation.now) }
+    ensures { probed result ≡ lent operation.now }
+{
+    match operation {
+        Operation::Put(_, _) => unreachable!(),
+        Operation::Get(key) => Probe::Get(key),
+        Operation::Remove(key) => Probe::Remove(key),
+        Operation::PutIf(key, expected, value) => Probe::PutIf(key, *expected, value),
+    }
+}
 
 impl<K: FarObject, V: FarObject, J: Naming, D: Device> FarTable<K, V, J, D> {
     /// What the operation makes of the contents of a word that was seen, which lie in a frame.
@@ -41,16 +67,16 @@ impl<K: FarObject, V: FarObject, J: Naming, D: Device> FarTable<K, V, J, D> {
     ) -> Result<Built<K, V>, Refusal>
         requires lawful { IsLawful K.enc V.enc J.limits pass.now.front }
         requires seen { WasSeen K.enc J.limits.buckets pass.now.front b old }
-        ensures answer { IfOk result (λ t. IsTrue J.limits.honest → t.answer ≡ reply K.enc (contents pass.now.front (name_of old)) (edited edit.now)) }
-        ensures object { IfOk result (λ t. IsTrue J.limits.honest → Leaves K.enc V.enc (contents pass.now.front (name_of old)) (edited edit.now) t.object) }
-        ensures may { IfOk result (λ t. IfNone t.object (MayLeave edit.now)) }
-        ensures why { IfErr result (λ e. IsUnbuilt K.enc V.enc J.limits.honest self.now.limit old (contents pass.now.front (name_of old)) (edited edit.now) e) }
+        ensures answer { IfOk result (λ t. IsTrue J.limits.honest → t.answer ≡ reply K.enc (contents pass.now.front (name_of old)) (lent operation.now)) }
+        ensures object { IfOk result (λ t. IsTrue J.limits.honest → Leaves K.enc V.enc (contents pass.now.front (name_of old)) (lent operation.now) t.object) }
+        ensures may { IfOk result (λ t. MayMake (lent operation.now) t.object) }
+        ensures why { IfErr result (λ e. IsUnbuilt K.enc V.enc J.limits.honest self.now.limit old (contents pass.now.front (name_of old)) (lent operation.now) e) }
     {
         match split(old) {
             Place::Device => Err(Refusal::Far),
             Place::Nothing => {
                 empty_holds::<K, V>();
-                match build_first(alloc, edit, self.limit) {
+                match build_first(alloc, operation, self.limit) {
                     Ok(built) => Ok(built),
                     Err(refusal) => Err(refusal),
                 }
@@ -59,7 +85,7 @@ impl<K: FarObject, V: FarObject, J: Naming, D: Device> FarTable<K, V, J, D> {
                 let Ok(scope) = self.enter_frame(pass, b, old, frame) else {
                     return Err(Refusal::Missed);
                 };
-                let built = build(alloc, scope.object(), edit, self.limit);
+                let built = build(alloc, scope.object(), operation, self.limit);
                 scope.close();
                 match built {
                     Ok(built) => Ok(built),
@@ -79,28 +105,28 @@ impl<K: FarObject, V: FarObject, J: Naming, D: Device> FarTable<K, V, J, D> {
         built: Built<K, V>,
         operation: &Operation<&'a K, &'a V>,
     ) -> Result<Option<V>, Refusal>
-        requires bucket { (b < J.limits.buckets) × (bucket K.enc J.limits.buckets (key_of (edited edit.now)) ≡ b) }
+        requires bucket { (b < J.limits.buckets) × (bucket K.enc J.limits.buckets (key_of (lent operation.now)) ≡ b) }
         requires lawful { IsLawful K.enc V.enc J.limits pass.old.front }
         requires seen { WasSeen K.enc J.limits.buckets pass.old.front b old }
-        requires answer { IsTrue J.limits.honest → built.answer ≡ reply K.enc (contents pass.old.front (name_of old)) (edited edit.now) }
-        requires object { IsTrue J.limits.honest → Leaves K.enc V.enc (contents pass.old.front (name_of old)) (edited edit.now) built.object }
-        requires may { IfNone built.object (MayLeave edit.now) }
+        requires answer { IsTrue J.limits.honest → built.answer ≡ reply K.enc (contents pass.old.front (name_of old)) (lent operation.now) }
+        requires object { IsTrue J.limits.honest → Leaves K.enc V.enc (contents pass.old.front (name_of old)) (lent operation.now) built.object }
+        requires may { MayMake (lent operation.now) built.object }
         requires room { length limbo.old < most_spares }
         ensures lawful { IsLawful K.enc V.enc J.limits pass.new.front }
         ensures limbo { AtMostOneMore limbo.old limbo.new }
-        ensures finished { IfOk result (λ r. IsFinished K.enc V.enc J.limits pass.old (edited edit.now) r pass.new) }
+        ensures finished { IfOk result (λ r. IsFinished K.enc V.enc J.limits pass.old (lent operation.now) r pass.new) }
         ensures goes { IfErr result (λ _. Goes pass.old pass.new) }
         ensures why { IfErr result (λ e. IsUnpublished K.enc J.limits b old pass.old pass.new e) }
     {
         seen_answers::<K, V>();
         let Built { answer, object } = built;
         let Some(object) = object else {
-            return match self.words.check(pass, b, old, &edit.probe()) {
+            return match self.words.check(pass, b, old, &probe_of(operation)) {
                 Ok(()) => Ok(answer),
                 Err(_) => Err(Refusal::Moved),
             };
         };
-        let change = edit.change();
+        let change = change_of(operation);
         if object.count() == 0 {
             return match self.publish_empty(pass, limbo, b, old, &object, &change) {
                 Ok(()) => Ok(answer),
@@ -122,9 +148,9 @@ impl<K: FarObject, V: FarObject, J: Naming, D: Device> FarTable<K, V, J, D> {
     ) -> Result<Option<V>, Refusal>
         ensures lawful { IsLawful K.enc V.enc J.limits caller.new.pass.front }
         ensures limbo { AtMostOneMore caller.old.limbo caller.new.limbo }
-        ensures finished { IfOk result (λ r. IsFinished K.enc V.enc J.limits caller.old.pass (edited edit.now) r caller.new.pass) }
+        ensures finished { IfOk result (λ r. IsFinished K.enc V.enc J.limits caller.old.pass (lent operation.now) r caller.new.pass) }
         ensures goes { IfErr result (λ _. Goes caller.old.pass caller.new.pass) }
-        ensures refused { IfErr result (λ e. IsUnchanged K.enc V.enc J.limits self.now.limit (bucket K.enc J.limits.buckets (key_of (edited edit.now))) (edited edit.now) caller.old.pass caller.new.pass e) }
+        ensures refused { IfErr result (λ e. IsUnchanged K.enc V.enc J.limits self.now.limit (bucket K.enc J.limits.buckets (key_of (lent operation.now))) (lent operation.now) caller.old.pass caller.new.pass e) }
         ensures full { IfErr result (λ e. IsFull e (length caller.old.limbo)) }
         ensures only { IfErr result (λ e. OfLocalChange e) }
     {
@@ -132,13 +158,20 @@ impl<K: FarObject, V: FarObject, J: Naming, D: Device> FarTable<K, V, J, D> {
         if caller.limbo.is_full() {
             return Err(Refusal::LimboFull);
         }
-        let b = self.bucket(edit.key());
+        let b = self.bucket(operation.key());
         let word = self.words.look(&mut caller.pass, b);
-        let built = match self.build_local(alloc, &caller.pass, b, word, edit) {
+        let built = match self.build_local(alloc, &caller.pass, b, word, operation) {
             Ok(built) => built,
             Err(refusal) => return Err(refusal),
         };
-        match self.settle(&mut caller.pass, &mut caller.limbo, b, word, built, edit) {
+        match self.settle(
+            &mut caller.pass,
+            &mut caller.limbo,
+            b,
+            word,
+            built,
+            operation,
+        ) {
             Ok(answer) => Ok(answer),
             Err(refusal) => Err(refusal),
         }
@@ -156,21 +189,21 @@ impl<K: FarObject, V: FarObject, J: Naming, D: Device> FarTable<K, V, J, D> {
     ) -> Result<Built<K, V>, Refusal>
         requires lawful { IsLawful K.enc V.enc J.limits pass.now.front }
         requires seen { WasSeen K.enc J.limits.buckets pass.now.front b old }
-        ensures answer { IfOk result (λ t. IsTrue J.limits.honest → t.answer ≡ reply K.enc (contents pass.now.front (name_of old)) (edited edit.now)) }
-        ensures object { IfOk result (λ t. IsTrue J.limits.honest → Leaves K.enc V.enc (contents pass.now.front (name_of old)) (edited edit.now) t.object) }
-        ensures may { IfOk result (λ t. IfNone t.object (MayLeave edit.now)) }
-        ensures why { IfErr result (λ e. IsUnbuiltFar K.enc V.enc J.limits.honest self.now.limit (contents pass.now.front (name_of old)) (edited edit.now) e) }
+        ensures answer { IfOk result (λ t. IsTrue J.limits.honest → t.answer ≡ reply K.enc (contents pass.now.front (name_of old)) (lent operation.now)) }
+        ensures object { IfOk result (λ t. IsTrue J.limits.honest → Leaves K.enc V.enc (contents pass.now.front (name_of old)) (lent operation.now) t.object) }
+        ensures may { IfOk result (λ t. MayMake (lent operation.now) t.object) }
+        ensures why { IfErr result (λ e. IsUnbuiltFar K.enc V.enc J.limits.honest self.now.limit (contents pass.now.front (name_of old)) (lent operation.now) e) }
     {
         match split(old) {
             Place::Device => {}
             Place::Nothing => {
-                return match self.build_local(alloc, pass, b, old, edit) {
+                return match self.build_local(alloc, pass, b, old, operation) {
                     Ok(built) => Ok(built),
                     Err(refusal) => Err(refusal),
                 };
             }
             Place::Frame(_) => {
-                return match self.build_local(alloc, pass, b, old, edit) {
+                return match self.build_local(alloc, pass, b, old, operation) {
                     Ok(built) => Ok(built),
                     Err(refusal) => Err(refusal),
                 };
@@ -180,7 +213,7 @@ impl<K: FarObject, V: FarObject, J: Naming, D: Device> FarTable<K, V, J, D> {
             Ok(object) => object,
             Err(refusal) => return Err(refusal),
         };
-        match build(alloc, &object, edit, self.limit) {
+        match build(alloc, &object, operation, self.limit) {
             Ok(built) => Ok(built),
             Err(refusal) => Err(refusal),
         }
@@ -196,9 +229,9 @@ impl<K: FarObject, V: FarObject, J: Naming, D: Device> FarTable<K, V, J, D> {
     ) -> Result<Round<V>, Refusal>
         ensures lawful { IsLawful K.enc V.enc J.limits caller.new.pass.front }
         ensures limbo { AtMostOneMore caller.old.limbo caller.new.limbo }
-        ensures round { IfOk result (λ r. IsRound K.enc V.enc J.limits caller.old.pass (edited edit.now) r caller.new.pass) }
+        ensures round { IfOk result (λ r. IsRound K.enc V.enc J.limits caller.old.pass (lent operation.now) r caller.new.pass) }
         ensures goes { IfErr result (λ _. Goes caller.old.pass caller.new.pass) }
-        ensures refused { IfErr result (λ e. IsUnchanged K.enc V.enc J.limits self.now.limit (bucket K.enc J.limits.buckets (key_of (edited edit.now))) (edited edit.now) caller.old.pass caller.new.pass e) }
+        ensures refused { IfErr result (λ e. IsUnchanged K.enc V.enc J.limits self.now.limit (bucket K.enc J.limits.buckets (key_of (lent operation.now))) (lent operation.now) caller.old.pass caller.new.pass e) }
         ensures full { IfErr result (λ e. IsFull e (length caller.new.limbo)) }
         ensures only { IfErr result (λ e. OfChange e) }
     {
@@ -206,9 +239,9 @@ impl<K: FarObject, V: FarObject, J: Naming, D: Device> FarTable<K, V, J, D> {
         if caller.limbo.is_full() {
             return Err(Refusal::LimboFull);
         }
-        let b = self.bucket(edit.key());
+        let b = self.bucket(operation.key());
         let word = self.words.look(&mut caller.pass, b);
-        let built = match self.build_anywhere(rt, alloc, &caller.pass, b, word, edit) {
+        let built = match self.build_anywhere(rt, alloc, &caller.pass, b, word, operation) {
             Ok(built) => built,
             Err(refusal) => {
                 return match after(refusal) {
@@ -217,7 +250,14 @@ impl<K: FarObject, V: FarObject, J: Naming, D: Device> FarTable<K, V, J, D> {
                 };
             }
         };
-        match self.settle(&mut caller.pass, &mut caller.limbo, b, word, built, edit) {
+        match self.settle(
+            &mut caller.pass,
+            &mut caller.limbo,
+            b,
+            word,
+            built,
+            operation,
+        ) {
             Ok(answer) => Ok(Round::Finished(answer)),
             Err(refusal) => match after(refusal) {
                 Ok(round) => Ok(round),
@@ -236,14 +276,14 @@ impl<K: FarObject, V: FarObject, J: Naming, D: Device> FarTable<K, V, J, D> {
     ) -> Result<Option<V>, Refusal>
         ensures lawful { IsLawful K.enc V.enc J.limits caller.new.pass.front }
         ensures limbo { IsPrefix caller.old.limbo caller.new.limbo }
-        ensures finished { IfOk result (λ r. IsFinished K.enc V.enc J.limits caller.old.pass (edited edit.now) r caller.new.pass) }
+        ensures finished { IfOk result (λ r. IsFinished K.enc V.enc J.limits caller.old.pass (lent operation.now) r caller.new.pass) }
         ensures goes { IfErr result (λ _. Goes caller.old.pass caller.new.pass) }
-        ensures refused { IfErr result (λ e. IsUnchanged K.enc V.enc J.limits self.now.limit (bucket K.enc J.limits.buckets (key_of (edited edit.now))) (edited edit.now) caller.old.pass caller.new.pass e) }
+        ensures refused { IfErr result (λ e. IsUnchanged K.enc V.enc J.limits self.now.limit (bucket K.enc J.limits.buckets (key_of (lent operation.now))) (lent operation.now) caller.old.pass caller.new.pass e) }
         ensures full { IfErr result (λ e. IsFull e (length caller.new.limbo)) }
         ensures only { IfErr result (λ e. OfChange e) }
     {
         for _ in rt.forever() {
-            match self.change_round(rt, alloc, caller, edit) {
+            match self.change_round(rt, alloc, caller, operation) {
                 Ok(Round::Finished(answer)) => return Ok(answer),
                 Ok(Round::Again) => {}
                 Err(refusal) => return Err(refusal),
@@ -273,7 +313,7 @@ impl<K: FarObject, V: FarObject, J: Naming, D: Device> FarTable<K, V, J, D> {
         ensures full { IfErr result (λ e. IsFull e (length caller.old.limbo)) }
         ensures only { IfErr result (λ e. OfLocalChange e) }
     {
-        self.try_change(alloc, caller, &Edit::Put(key, value))
+        self.try_change(alloc, caller, &Operation::Put(key, value))
     }
 
     /// One try of a removal, over a frame.
@@ -294,7 +334,7 @@ impl<K: FarObject, V: FarObject, J: Naming, D: Device> FarTable<K, V, J, D> {
         ensures full { IfErr result (λ e. IsFull e (length caller.old.limbo)) }
         ensures only { IfErr result (λ e. OfLocalChange e) }
     {
-        self.try_change(alloc, caller, &Edit::Remove(key))
+        self.try_change(alloc, caller, &Operation::Remove(key))
     }
 
     /// One try of a put where the key's value is the expected one, over a frame.
@@ -317,7 +357,7 @@ impl<K: FarObject, V: FarObject, J: Naming, D: Device> FarTable<K, V, J, D> {
         ensures full { IfErr result (λ e. IsFull e (length caller.old.limbo)) }
         ensures only { IfErr result (λ e. OfLocalChange e) }
     {
-        self.try_change(alloc, caller, &Edit::PutIf(key, expected, value))
+        self.try_change(alloc, caller, &Operation::PutIf(key, expected, value))
     }
 
     /// A put that goes on until it is done: it repeats while it is moved or missed, and reads a far bucket through.
@@ -340,7 +380,7 @@ impl<K: FarObject, V: FarObject, J: Naming, D: Device> FarTable<K, V, J, D> {
         ensures full { IfErr result (λ e. IsFull e (length caller.new.limbo)) }
         ensures only { IfErr result (λ e. OfChange e) }
     {
-        self.change(rt, alloc, caller, &Edit::Put(key, value))
+        self.change(rt, alloc, caller, &Operation::Put(key, value))
     }
 
     /// A removal that goes on until it is done, as `put` does, with its refusals but `TooLong`.
@@ -359,7 +399,7 @@ impl<K: FarObject, V: FarObject, J: Naming, D: Device> FarTable<K, V, J, D> {
         ensures full { IfErr result (λ e. IsFull e (length caller.new.limbo)) }
         ensures only { IfErr result (λ e. OfChange e) }
     {
-        self.change(rt, alloc, caller, &Edit::Remove(key))
+        self.change(rt, alloc, caller, &Operation::Remove(key))
     }
 
     /// A put_if that goes on until it is done, as `put` does, with its refusals.
@@ -380,6 +420,6 @@ impl<K: FarObject, V: FarObject, J: Naming, D: Device> FarTable<K, V, J, D> {
         ensures full { IfErr result (λ e. IsFull e (length caller.new.limbo)) }
         ensures only { IfErr result (λ e. OfChange e) }
     {
-        self.change(rt, alloc, caller, &Edit::PutIf(key, expected, value))
+        self.change(rt, alloc, caller, &Operation::PutIf(key, expected, value))
     }
 }

@@ -14,7 +14,6 @@ mod caller;
 mod changing;
 mod closing;
 mod config;
-mod edit;
 mod limbo;
 mod moving;
 mod opening;

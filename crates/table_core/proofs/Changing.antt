@@ -5,8 +5,8 @@ use denote.Ref.{Bor}
 use Rattle.std.specs.List.Sorted.{IsStrictlySortedBy}
 use Rattle.std.specs.Map.{keys_of}
 use Rattle.far_object.specs.Buckets.{key_cmp}
-use Rattle.table_core.specs.declared.lent_operation.Effect.{Effect}
-use Rattle.table_core.specs.declared.lent_operation.Effect.TheVariants as effect
+use Rattle.table_core.specs.declared.effect.Effect.{Effect}
+use Rattle.table_core.specs.declared.effect.Effect.TheVariants as effect
 use Rattle.table_core.specs.declared.contents.Place.TheVariants.{Gap, Here}
 use Rattle.table_core.specs.Changes.{place_from, with_effect}
 use Rattle.table_core.proofs.Comparing.{same_test}

@@ -5,7 +5,7 @@ use Rattle.std.specs.Option.{option_map}
 use Rattle.std.specs.List.Sorted.{IsStrictlySortedBy}
 use Rattle.std.specs.Map.{keys_of}
 use Rattle.far_object.specs.Buckets.{key_cmp, bucket}
-use Rattle.table_core.specs.declared.lent_operation.Effect.{Effect}
+use Rattle.table_core.specs.declared.effect.Effect.{Effect}
 use Rattle.table_core.specs.declared.event.Event.{Event}
 use Rattle.table_core.specs.declared.event.Event.TheVariants.{Named, Done, Moved}
 use Rattle.table_core.specs.declared.fault.Rule.{Rule}

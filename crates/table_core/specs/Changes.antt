@@ -9,8 +9,8 @@ use Rattle.table_core.specs.Logs.{pairs_of}
 use Rattle.table_core.specs.Machines.{MachineView, numbered}
 use Rattle.table_core.specs.declared.fault.Rule.{Rule}
 use Rattle.table_core.specs.declared.fault.Rule.TheVariants.{NotNewer, WrongContents}
-use Rattle.table_core.specs.declared.lent_operation.Effect.{Effect}
-use Rattle.table_core.specs.declared.lent_operation.Effect.TheVariants as effect
+use Rattle.table_core.specs.declared.effect.Effect.{Effect}
+use Rattle.table_core.specs.declared.effect.Effect.TheVariants as effect
 use Rattle.table_core.specs.declared.contents.Place.{Place}
 use Rattle.table_core.specs.declared.contents.Place.TheVariants.{Gap, Here}
 

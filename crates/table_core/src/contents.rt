@@ -24,7 +24,7 @@ ghost use Rattle.table_core.specs.Lawful.{AreContents};
 ghost use Rattle.table_core.specs.Changes.{IsWithin, place_from, with_effect, is_above};
 ghost use Rattle.table_core.specs.Lent.{lent_value};
 
-use crate::lent_operation::Effect;
+use crate::effect::Effect;
 use far_object::{FarObject, Memory, bucket_of};
 use std::alloc::Global;
 use std::cmp::Ordering;

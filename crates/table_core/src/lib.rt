@@ -2,10 +2,10 @@
 #![tactic(auto)]
 
 mod contents;
+mod effect;
 mod event;
 mod fault;
 mod laws;
-mod lent_operation;
 mod limits;
 mod machine;
 mod operation;

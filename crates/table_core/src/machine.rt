@@ -10,8 +10,8 @@ ghost use Rattle.table_core.specs.Limits.{most_buckets};
 ghost use Rattle.table_core.specs.Machines.{buckets_of, StandsAt, GoesOn, Answers, Refuses};
 
 use crate::fault::{CoreFault, Rule};
-use crate::lent_operation::LentOperation;
 use crate::limits::LAST_PASS;
+use crate::operation::Operation;
 use crate::pairs::Pairs;
 use far_object::FarObject;
 use std::alloc::Global;
@@ -104,7 +104,7 @@ impl<K: FarObject, V: FarObject> Machine<K, V> {
         ensures refused { IfErr result (λ fault. (log : List (Event K V)) → StandsAt K.enc V.enc self.old log → Refuses K.enc V.enc self.old log (Event.Done pass (Operation.Put key.now value.now) (Some word)) fault) }
         ensures err { OnErr result (self.new ≡ self.old) }
     {
-        self.done(alloc, pass, &LentOperation::Put(key, value), Some(word))
+        self.done(alloc, pass, &Operation::Put(key, value), Some(word))
     }
 
     /// A copy of the value of the key. The machine stands where it stood, and at the log with this call as well.
@@ -112,7 +112,7 @@ impl<K: FarObject, V: FarObject> Machine<K, V> {
         ensures ok { IfOk result (λ answer. (log : List (Event K V)) → StandsAt K.enc V.enc self.now log → Answers K.enc V.enc self.now self.now log pass (Operation.Get key.now) None answer) }
         ensures refused { IfErr result (λ fault. (log : List (Event K V)) → StandsAt K.enc V.enc self.now log → Refuses K.enc V.enc self.now log (Event.Done pass (Operation.Get key.now) None) fault) }
     {
-        let bucket = self.judge_done(pass, &LentOperation::Get(key), None)?;
+        let bucket = self.judge_done(pass, &Operation::Get(key), None)?;
         self.answer(alloc, bucket, key)
     }
 
@@ -128,7 +128,7 @@ impl<K: FarObject, V: FarObject> Machine<K, V> {
         ensures refused { IfErr result (λ fault. (log : List (Event K V)) → StandsAt K.enc V.enc self.old log → Refuses K.enc V.enc self.old log (Event.Done pass (Operation.Remove key.now) word) fault) }
         ensures err { OnErr result (self.new ≡ self.old) }
     {
-        self.done(alloc, pass, &LentOperation::Remove(key), word)
+        self.done(alloc, pass, &Operation::Remove(key), word)
     }
 
     /// Sets the key to the value where its value is the expected one, installing the word if there is one. The answer is a
@@ -146,12 +146,7 @@ impl<K: FarObject, V: FarObject> Machine<K, V> {
         ensures refused { IfErr result (λ fault. (log : List (Event K V)) → StandsAt K.enc V.enc self.old log → Refuses K.enc V.enc self.old log (Event.Done pass (Operation.PutIf key.now (lent_value expected.entry) value.now) word) fault) }
         ensures err { OnErr result (self.new ≡ self.old) }
     {
-        self.done(
-            alloc,
-            pass,
-            &LentOperation::PutIf(key, expected, value),
-            word,
-        )
+        self.done(alloc, pass, &Operation::PutIf(key, expected, value), word)
     }
 
     /// Installs a word whose contents are those that stand in the bucket. It takes no memory.

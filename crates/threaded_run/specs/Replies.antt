@@ -11,7 +11,7 @@ use Rattle.version_words.specs.Views.{PassView, Goes}
 use Rattle.hash_table.specs.declared.refusal.Refusal.{Refusal as TableRefusal}
 use Rattle.hash_table.specs.declared.refusal.Refusal.TheVariants as table
 use Rattle.hash_table.specs.Calls.{SeenInCall, IsFinished}
-use Rattle.hash_table.specs.Edits.{Sets}
+use Rattle.hash_table.specs.Changes.{Sets}
 use Rattle.hash_table.specs.Scopes.{ScopeView, shown}
 use Rattle.command_file.specs.declared.command.Command.{Command}
 use Rattle.command_file.specs.declared.command.Command.TheVariants.{Map, Table}

@@ -1,17 +1,17 @@
 //! What an operation makes of an object, and whether that is within the limit.
-ghost use Rattle.std.specs.Prelude.{◌≡◌, ◌≤◌, [], ◌∷◌, IfOk, IfErr, IfNone};
+ghost use Rattle.std.specs.Prelude.{◌≡◌, ◌≤◌, [], ◌∷◌, IfOk, IfErr};
 ghost use Rattle.std.specs.BTreeMap.{insert_entry};
 ghost use Rattle.far_object.specs.Buckets.{key_cmp};
 ghost use Rattle.table_core.specs.declared.operation.Operation.TheVariants as op;
 ghost use Rattle.table_core.specs.Maps.{reply, is_met};
-ghost use Rattle.table_core.specs.Lent.{lent_value};
-ghost use Rattle.hash_table.specs.Edits.{edited, MayLeave, Leaves};
+ghost use Rattle.table_core.specs.Lent.{lent, lent_value};
+ghost use Rattle.hash_table.specs.Changes.{MayMake, Leaves};
 ghost use Rattle.hash_table.specs.Stages.{IsUnmade};
 
-use crate::edit::Edit;
 use crate::refusal::Refusal;
 use far_object::{Entry, FarObject, MOST_PAIRS, Object, full_objects_grow_too_long};
 use std::alloc::Global;
+use table_core::Operation;
 
 /// What an operation answers, and the object that it makes; none where it leaves the one that there is.
 #[derive(Drop)]
@@ -86,24 +86,24 @@ pub(crate) fn build_first<'a, K: FarObject, V: FarObject>(
     operation: &Operation<&'a K, &'a V>,
     limit: u32,
 ) -> Result<Built<K, V>, Refusal>
-    ensures answer { IfOk result (λ t. t.answer ≡ reply K.enc [] (edited edit.now)) }
-    ensures object { IfOk result (λ t. Leaves K.enc V.enc [] (edited edit.now) t.object) }
-    ensures may { IfOk result (λ t. IfNone t.object (MayLeave edit.now)) }
-    ensures why { IfErr result (λ e. IsUnmade K.enc V.enc limit [] (edited edit.now) e) }
+    ensures answer { IfOk result (λ t. t.answer ≡ reply K.enc [] (lent operation.now)) }
+    ensures object { IfOk result (λ t. Leaves K.enc V.enc [] (lent operation.now) t.object) }
+    ensures may { IfOk result (λ t. MayMake (lent operation.now) t.object) }
+    ensures why { IfErr result (λ e. IsUnmade K.enc V.enc limit [] (lent operation.now) e) }
 {
-    match edit {
-        Edit::Put(key, value) => match only(alloc, *key, *value, limit) {
+    match operation {
+        Operation::Put(key, value) => match only(alloc, *key, *value, limit) {
             Ok(made) => Ok(Built {
                 answer: None,
                 object: Some(made),
             }),
             Err(refusal) => Err(refusal),
         },
-        Edit::Remove(_) => Ok(Built {
+        Operation::Get(_) | Operation::Remove(_) => Ok(Built {
             answer: None,
             object: None,
         }),
-        Edit::PutIf(key, expected, value) => {
+        Operation::PutIf(key, expected, value) => {
             if !is_met(*expected, &None) {
                 return Ok(Built {
                     answer: None,
@@ -129,25 +129,29 @@ pub(crate) fn build<'a, K: FarObject, V: FarObject>(
     limit: u32,
 ) -> Result<Built<K, V>, Refusal>
     requires limited { limit ≤ 1048576 }
-    ensures answer { IfOk result (λ t. t.answer ≡ reply K.enc object.now (edited edit.now)) }
-    ensures object { IfOk result (λ t. Leaves K.enc V.enc object.now (edited edit.now) t.object) }
-    ensures may { IfOk result (λ t. IfNone t.object (MayLeave edit.now)) }
-    ensures why { IfErr result (λ e. IsUnmade K.enc V.enc limit object.now (edited edit.now) e) }
+    ensures answer { IfOk result (λ t. t.answer ≡ reply K.enc object.now (lent operation.now)) }
+    ensures object { IfOk result (λ t. Leaves K.enc V.enc object.now (lent operation.now) t.object) }
+    ensures may { IfOk result (λ t. MayMake (lent operation.now) t.object) }
+    ensures why { IfErr result (λ e. IsUnmade K.enc V.enc limit object.now (lent operation.now) e) }
 {
-    let entry = object.entry(edit.key());
+    let entry = object.entry(operation.key());
     let answer = match entry.value(alloc) {
         Ok(answer) => answer,
         Err(_) => return Err(Refusal::Memory),
     };
-    match edit {
-        Edit::Put(_, value) => match with(alloc, object, &entry, *value, limit) {
+    match operation {
+        Operation::Put(_, value) => match with(alloc, object, &entry, *value, limit) {
             Ok(made) => Ok(Built {
                 answer,
                 object: Some(made),
             }),
             Err(refusal) => Err(refusal),
         },
-        Edit::Remove(_) => {
+        Operation::Get(_) => Ok(Built {
+            answer,
+            object: None,
+        }),
+        Operation::Remove(_) => {
             if answer.is_none() {
                 return Ok(Built {
                     answer,
@@ -162,7 +166,7 @@ pub(crate) fn build<'a, K: FarObject, V: FarObject>(
                 Err(_) => Err(Refusal::Memory),
             }
         }
-        Edit::PutIf(_, expected, value) => {
+        Operation::PutIf(_, expected, value) => {
             if !is_met(*expected, &answer) {
                 return Ok(Built {
                     answer,

@@ -11,8 +11,8 @@ ghost use Rattle.table_core.specs.Lent.{lent};
 
 use crate::contents::value_of;
 use crate::fault::{CoreFault, Rule};
-use crate::lent_operation::LentOperation;
 use crate::machine::Machine;
+use crate::operation::Operation;
 use crate::pairs::Pairs;
 use far_object::{FarObject, Memory};
 use std::alloc::Global;
@@ -51,11 +51,11 @@ impl<K: FarObject, V: FarObject> Machine<K, V> {
 
     /// A call that may install a word. It is judged before the answer is copied, so that want of memory comes only for a
     /// call that may follow, and the answer is copied before anything is changed.
-    pub(crate) fn done(
+    pub(crate) fn done<'a>(
         &mut self,
         alloc: Global,
         pass: u32,
-        asked: &LentOperation<K, V>,
+        asked: &Operation<&'a K, &'a V>,
         word: Option<u64>,
     ) -> Result<Option<V>, CoreFault>
         ensures ok { IfOk result (λ answer. (log : List (Event K V)) → StandsAt K.enc V.enc self.old log → Answers K.enc V.enc self.old self.new log pass (lent asked.now) word answer) }

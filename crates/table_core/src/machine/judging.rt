@@ -13,9 +13,9 @@ ghost use Rattle.table_core.specs.Lent.{lent};
 
 use crate::contents::{are_same, belong, is_changed, is_left};
 use crate::fault::Rule;
-use crate::lent_operation::LentOperation;
 use crate::limits::LAST_NAME;
 use crate::machine::Machine;
+use crate::operation::Operation;
 use crate::pairs::Pairs;
 use crate::word::{EMPTY_PLACE, name_of, place_of};
 use far_object::{FarObject, bucket_of};
@@ -68,10 +68,10 @@ impl<K: FarObject, V: FarObject> Machine<K, V> {
     }
 
     /// A call: the bucket of its key.
-    pub(crate) fn judge_done(
+    pub(crate) fn judge_done<'a>(
         &self,
         pass: u32,
-        asked: &LentOperation<K, V>,
+        asked: &Operation<&'a K, &'a V>,
         word: Option<u64>,
     ) -> Result<u32, Rule>
         ensures bucket { IfOk result (λ b. (b ≡ bucket K.enc (buckets_of self.now) (key_of (lent asked.now))) × (b < buckets_of self.now)) }

@@ -10,9 +10,9 @@ ghost use Rattle.table_core.specs.Limits.{most_buckets};
 use crate::contents::copied;
 use crate::event::Event;
 use crate::fault::{CoreFault, Rule};
-use crate::lent_operation::LentOperation;
 use crate::limits::LAST_PASS;
 use crate::machine::Machine;
+use crate::operation::Operation;
 use crate::pairs::Pairs;
 use far_object::FarObject;
 use std::alloc::Global;
@@ -50,7 +50,7 @@ impl<K: FarObject, V: FarObject> Machine<K, V> {
             Event::Enter(pass) => self.follow_entry(*pass),
             Event::Named(name, bucket, pairs) => self.follow_naming(alloc, *name, *bucket, pairs),
             Event::Done(pass, operation, word) => {
-                let bucket = self.judge_done(*pass, &LentOperation::of(operation), *word)?;
+                let bucket = self.judge_done(*pass, &Operation::of(operation), *word)?;
                 self.install(bucket, *word);
                 Ok(())
             }

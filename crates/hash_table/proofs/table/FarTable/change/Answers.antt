@@ -1,4 +1,4 @@
-use Rattle.hash_table.specs.Edits.{edited}
+use Rattle.table_core.specs.Lent.{lent}
 use Rattle.version_words.proofs.Fronts.{prefix_self, prefix_trans}
 use Rattle.hash_table.proofs.Fronts.{goes_self, goes_trans, finished_from, one_more_begins}
 use Rattle.hash_table.proofs.Refused.{unchanged_sooner}
@@ -17,7 +17,7 @@ pub returns-in-Ok-Finished-clause-limbo : goal.returns-in-Ok-Finished-clause-lim
 returns-in-Ok-Finished-clause-limbo g c = prefix_trans c.args.caller.now.limbo c.loop.caller.limbo c.change_round.new.caller.limbo c.loop.invariant.limbo (one_more_begins c.loop.caller.limbo c.change_round.new.caller.limbo c.change_round.ensures.limbo)
 
 pub returns-in-Ok-Finished-clause-finished : goal.returns-in-Ok-Finished-clause-finished
-returns-in-Ok-Finished-clause-finished g c = finished_from g.K.FarObject.enc g.V.FarObject.enc g.J.Naming.limits (edited c.args.edit.now) c.in-Ok-Finished.answer c.loop.invariant.goes (rw c.in-Ok-Finished.field-0-is at c.in-Ok-Finished.ensures.round)
+returns-in-Ok-Finished-clause-finished g c = finished_from g.K.FarObject.enc g.V.FarObject.enc g.J.Naming.limits (lent c.args.operation.now) c.in-Ok-Finished.answer c.loop.invariant.goes (rw c.in-Ok-Finished.field-0-is at c.in-Ok-Finished.ensures.round)
 
 pub returns-in-Err-clause-limbo : goal.returns-in-Err-clause-limbo
 returns-in-Err-clause-limbo g c = prefix_trans c.args.caller.now.limbo c.loop.caller.limbo c.change_round.new.caller.limbo c.loop.invariant.limbo (one_more_begins c.loop.caller.limbo c.change_round.new.caller.limbo c.change_round.ensures.limbo)
@@ -26,4 +26,4 @@ pub returns-in-Err-clause-goes : goal.returns-in-Err-clause-goes
 returns-in-Err-clause-goes g c = goes_trans c.loop.invariant.goes c.in-Err.ensures.goes
 
 pub returns-in-Err-clause-refused : goal.returns-in-Err-clause-refused
-returns-in-Err-clause-refused g c = unchanged_sooner g.K.FarObject.enc g.V.FarObject.enc g.J.Naming.limits c.args.caller.now.pass c.loop.caller.pass c.change_round.new.caller.pass c.args.self.now.limit _ (edited c.args.edit.now) c.in-Err.refusal c.loop.invariant.goes c.in-Err.ensures.refused
+returns-in-Err-clause-refused g c = unchanged_sooner g.K.FarObject.enc g.V.FarObject.enc g.J.Naming.limits c.args.caller.now.pass c.loop.caller.pass c.change_round.new.caller.pass c.args.self.now.limit _ (lent c.args.operation.now) c.in-Err.refusal c.loop.invariant.goes c.in-Err.ensures.refused

@@ -2,18 +2,18 @@ use Rattle.std.proofs.Common.{◌∙◌, ap, sym, subst}
 use Rattle.far_object.specs.Buckets.{bucket}
 use Rattle.table_core.specs.Maps.{key_of}
 use Rattle.hash_table.specs.Calls.{IsUnchanged}
-use Rattle.hash_table.specs.Edits.{edited}
+use Rattle.table_core.specs.Lent.{lent}
 use Rattle.hash_table.proofs.Fronts.{goes_self, goes_trans, finished_from}
 use Rattle.hash_table.proofs.Refused.{unbuilt_far_refused}
 use Rattle.hash_table.proofs.table.FarTable.change_round.Goals.{in-Ok-after, in-Err-after}
 use Rattle.hash_table.proofs.table.FarTable.change_round.Goals as goal
 
 pub returns-in-Ok-settle-clause-round : goal.returns-in-Ok-settle-clause-round
-returns-in-Ok-settle-clause-round g c = finished_from g.K.FarObject.enc g.V.FarObject.enc g.J.Naming.limits (edited c.args.edit.now) c.in-Ok-settle.answer c.look-word.ensures.pass c.in-Ok-settle.ensures.finished
+returns-in-Ok-settle-clause-round g c = finished_from g.K.FarObject.enc g.V.FarObject.enc g.J.Naming.limits (lent c.args.operation.now) c.in-Ok-settle.answer c.look-word.ensures.pass c.in-Ok-settle.ensures.finished
 
 pub returns-in-Err-clause-refused : goal.returns-in-Err-clause-refused
 returns-in-Err-clause-refused g c =
-    let o = edited c.args.edit.now in
+    let o = lent c.args.operation.now in
     let k = bucket g.K.FarObject.enc g.J.Naming.limits.buckets (key_of o) in
     let is = c.bucket-b.ensures.is ∙ ap (λ key. bucket g.K.FarObject.enc g.J.Naming.limits.buckets key) c.key.ensures in
     let why = unbuilt_far_refused g.K.FarObject.enc g.V.FarObject.enc g.J.Naming.limits c.args.self.now.limit c.bucket-b.result k c.look-word.result o c.in-Err.refusal c.look-word.ensures.pass c.look-word.ensures.lawful is c.look-word.ensures.word c.in-Err.ensures.why in

@@ -1,4 +1,4 @@
-//! An operation whose key and values are lent, and what it does to the contents of its bucket.
+//! What an operation does to the contents of its bucket. Its key and values are lent.
 ghost use Rattle.std.specs.Prelude.{◌≡◌};
 ghost use Rattle.std.specs.Map.{keys_of};
 ghost use Rattle.std.specs.List.Sorted.{IsStrictlySortedBy};
@@ -11,15 +11,6 @@ use crate::contents::{is_expected, value_of};
 use crate::operation::Operation;
 use far_object::FarObject;
 
-/// An operation whose key and values are lent.
-#[derive(Drop)]
-pub enum LentOperation<'a, K, V> {
-    Put(&'a K, &'a V),
-    Get(&'a K),
-    Remove(&'a K),
-    PutIf(&'a K, Option<&'a V>, &'a V),
-}
-
 /// What an operation does to the contents of its key's bucket.
 #[derive(Drop)]
 pub enum Effect<'a, K, V> {
@@ -28,16 +19,16 @@ pub enum Effect<'a, K, V> {
     Leaves,
 }
 
-impl<'a, K: FarObject, V: FarObject> LentOperation<'a, K, V> {
-    /// The operation that was kept.
-    pub fn of(operation: &'a Operation<K, V>) -> LentOperation<'a, K, V>
+impl<'a, K: FarObject, V: FarObject> Operation<&'a K, &'a V> {
+    /// The operation that was kept, lent.
+    pub(crate) fn of(operation: &'a Operation<K, V>) -> Operation<&'a K, &'a V>
         ensures { lent result ≡ operation.now }
     {
         match operation {
-            Operation::Put(key, value) => LentOperation::Put(key, value),
-            Operation::Get(key) => LentOperation::Get(key),
-            Operation::Remove(key) => LentOperation::Remove(key),
-            Operation::PutIf(key, expected, value) => LentOperation::PutIf(
+            Operation::Put(key, value) => Operation::Put(key, value),
+            Operation::Get(key) => Operation::Get(key),
+            Operation::Remove(key) => Operation::Remove(key),
+            Operation::PutIf(key, expected, value) => Operation::PutIf(
                 key,
                 expected.as_ref(),
                 value,
@@ -50,22 +41,22 @@ impl<'a, K: FarObject, V: FarObject> LentOperation<'a, K, V> {
         ensures { result.now ≡ key_of (lent self.now) }
     {
         match self {
-            LentOperation::Put(key, _) => key,
-            LentOperation::Get(key) => key,
-            LentOperation::Remove(key) => key,
-            LentOperation::PutIf(key, _, _) => key,
+            Operation::Put(key, _) => key,
+            Operation::Get(key) => key,
+            Operation::Remove(key) => key,
+            Operation::PutIf(key, _, _) => key,
         }
     }
 
     /// What it does to these contents.
-    pub fn effect(&self, contents: &[(K, V)]) -> Effect<'a, K, V>
+    pub(crate) fn effect(&self, contents: &[(K, V)]) -> Effect<'a, K, V>
         ensures { IsStrictlySortedBy (key_cmp K.enc) (keys_of contents.now) → with_effect K.enc contents.now result ≡ after K.enc V.enc contents.now (lent self.now) }
     {
         match self {
-            LentOperation::Put(key, value) => Effect::Puts(key, value),
-            LentOperation::Get(_) => Effect::Leaves,
-            LentOperation::Remove(key) => Effect::Cuts(key),
-            LentOperation::PutIf(key, expected, value) => {
+            Operation::Put(key, value) => Effect::Puts(key, value),
+            Operation::Get(_) => Effect::Leaves,
+            Operation::Remove(key) => Effect::Cuts(key),
+            Operation::PutIf(key, expected, value) => {
                 if is_expected(*expected, value_of(contents, *key)) {
                     Effect::Puts(key, value)
                 } else {
