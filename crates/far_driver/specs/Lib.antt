@@ -3,3 +3,4 @@ pub mod Reading
 pub mod Runs
 pub mod Arguments
 pub mod Statuses
+pub mod Sources

@@ -2,12 +2,15 @@
 use Rattle.std.specs.Prelude.{ℕ, List, length, Option, Some, None, Result, Err, ⊤}
 use Rattle.std.specs.Io.KnownBytes.{Keeps, Appends}
 use Rattle.hash_table.specs.declared.config.Config.{Config}
+use Rattle.hash_table.specs.Openings.{WasOpened}
 use Rattle.command_file.specs.declared.command.Command.{Command}
 use Rattle.run_lines.specs.Runs.{Ran}
-use Rattle.threaded_run.specs.Replies.{MayRefuse}
+use Rattle.threaded_run.specs.Replies.{MayReply}
 use Rattle.threaded_run.specs.Runs.{AreLines}
 use Rattle.far_driver.specs.declared.fault.RunFault.{RunFault}
 use Rattle.far_driver.specs.declared.fault.RunFault.TheVariants as fault
+use Rattle.far_driver.specs.declared.status.ProgramFault.{ProgramFault}
+use Rattle.far_driver.specs.declared.status.ProgramFault.TheVariants as program
 use Rattle.far_driver.specs.Arguments.{AskFor}
 use Rattle.far_driver.specs.Reading.{AreFiles, IsFaultOfOne}
 
@@ -16,7 +19,7 @@ pub record RanOn (buckets limit : ℕ) (readers : List (Option (List ℕ))) (old
   pub files : List (List Command)
   pub files_are : AreFiles readers files
   pub text : List ℕ
-  pub ran : Ran (MayRefuse buckets limit) files text
+  pub ran : Ran (MayReply buckets limit) files text
   pub appends : Appends old new text
 
 -- the readers gave these files, where they tell their bytes, and the writer got a line for each command
@@ -45,11 +48,18 @@ WritesBefore readers old new fault.Write = ⊤
 WritesBefore readers old new (fault.Contents r) = WroteLines readers old new
 WritesBefore readers old new _ = Keeps old new
 
--- the words are arguments, and the writer got what one history replies to as many files as they name
+-- what the writer has after a fault of the program: what it had where nothing was written yet, and lines of as many files as the words name where the contents can't be read
+abbrev pub LeavesOutput : List (List ℕ) → Option (List ℕ) → Option (List ℕ) → ProgramFault → Type 0
+LeavesOutput words old new (program.Run fault.Write) = ⊤
+LeavesOutput words old new (program.Run (fault.Contents r)) = (config : Config) × (readers : List (Option (List ℕ))) × AskFor words config (length readers) × WroteLines readers old new
+LeavesOutput words old new _ = Keeps old new
+
+-- the words are arguments, a table was opened with the settings that they ask for, and the writer got what one history replies to as many files as they name
 pub record RanWords (words : List (List ℕ)) (old new : Option (List ℕ)) : Type 0 where
   pub config : Config
   pub files : List (List Command)
   pub asked : AskFor words config (length files)
+  pub opened : WasOpened config
   pub text : List ℕ
-  pub ran : Ran (MayRefuse config.buckets config.limit) files text
+  pub ran : Ran (MayReply config.buckets config.limit) files text
   pub appends : Appends old new text

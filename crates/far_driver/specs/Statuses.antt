@@ -28,3 +28,11 @@ abbrev pub status_of : ProgramFault → ℕ
 status_of program.Usage = 2
 status_of (program.CannotOpen file) = 1
 status_of (program.Run f) = run_status f
+
+-- what the words ask for ended with this fault. It is opaque: only `run_words` tells it, and the lemma below is for its proof alone
+pub EndedWith : ProgramFault → Type 0
+EndedWith fault = Unit {0}
+
+pub ended_with : (fault : ProgramFault) → EndedWith fault
+unfolding EndedWith
+ended_with fault = tt

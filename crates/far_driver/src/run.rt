@@ -3,6 +3,7 @@ ghost use Rattle.std.specs.Prelude.{◌≡◌, ◌<◌, ◌≤◌, IsTrue, vec_l
 ghost use Rattle.std.specs.Thread.{IsSync};
 ghost use Rattle.far_driver.specs.Reading.{AreFiles, IsFaultOfOne};
 ghost use Rattle.hash_table.specs.Configs.{first_bad_with};
+ghost use Rattle.hash_table.specs.Openings.{WasOpened};
 ghost use Rattle.far_driver.specs.Runs.{told_field, RanOn, FitsFiles, WritesBefore};
 
 use crate::fault::{RunFault, of_threads};
@@ -39,6 +40,7 @@ where
     requires some { 0 < vec_len files }
     requires few { vec_len files ≤ 64 }
     ensures ran { OnOk result (IsTrue D.HONEST → RanOn config.buckets config.limit (map (λ f. B.remaining f) files.items) (W.contents out.old) (W.contents out.new)) }
+    ensures opened { OnOk result (WasOpened config) }
     ensures settings { told_field result ≡ first_bad_with (vec_len devices) config }
     ensures fault { IfErr result (FitsFiles (map (λ f. B.remaining f) files.items)) }
     ensures before { IfErr result (WritesBefore (map (λ f. B.remaining f) files.items) (W.contents out.old) (W.contents out.new)) }

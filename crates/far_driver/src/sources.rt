@@ -1,5 +1,6 @@
 //! Where commands come from: files, and standard input.
-ghost use Rattle.std.specs.Prelude.{◌≡◌, ◌≤◌, length, vec_len, IfOk};
+ghost use Rattle.std.specs.Prelude.{◌≡◌, ◌≤◌, length, vec_len, map, string_bytes, IfErr, IfOk};
+ghost use Rattle.far_driver.specs.Sources.{IsUnopened, IsSourceFault};
 
 use crate::fault::RunFault;
 use crate::status::ProgramFault;
@@ -29,25 +30,34 @@ impl<F: Read, I: Read> Read for Source<F, I> {
     }
 }
 
+/// The source of this name, where `-` is standard input, which is always open. A file's fault is the system's.
+fn open_source<R: Files + Input>(rt: &R, name: &str) -> io::Result<Source<R::File, R::Reader>>
+    ensures { IfErr result (λ _. IsUnopened name.now) }
+{
+    if name == "-" {
+        return Ok(Source::Input(rt.reader()));
+    }
+    match File::open(rt, name) {
+        Ok(file) => Ok(Source::File(file)),
+        Err(fault) => Err(fault),
+    }
+}
+
 /// The sources of the files of these names, in order, each with a buffer of its own; `-` is standard input.
 ///
-/// `CannotOpen` names the first that can't be opened.
+/// `CannotOpen` names the first that can't be opened, counted from 1. Want of memory is `RunFault::Memory`.
 pub(crate) fn open_sources<R: Files + Input + AllocGlobal>(
     rt: &R,
     names: &[String],
 ) -> Result<Vec<BufReader<Source<R::File, R::Reader>>>, ProgramFault>
     requires few { length names.now ≤ 64 }
-    ensures { IfOk result (λ sources. vec_len sources ≡ length names.now) }
+    ensures count { IfOk result (λ sources. vec_len sources ≡ length names.now) }
+    ensures fault { IfErr result (IsSourceFault (map string_bytes names.now)) }
 {
     let mut sources = Vec::new(rt.alloc());
     for (at, name) in names.iter().enumerate() {
-        let source = if name.as_str() == "-" {
-            Source::Input(rt.reader())
-        } else {
-            match File::open(rt, name.as_str()) {
-                Ok(file) => Source::File(file),
-                Err(_) => return Err(ProgramFault::CannotOpen(at as u32 + 1)),
-            }
+        let Ok(source) = open_source(rt, name.as_str()) else {
+            return Err(ProgramFault::CannotOpen(at as u32 + 1));
         };
         let Ok(source) = BufReader::with_capacity(rt.alloc(), READ_BYTES, source) else {
             return Err(ProgramFault::Run(RunFault::Memory));

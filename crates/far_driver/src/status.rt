@@ -1,5 +1,7 @@
 //! Why the program ends early, and the status that it ends with.
 ghost use Rattle.std.specs.Prelude.{◌≡◌};
+ghost use Rattle.far_driver.specs.declared.fault.RunFault.TheVariants.{Memory as run_memory};
+ghost use Rattle.far_driver.specs.declared.status.ProgramFault.TheVariants.{Run as program_run};
 ghost use Rattle.far_driver.specs.Statuses.{status_of};
 
 use crate::fault::RunFault;
@@ -21,12 +23,16 @@ pub enum ProgramFault {
 }
 
 impl From<RunFault> for ProgramFault {
+    ghost from_gives = { λ fault program. program ≡ program_run fault };
+
     fn from(fault: RunFault) -> ProgramFault {
         ProgramFault::Run(fault)
     }
 }
 
 impl From<Memory> for ProgramFault {
+    ghost from_gives = { λ _ program. program ≡ program_run run_memory };
+
     fn from(_refused: Memory) -> ProgramFault {
         ProgramFault::Run(RunFault::Memory)
     }

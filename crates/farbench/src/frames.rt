@@ -12,6 +12,7 @@ use std::marker::Brand;
 use std::rt::Clock;
 use std::sync::Wait;
 use std::thread::Threads;
+use table_core::word::EMPTY_PLACE;
 use version_words::{Naming, Opened, Pass, Sizes, Words};
 
 /// How many frames are left free: one for each of the most threads.
@@ -80,12 +81,15 @@ fn fill<J: Naming>(
         bail!("no name is left");
     };
     let Ok(reserved) = frames.reserve() else {
+        drop(name.give_up(EMPTY_PLACE));
         bail!("no frame is free");
     };
+    let number = name.number();
     let version = Version::new(&name, object);
+    drop(name.give_up(reserved.frame()));
     Ok(Filled {
         frame: reserved.fill(version),
-        name: name.number(),
+        name: number,
     })
 }
 

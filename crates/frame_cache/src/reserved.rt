@@ -1,5 +1,6 @@
 //! A frame that is about to be filled.
 ghost use Rattle.std.specs.Prelude.{◌≡◌, ◌<◌};
+ghost use Rattle.frame_cache.specs.Fills.{WasFilled};
 
 use crate::frames::Frames;
 use crate::slot::{SlotClaim, word_of};
@@ -40,7 +41,8 @@ impl<'a, K: FarObject, V: FarObject, J: Naming> Reserved<'a, K, V, J> {
 
     /// Puts the version into the frame, and answers the frame's number.
     pub fn fill(self, version: Version<K, V, J>) -> u32
-        ensures { result ≡ self.entry }
+        ensures frame { result ≡ self.entry }
+        ensures filled { WasFilled self.entry version.bucket version.name }
     {
         let Self {
             frames: _,

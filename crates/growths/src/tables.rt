@@ -60,7 +60,7 @@ pub enum Call {
 }
 
 /// Each call on a table.
-const CALLS: [(&str, Call); 26] = [
+const CALLS: [(&str, Call); 28] = [
     ("enter", Call::Enter),
     ("try_get", Call::Deed(Deed::TryGet, Place::Frame)),
     ("open_scope", Call::OpenScope),
@@ -95,6 +95,14 @@ const CALLS: [(&str, Call); 26] = [
     ("try_put_if", Call::Deed(Deed::TryPutIf, Place::Frame)),
     ("put_if, a frame", Call::Deed(Deed::PutIf, Place::Frame)),
     ("put_if, the device", Call::Deed(Deed::PutIf, Place::Device)),
+    (
+        "remove_if, a frame",
+        Call::Deed(Deed::RemoveIf, Place::Frame),
+    ),
+    (
+        "remove_if, the device",
+        Call::Deed(Deed::RemoveIf, Place::Device),
+    ),
     ("fetch", Call::Fetch),
     ("swap_out", Call::SwapOut),
     ("reclaim, a frame", Call::Reclaim(Place::Frame)),

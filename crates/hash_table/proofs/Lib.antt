@@ -4,6 +4,7 @@ pub mod Fronts
 pub mod Refused
 pub mod Places
 pub mod Moves
+pub mod Steps
 pub mod Meeting
 pub mod Settings
 pub mod Ends

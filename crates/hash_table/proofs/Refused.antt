@@ -1,16 +1,18 @@
 -- Why a call is refused where a stage of it was.
-use Rattle.std.proofs.Common.{◌≡◌, ◌≢◌, ℕ, ◌<◌, Bool, IsTrue, List, length, ap, ◌∙◌, subst, inl, inr, ◌⊎◌}
-use Rattle.far_object.specs.Objects.{object_of}
+use Rattle.std.proofs.Common.{◌≡◌, ◌≢◌, ℕ, ◌<◌, Bool, IsTrue, List, ap, ◌∙◌, subst, inl, inr, ◌⊎◌}
 use Rattle.table_core.specs.declared.event.Event.{Event}
 use Rattle.table_core.specs.declared.limits.Limits.{Limits}
 use Rattle.table_core.specs.declared.operation.Operation.{Operation}
+use Rattle.table_core.specs.declared.operation.Operation.TheVariants as op
 use Rattle.table_core.specs.BucketWords.{name_of, place_of, far_place}
-use Rattle.table_core.specs.Maps.{after, at_bucket, map_of}
+use Rattle.table_core.specs.Maps.{at_bucket, map_of}
 use Rattle.table_core.specs.Logs.{word, contents, history, names_of}
 use Rattle.table_core.specs.Lawful.{IsLawful}
 use Rattle.table_core.proofs.Histories.{agree}
 use Rattle.version_words.specs.Views.{PassView, Goes}
 use Rattle.version_words.proofs.Fronts.{prefix_self, prefix_trans}
+use Rattle.version_words.specs.Faults.{WasOvertaken}
+use Rattle.hash_table.specs.Changes.{Sets, SetsIn, IsTooLongFor}
 use Rattle.hash_table.specs.Calls.{SeenInCall, IsTooLong, HasMoved, IsRefused, IsUnchanged, IsFull}
 use Rattle.hash_table.specs.Refusals.{OfSwapOut}
 use Rattle.hash_table.specs.Stages.{IsUnread, IsUnreadFar, IsUnmade, IsUnbuilt, IsUnbuiltFar, IsUndrawn, IsUnpublished}
@@ -18,6 +20,13 @@ use Rattle.hash_table.specs.declared.refusal.Refusal.{Refusal}
 use Rattle.hash_table.specs.declared.refusal.Refusal.TheVariants as refusal
 
 module _ {K V : Type 0} (ek : K → List ℕ) (ev : V → List ℕ) where
+  -- what sets its key somewhere may set it
+  pub sets_in : (es : List (K × V)) (o : Operation K V) → SetsIn ek ev es o → Sets o
+  sets_in es (op.Put k v) h = tt
+  sets_in es (op.Get k) h = h
+  sets_in es (op.Remove k) h = h
+  sets_in es (op.PutIf k expected v) h = tt
+
   -- what is not made of contents is not made of those that they are over an honest device
   pub unmade_unbuilt : (is_honest : Bool) (limit w : ℕ) (es fs : List (K × V)) (o : Operation K V) (e : Refusal) → (IsTrue is_honest → es ≡ fs) → IsUnmade ek ev limit es o e → IsUnbuilt ek ev is_honest limit w fs o e
   unmade_unbuilt is_honest limit w es fs o refusal.Memory same h = tt
@@ -25,7 +34,7 @@ module _ {K V : Type 0} (ek : K → List ℕ) (ev : V → List ℕ) where
   unmade_unbuilt is_honest limit w es fs o refusal.Moved same h = absurd h
   unmade_unbuilt is_honest limit w es fs o refusal.Missed same h = tt
   unmade_unbuilt is_honest limit w es fs o refusal.NoFrame same h = absurd h
-  unmade_unbuilt is_honest limit w es fs o refusal.TooLong same h = (h.0, λ honest. subst (λ (x : List (K × V)). limit < length (object_of ek ev (after ek ev x o))) (same honest) h.1)
+  unmade_unbuilt is_honest limit w es fs o refusal.TooLong same h = (sets_in es o h.0, λ honest. subst (λ (x : List (K × V)). IsTooLongFor ek ev limit x o) (same honest) h)
   unmade_unbuilt is_honest limit w es fs o refusal.NamesSpent same h = absurd h
   unmade_unbuilt is_honest limit w es fs o refusal.LimboFull same h = absurd h
   unmade_unbuilt is_honest limit w es fs o refusal.Device same h = absurd h
@@ -37,7 +46,7 @@ module _ {K V : Type 0} (ek : K → List ℕ) (ev : V → List ℕ) where
   unmade_far is_honest limit es fs o refusal.Moved same h = absurd h
   unmade_far is_honest limit es fs o refusal.Missed same h = tt
   unmade_far is_honest limit es fs o refusal.NoFrame same h = absurd h
-  unmade_far is_honest limit es fs o refusal.TooLong same h = (h.0, λ honest. subst (λ (x : List (K × V)). limit < length (object_of ek ev (after ek ev x o))) (same honest) h.1)
+  unmade_far is_honest limit es fs o refusal.TooLong same h = (sets_in es o h.0, λ honest. subst (λ (x : List (K × V)). IsTooLongFor ek ev limit x o) (same honest) h)
   unmade_far is_honest limit es fs o refusal.NamesSpent same h = absurd h
   unmade_far is_honest limit es fs o refusal.LimboFull same h = absurd h
   unmade_far is_honest limit es fs o refusal.Device same h = tt
@@ -76,12 +85,12 @@ module _ {K V : Type 0} (ek : K → List ℕ) (ev : V → List ℕ) where
 
     -- what is too long for the contents of a word that stands in its bucket is so for the bucket's map
     too_long_at : (limit b k w : ℕ) (o : Operation K V) {old new : PassView K V} → Goes old new → IsLawful ek ev l new.front → b ≡ k → w ≡ word ek l.buckets new.front b
-        → (IsTrue l.honest → limit < length (object_of ek ev (after ek ev (contents new.front (name_of w)) o))) → IsTrue l.honest → SeenInCall old new (IsTooLong ek ev l limit k o)
+        → (IsTrue l.honest → IsTooLongFor ek ev limit (contents new.front (name_of w)) o) → IsTrue l.honest → SeenInCall old new (IsTooLong ek ev l limit k o)
     too_long_at limit b k w o {old} {new} goes lawful is at h honest = (
       new.front,
       goes.grows,
       prefix_self new.front,
-      subst (λ (c : ℕ). IsTooLong ek ev l limit c o new.front) is (subst (λ (x : List (K × V)). limit < length (object_of ek ev (after ek ev x o))) (map_at new.front b w honest lawful at) (h honest)),
+      subst (λ (c : ℕ). IsTooLong ek ev l limit c o new.front) is (subst (λ (x : List (K × V)). IsTooLongFor ek ev limit x o) (map_at new.front b w honest lawful at) (h honest)),
     )
 
     pub unread_refused : (old new : PassView K V) (b k w : ℕ) (e : Refusal) → b ≡ k → w ≡ word ek l.buckets new.front b → IsUnread w e → IsRefused ek ev l k old new e
@@ -134,7 +143,7 @@ module _ {K V : Type 0} (ek : K → List ℕ) (ev : V → List ℕ) where
     unbuilt_far_refused {old} {new} limit b k w o refusal.Device goes lawful is at h = tt
     unbuilt_far_refused {old} {new} limit b k w o refusal.Damaged goes lawful is at h = h
 
-    moved_by : {old mid new : PassView K V} (b k w : ℕ) → Goes old mid → Goes mid new → b ≡ k → w ≡ word ek l.buckets mid.front b → (word ek l.buckets new.front b ≢ w) ⊎ (names_of mid.front < names_of new.front)
+    moved_by : {old mid new : PassView K V} (b k w : ℕ) → Goes old mid → Goes mid new → b ≡ k → w ≡ word ek l.buckets mid.front b → (word ek l.buckets new.front b ≢ w) ⊎ ((names_of mid.front < names_of new.front) × WasOvertaken new.front)
         → SeenInCall old new (HasMoved ek ev l k new.front)
     moved_by {old} {mid} {new} b k w goes on is at (inl other) = (mid.front, goes.grows, on.grows, rw (← is, ← at) (inl other))
     moved_by {old} {mid} {new} b k w goes on is at (inr more) = (mid.front, goes.grows, on.grows, inr more)

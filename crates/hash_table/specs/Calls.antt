@@ -1,16 +1,16 @@
 -- What a call of the table tells of the logs that its caller has seen.
 use Rattle.std.specs.Prelude.{◌≡◌, ◌≢◌, ℕ, ◌<◌, IsTrue, List, [], ◌∷◌, ◌++◌, length, Option, ⊤, ◌⊎◌}
 use mathlib.Core.List.{IsPrefix}
-use Rattle.far_object.specs.Objects.{object_of}
 use Rattle.table_core.specs.declared.event.Event.{Event}
-use Rattle.table_core.specs.declared.event.Event.TheVariants.{Done, Moved}
+use Rattle.table_core.specs.declared.event.Event.TheVariants.{Done}
 use Rattle.table_core.specs.declared.limits.Limits.{Limits}
 use Rattle.table_core.specs.declared.operation.Operation.{Operation}
 use Rattle.table_core.specs.BucketWords.{place_of, far_place}
-use Rattle.table_core.specs.Maps.{at_bucket, after, map_of}
+use Rattle.table_core.specs.Maps.{at_bucket, map_of}
 use Rattle.table_core.specs.Logs.{history, names_of, word}
 use Rattle.version_words.specs.Views.{PassView, Calls, EndsWith, IsAnswered}
-use Rattle.hash_table.specs.Changes.{Sets}
+use Rattle.version_words.specs.Faults.{WasOvertaken}
+use Rattle.hash_table.specs.Changes.{Sets, IsTooLongFor}
 use Rattle.hash_table.specs.declared.refusal.Refusal.{Refusal}
 use Rattle.hash_table.specs.declared.refusal.Refusal.TheVariants as refusal
 
@@ -42,13 +42,13 @@ module _ {K V : Type 0} (ek : K → List ℕ) (ev : V → List ℕ) (l : Limits)
   abbrev pub IsNear : ℕ → List (Event K V) → Type 0
   IsNear b log = place_of (word ek l.buckets log b) ≢ far_place
 
-  -- the bucket's word is another one now, or another name was drawn
+  -- the bucket's word is another one now, or another name was drawn where this call was to draw one
   abbrev pub HasMoved : ℕ → List (Event K V) → List (Event K V) → Type 0
-  HasMoved b now log = (word ek l.buckets now b ≢ word ek l.buckets log b) ⊎ (names_of log < names_of now)
+  HasMoved b now log = (word ek l.buckets now b ≢ word ek l.buckets log b) ⊎ ((names_of log < names_of now) × WasOvertaken now)
 
-  -- the object of the bucket's map after the operation is longer than the limit
+  -- the operation is too long for the bucket's map
   abbrev pub IsTooLong : ℕ → ℕ → Operation K V → List (Event K V) → Type 0
-  IsTooLong limit b o log = limit < length (object_of ek ev (after ek ev (at_bucket ek l.buckets b (map_of ek ev (history log))) o))
+  IsTooLong limit b o log = IsTooLongFor ek ev limit (at_bucket ek l.buckets b (map_of ek ev (history log))) o
 
   -- why a call of this bucket is refused; of the others nothing is said
   abbrev pub IsRefused : ℕ → PassView K V → PassView K V → Refusal → Type 0
@@ -67,8 +67,3 @@ module _ {K V : Type 0} (ek : K → List ℕ) (ev : V → List ℕ) (l : Limits)
 abbrev pub IsFull : Refusal → ℕ → Type 0
 IsFull refusal.LimboFull n = n ≡ most_spares
 IsFull _ n = ⊤
-
-module _ {K V : Type 0} where
-  -- a move of the bucket to a place that is so stands last
-  abbrev pub IsMoved : ℕ → (ℕ → Type 0) → PassView K V → PassView K V → Type 0
-  IsMoved b P old new = (w : ℕ) × P (place_of w) × EndsWith old.front (Moved b w) new.front

@@ -4,6 +4,7 @@ pub mod Limbos
 pub mod Refusals
 pub mod Changes
 pub mod Stages
+pub mod Steps
 pub mod Calls
 pub mod Rounds
 pub mod Scopes

@@ -1,5 +1,5 @@
 -- Which refusals there may be.
-use Rattle.std.specs.Prelude.{Bool, true, false, ⊤}
+use Rattle.std.specs.Prelude.{ℕ, Bool, true, false, ⊤}
 use Rattle.hash_table.specs.declared.refusal.Refusal.{Refusal}
 use Rattle.hash_table.specs.declared.refusal.Refusal.TheVariants as refusal
 
@@ -78,3 +78,11 @@ OfSwapOut refusal.TooLong = ⊥
 OfSwapOut refusal.NoFrame = ⊥
 OfSwapOut refusal.Damaged = ⊥
 OfSwapOut _ = ⊤
+
+-- `swap_out` of this frame was refused so. It is opaque: who promises it has had `swap_out` answer it, or cites the lemma below, which is for the proof of `swap_out` alone
+pub WasRefused : ℕ → Refusal → Type 0
+WasRefused frame e = Unit {0}
+
+pub was_refused : (frame : ℕ) (e : Refusal) → WasRefused frame e
+unfolding WasRefused
+was_refused frame e = tt

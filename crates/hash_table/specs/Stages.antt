@@ -1,13 +1,12 @@
 -- What the stages of a call tell.
 use Rattle.std.specs.Prelude.{◌≡◌, ◌≢◌, ℕ, ◌<◌, Bool, IsTrue, true, false, List, ⊤, length, ◌⊎◌}
-use Rattle.far_object.specs.Objects.{object_of}
 use Rattle.table_core.specs.declared.limits.Limits.{Limits}
 use Rattle.table_core.specs.declared.operation.Operation.{Operation}
 use Rattle.table_core.specs.BucketWords.{place_of, empty_place, far_place}
-use Rattle.table_core.specs.Maps.{after}
 use Rattle.table_core.specs.Logs.{names_of, word}
 use Rattle.version_words.specs.Views.{PassView, has_object}
-use Rattle.hash_table.specs.Changes.{Sets}
+use Rattle.version_words.specs.Faults.{WasOvertaken}
+use Rattle.hash_table.specs.Changes.{Sets, IsTooLongFor}
 use Rattle.hash_table.specs.declared.refusal.Refusal.{Refusal}
 use Rattle.hash_table.specs.declared.refusal.Refusal.TheVariants as refusal
 use Rattle.hash_table.specs.declared.stages.seen.Place.{Place}
@@ -42,7 +41,7 @@ module _ {K V : Type 0} (ek : K → List ℕ) (ev : V → List ℕ) where
   -- why nothing was made of contents
   abbrev pub IsUnmade : ℕ → List (K × V) → Operation K V → Refusal → Type 0
   IsUnmade limit es o refusal.Memory = ⊤
-  IsUnmade limit es o refusal.TooLong = Sets o × (limit < length (object_of ek ev (after ek ev es o)))
+  IsUnmade limit es o refusal.TooLong = IsTooLongFor ek ev limit es o
   IsUnmade limit es o _ = ⊥
 
   -- why nothing was made of the contents of a word, which lie in a frame
@@ -50,23 +49,29 @@ module _ {K V : Type 0} (ek : K → List ℕ) (ev : V → List ℕ) where
   IsUnbuilt is_honest limit w es o refusal.Memory = ⊤
   IsUnbuilt is_honest limit w es o refusal.Far = place_of w ≡ far_place
   IsUnbuilt is_honest limit w es o refusal.Missed = ⊤
-  IsUnbuilt is_honest limit w es o refusal.TooLong = Sets o × (IsTrue is_honest → limit < length (object_of ek ev (after ek ev es o)))
+  IsUnbuilt is_honest limit w es o refusal.TooLong = Sets o × (IsTrue is_honest → IsTooLongFor ek ev limit es o)
   IsUnbuilt is_honest limit w es o _ = ⊥
 
   -- why nothing was made of the contents of a word, wherever they lie
   abbrev pub IsUnbuiltFar : Bool → ℕ → List (K × V) → Operation K V → Refusal → Type 0
   IsUnbuiltFar is_honest limit es o refusal.Memory = ⊤
   IsUnbuiltFar is_honest limit es o refusal.Missed = ⊤
-  IsUnbuiltFar is_honest limit es o refusal.TooLong = Sets o × (IsTrue is_honest → limit < length (object_of ek ev (after ek ev es o)))
+  IsUnbuiltFar is_honest limit es o refusal.TooLong = Sets o × (IsTrue is_honest → IsTooLongFor ek ev limit es o)
   IsUnbuiltFar is_honest limit es o refusal.Device = ⊤
   IsUnbuiltFar is_honest limit es o refusal.Damaged = IsTrue is_honest → ⊥
   IsUnbuiltFar is_honest limit es o _ = ⊥
+
+module _ {K V : Type 0} where
+  -- where no frame was free nothing was done
+  abbrev pub IsUntouched : PassView K V → PassView K V → Refusal → Type 0
+  IsUntouched old new refusal.NoFrame = new ≡ old
+  IsUntouched old new _ = ⊤
 
 module _ {K V : Type 0} (l : Limits) where
   -- why no name was drawn: the last one was, or another was drawn meanwhile
   abbrev pub IsUndrawn : PassView K V → PassView K V → Refusal → Type 0
   IsUndrawn old new refusal.NamesSpent = names_of new.front ≡ l.names
-  IsUndrawn old new refusal.Moved = names_of old.front < names_of new.front
+  IsUndrawn old new refusal.Moved = (names_of old.front < names_of new.front) × WasOvertaken new.front
   IsUndrawn old new _ = ⊥
 
 module _ {K V : Type 0} (ek : K → List ℕ) (l : Limits) where
@@ -74,5 +79,5 @@ module _ {K V : Type 0} (ek : K → List ℕ) (l : Limits) where
   abbrev pub IsUnpublished : ℕ → ℕ → PassView K V → PassView K V → Refusal → Type 0
   IsUnpublished b w old new refusal.NoFrame = ⊤
   IsUnpublished b w old new refusal.NamesSpent = names_of new.front ≡ l.names
-  IsUnpublished b w old new refusal.Moved = (word ek l.buckets new.front b ≢ w) ⊎ (names_of old.front < names_of new.front)
+  IsUnpublished b w old new refusal.Moved = (word ek l.buckets new.front b ≢ w) ⊎ ((names_of old.front < names_of new.front) × WasOvertaken new.front)
   IsUnpublished b w old new _ = ⊥

@@ -1,5 +1,5 @@
 //! Changes: put, remove and put_if.
-ghost use Rattle.std.specs.Prelude.{◌≡◌, ◌<◌, ◌≤◌, Some, IsTrue, IfOk, IfErr, length};
+ghost use Rattle.std.specs.Prelude.{◌≡◌, IsTrue, IfOk, IfErr, length};
 ghost use mathlib.Core.List.{IsPrefix};
 ghost use Rattle.far_object.specs.Buckets.{bucket};
 ghost use Rattle.table_core.specs.declared.operation.Operation.TheVariants as op;
@@ -8,15 +8,15 @@ ghost use Rattle.table_core.specs.Maps.{key_of, reply};
 ghost use Rattle.table_core.specs.Lent.{lent, lent_value};
 ghost use Rattle.table_core.specs.Logs.{contents};
 ghost use Rattle.table_core.specs.Lawful.{IsLawful};
-ghost use Rattle.version_words.specs.Views.{Goes, WasSeen, operation_of, probed};
-ghost use Rattle.hash_table.specs.Calls.{most_spares, AtMostOneMore, IsFinished, IsUnchanged, IsFull};
+ghost use Rattle.version_words.specs.Views.{Goes, WasSeen};
+ghost use Rattle.hash_table.specs.Calls.{AtMostOneMore, IsFinished, IsUnchanged, IsFull};
 ghost use Rattle.hash_table.specs.Refusals.{OfLocalChange, OfChange};
 ghost use Rattle.hash_table.specs.Rounds.{IsRound};
-ghost use Rattle.hash_table.specs.Changes.{MayChange, MayLeave, MayMake, Leaves};
-ghost use Rattle.hash_table.specs.Stages.{IsUnbuilt, IsUnbuiltFar, IsUnpublished};
+ghost use Rattle.hash_table.specs.Changes.{MayMake, Leaves, Fits};
+ghost use Rattle.hash_table.specs.Stages.{IsUnbuilt, IsUnbuiltFar};
+ghost use Rattle.hash_table.specs.Steps.{IsOfFrame, LeavesSpares, GaveUp, IsInstalled, IsInstalledLater, IsRoundLeft};
 
 use crate::caller::Caller;
-use crate::limbo::Limbo;
 use crate::refusal::Refusal;
 use crate::round::{Round, after};
 use crate::stages::build::{Built, build, build_first};
@@ -27,33 +27,7 @@ use far_object::FarObject;
 use std::alloc::Global;
 use std::sync::Wait;
 use table_core::Operation;
-use version_words::{Change, Naming, Pass, Probe, empty_holds, seen_answers};
-
-// As it is installed.
-fn change_of<'a, K, V>(operation: &Operation<&'a K, &'a V>) -> Change<'a, K, V>
-    requires { MayChange (lent operation.now) }
-    ensures { operation_of result ≡ Some (lent operation.now) }
-{
-    match operation {
-        Operation::Put(key, value) => Change::Put(key, value),
-        Operation::Get(_) => unreachable!(),
-        Operation::Remove(key) => Change::Remove(key),
-        Operation::PutIf(key, expected, value) => Change::PutIf(key, *expected, value),
-    }
-}
-
-// As it leaves its bucket.
-fn probe_of<'a, K, V>(operation: &Operation<&'a K, &'a V>) -> Probe<'a, K, V>
-    requires { MayLeave (lent operation.now) }
-    ensures { probed result ≡ lent operation.now }
-{
-    match operation {
-        Operation::Put(_, _) => unreachable!(),
-        Operation::Get(key) => Probe::Get(key),
-        Operation::Remove(key) => Probe::Remove(key),
-        Operation::PutIf(key, expected, value) => Probe::PutIf(key, *expected, value),
-    }
-}
+use version_words::{Naming, Pass, empty_holds};
 
 impl<K: FarObject, V: FarObject, J: Naming, D: Device> FarTable<K, V, J, D> {
     /// What the operation makes of the contents of a word that was seen, which lie in a frame.
@@ -69,6 +43,7 @@ impl<K: FarObject, V: FarObject, J: Naming, D: Device> FarTable<K, V, J, D> {
         requires seen { WasSeen K.enc J.limits.buckets pass.now.front b old }
         ensures answer { IfOk result (λ t. IsTrue J.limits.honest → t.answer ≡ reply K.enc (contents pass.now.front (name_of old)) (lent operation.now)) }
         ensures object { IfOk result (λ t. IsTrue J.limits.honest → Leaves K.enc V.enc (contents pass.now.front (name_of old)) (lent operation.now) t.object) }
+        ensures fits { IfOk result (λ t. Fits K.enc V.enc self.now.limit (lent operation.now) t.object) }
         ensures may { IfOk result (λ t. MayMake (lent operation.now) t.object) }
         ensures why { IfErr result (λ e. IsUnbuilt K.enc V.enc J.limits.honest self.now.limit old (contents pass.now.front (name_of old)) (lent operation.now) e) }
     {
@@ -95,50 +70,6 @@ impl<K: FarObject, V: FarObject, J: Naming, D: Device> FarTable<K, V, J, D> {
         }
     }
 
-    /// Installs what was built over the word that was seen, or finds that word still there where it is left.
-    fn settle<'a>(
-        &self,
-        pass: &mut Pass<K, V, J>,
-        limbo: &mut Limbo<K, V, J>,
-        b: u32,
-        old: u64,
-        built: Built<K, V>,
-        operation: &Operation<&'a K, &'a V>,
-    ) -> Result<Option<V>, Refusal>
-        requires bucket { (b < J.limits.buckets) × (bucket K.enc J.limits.buckets (key_of (lent operation.now)) ≡ b) }
-        requires lawful { IsLawful K.enc V.enc J.limits pass.old.front }
-        requires seen { WasSeen K.enc J.limits.buckets pass.old.front b old }
-        requires answer { IsTrue J.limits.honest → built.answer ≡ reply K.enc (contents pass.old.front (name_of old)) (lent operation.now) }
-        requires object { IsTrue J.limits.honest → Leaves K.enc V.enc (contents pass.old.front (name_of old)) (lent operation.now) built.object }
-        requires may { MayMake (lent operation.now) built.object }
-        requires room { length limbo.old < most_spares }
-        ensures lawful { IsLawful K.enc V.enc J.limits pass.new.front }
-        ensures limbo { AtMostOneMore limbo.old limbo.new }
-        ensures finished { IfOk result (λ r. IsFinished K.enc V.enc J.limits pass.old (lent operation.now) r pass.new) }
-        ensures goes { IfErr result (λ _. Goes pass.old pass.new) }
-        ensures why { IfErr result (λ e. IsUnpublished K.enc J.limits b old pass.old pass.new e) }
-    {
-        seen_answers::<K, V>();
-        let Built { answer, object } = built;
-        let Some(object) = object else {
-            return match self.words.check(pass, b, old, &probe_of(operation)) {
-                Ok(()) => Ok(answer),
-                Err(_) => Err(Refusal::Moved),
-            };
-        };
-        let change = change_of(operation);
-        if object.count() == 0 {
-            return match self.publish_empty(pass, limbo, b, old, &object, &change) {
-                Ok(()) => Ok(answer),
-                Err(refusal) => Err(refusal),
-            };
-        }
-        match self.publish_local(pass, limbo, b, old, object, &change) {
-            Ok(()) => Ok(answer),
-            Err(refusal) => Err(refusal),
-        }
-    }
-
     /// One try of a change, from a frame.
     fn try_change<'a>(
         &self,
@@ -149,6 +80,8 @@ impl<K: FarObject, V: FarObject, J: Naming, D: Device> FarTable<K, V, J, D> {
         ensures lawful { IsLawful K.enc V.enc J.limits caller.new.pass.front }
         ensures limbo { AtMostOneMore caller.old.limbo caller.new.limbo }
         ensures finished { IfOk result (λ r. IsFinished K.enc V.enc J.limits caller.old.pass (lent operation.now) r caller.new.pass) }
+        ensures installed { IfOk result (λ _. IsInstalled K.enc V.enc J.limits self.now.limit self.now.frames (bucket K.enc J.limits.buckets (key_of (lent operation.now))) (lent operation.now) caller.old.pass caller.old.limbo caller.new.pass caller.new.limbo) }
+        ensures given_up { IfErr result (λ e. LeavesSpares (IsOfFrame self.now.frames (bucket K.enc J.limits.buckets (key_of (lent operation.now)))) caller.old.limbo caller.new.limbo e) }
         ensures goes { IfErr result (λ _. Goes caller.old.pass caller.new.pass) }
         ensures refused { IfErr result (λ e. IsUnchanged K.enc V.enc J.limits self.now.limit (bucket K.enc J.limits.buckets (key_of (lent operation.now))) (lent operation.now) caller.old.pass caller.new.pass e) }
         ensures full { IfErr result (λ e. IsFull e (length caller.old.limbo)) }
@@ -178,7 +111,7 @@ impl<K: FarObject, V: FarObject, J: Naming, D: Device> FarTable<K, V, J, D> {
     }
 
     // What the operation makes of the contents of a word that was seen, wherever they lie.
-    fn build_anywhere<'a, R: Wait>(
+    pub(crate) fn build_anywhere<'a, R: Wait>(
         &self,
         rt: &R,
         alloc: Global,
@@ -191,6 +124,7 @@ impl<K: FarObject, V: FarObject, J: Naming, D: Device> FarTable<K, V, J, D> {
         requires seen { WasSeen K.enc J.limits.buckets pass.now.front b old }
         ensures answer { IfOk result (λ t. IsTrue J.limits.honest → t.answer ≡ reply K.enc (contents pass.now.front (name_of old)) (lent operation.now)) }
         ensures object { IfOk result (λ t. IsTrue J.limits.honest → Leaves K.enc V.enc (contents pass.now.front (name_of old)) (lent operation.now) t.object) }
+        ensures fits { IfOk result (λ t. Fits K.enc V.enc self.now.limit (lent operation.now) t.object) }
         ensures may { IfOk result (λ t. MayMake (lent operation.now) t.object) }
         ensures why { IfErr result (λ e. IsUnbuiltFar K.enc V.enc J.limits.honest self.now.limit (contents pass.now.front (name_of old)) (lent operation.now) e) }
     {
@@ -219,8 +153,12 @@ impl<K: FarObject, V: FarObject, J: Naming, D: Device> FarTable<K, V, J, D> {
         }
     }
 
-    // One round of a change, wherever the contents lie.
-    fn change_round<'a, R: Wait>(
+    /// One round of an operation, wherever its bucket's contents lie: a put, remove or put_if goes on by these until one is finished.
+    /// A get reads a far bucket through.
+    ///
+    /// `Again` where another round may finish it: the frame or the lane did not give the version, or the bucket's word is another
+    /// one by now; it leaves one spare at most, of the name that the round drew. It is refused as `put` is, and leaves no spare then.
+    pub fn change_round<'a, R: Wait>(
         &self,
         rt: &R,
         alloc: Global,
@@ -230,6 +168,8 @@ impl<K: FarObject, V: FarObject, J: Naming, D: Device> FarTable<K, V, J, D> {
         ensures lawful { IsLawful K.enc V.enc J.limits caller.new.pass.front }
         ensures limbo { AtMostOneMore caller.old.limbo caller.new.limbo }
         ensures round { IfOk result (λ r. IsRound K.enc V.enc J.limits caller.old.pass (lent operation.now) r caller.new.pass) }
+        ensures left { IfOk result (λ r. IsRoundLeft K.enc V.enc J.limits self.now.limit self.now.frames (bucket K.enc J.limits.buckets (key_of (lent operation.now))) (lent operation.now) caller.old.pass caller.old.limbo r caller.new.pass caller.new.limbo) }
+        ensures given_up { IfErr result (λ e. LeavesSpares (IsOfFrame self.now.frames (bucket K.enc J.limits.buckets (key_of (lent operation.now)))) caller.old.limbo caller.new.limbo e) }
         ensures goes { IfErr result (λ _. Goes caller.old.pass caller.new.pass) }
         ensures refused { IfErr result (λ e. IsUnchanged K.enc V.enc J.limits self.now.limit (bucket K.enc J.limits.buckets (key_of (lent operation.now))) (lent operation.now) caller.old.pass caller.new.pass e) }
         ensures full { IfErr result (λ e. IsFull e (length caller.new.limbo)) }
@@ -277,6 +217,8 @@ impl<K: FarObject, V: FarObject, J: Naming, D: Device> FarTable<K, V, J, D> {
         ensures lawful { IsLawful K.enc V.enc J.limits caller.new.pass.front }
         ensures limbo { IsPrefix caller.old.limbo caller.new.limbo }
         ensures finished { IfOk result (λ r. IsFinished K.enc V.enc J.limits caller.old.pass (lent operation.now) r caller.new.pass) }
+        ensures installed { IfOk result (λ _. IsInstalledLater K.enc V.enc J.limits self.now.limit self.now.frames (bucket K.enc J.limits.buckets (key_of (lent operation.now))) (lent operation.now) caller.old.pass caller.old.limbo caller.new.pass caller.new.limbo) }
+        ensures given_up { IfErr result (λ _. GaveUp (IsOfFrame self.now.frames (bucket K.enc J.limits.buckets (key_of (lent operation.now)))) caller.old.limbo caller.new.limbo) }
         ensures goes { IfErr result (λ _. Goes caller.old.pass caller.new.pass) }
         ensures refused { IfErr result (λ e. IsUnchanged K.enc V.enc J.limits self.now.limit (bucket K.enc J.limits.buckets (key_of (lent operation.now))) (lent operation.now) caller.old.pass caller.new.pass e) }
         ensures full { IfErr result (λ e. IsFull e (length caller.new.limbo)) }
@@ -298,6 +240,10 @@ impl<K: FarObject, V: FarObject, J: Naming, D: Device> FarTable<K, V, J, D> {
     /// the version, `Memory` where a growth is refused, `TooLong` where the new object would be longer than the limit,
     /// `NoFrame` where no frame that is named was free, `NamesSpent` where the last name was drawn, `Moved`
     /// where another name was drawn at that moment or the bucket's word is another one at the end.
+    ///
+    /// After Ok the object lies in the frame that its word names, and the word that it replaced is the newest spare. A refused
+    /// try has made no call and leaves the bucket as it stood; `Moved` may leave one spare more, of the name that this call drew,
+    /// and any other refusal leaves none.
     pub fn try_put(
         &self,
         alloc: Global,
@@ -308,6 +254,8 @@ impl<K: FarObject, V: FarObject, J: Naming, D: Device> FarTable<K, V, J, D> {
         ensures lawful { IsLawful K.enc V.enc J.limits caller.new.pass.front }
         ensures limbo { AtMostOneMore caller.old.limbo caller.new.limbo }
         ensures finished { IfOk result (λ r. IsFinished K.enc V.enc J.limits caller.old.pass (op.Put key.now value.now) r caller.new.pass) }
+        ensures installed { IfOk result (λ _. IsInstalled K.enc V.enc J.limits self.now.limit self.now.frames (bucket K.enc J.limits.buckets key.now) (op.Put key.now value.now) caller.old.pass caller.old.limbo caller.new.pass caller.new.limbo) }
+        ensures given_up { IfErr result (λ e. LeavesSpares (IsOfFrame self.now.frames (bucket K.enc J.limits.buckets key.now)) caller.old.limbo caller.new.limbo e) }
         ensures goes { IfErr result (λ _. Goes caller.old.pass caller.new.pass) }
         ensures refused { IfErr result (λ e. IsUnchanged K.enc V.enc J.limits self.now.limit (bucket K.enc J.limits.buckets key.now) (op.Put key.now value.now) caller.old.pass caller.new.pass e) }
         ensures full { IfErr result (λ e. IsFull e (length caller.old.limbo)) }
@@ -318,8 +266,8 @@ impl<K: FarObject, V: FarObject, J: Naming, D: Device> FarTable<K, V, J, D> {
 
     /// One try of a removal, over a frame.
     ///
-    /// Its refusals are those of `try_put` but `TooLong`. Where the key is not there no frame and no name is looked for, and
-    /// where no pair is left no frame.
+    /// Its refusals are those of `try_put` but `TooLong`, and leave the same. Where the key is not there no frame and no name is
+    /// looked for, and where no pair is left no frame.
     pub fn try_remove(
         &self,
         alloc: Global,
@@ -329,6 +277,8 @@ impl<K: FarObject, V: FarObject, J: Naming, D: Device> FarTable<K, V, J, D> {
         ensures lawful { IsLawful K.enc V.enc J.limits caller.new.pass.front }
         ensures limbo { AtMostOneMore caller.old.limbo caller.new.limbo }
         ensures finished { IfOk result (λ r. IsFinished K.enc V.enc J.limits caller.old.pass (op.Remove key.now) r caller.new.pass) }
+        ensures installed { IfOk result (λ _. IsInstalled K.enc V.enc J.limits self.now.limit self.now.frames (bucket K.enc J.limits.buckets key.now) (op.Remove key.now) caller.old.pass caller.old.limbo caller.new.pass caller.new.limbo) }
+        ensures given_up { IfErr result (λ e. LeavesSpares (IsOfFrame self.now.frames (bucket K.enc J.limits.buckets key.now)) caller.old.limbo caller.new.limbo e) }
         ensures goes { IfErr result (λ _. Goes caller.old.pass caller.new.pass) }
         ensures refused { IfErr result (λ e. IsUnchanged K.enc V.enc J.limits self.now.limit (bucket K.enc J.limits.buckets key.now) (op.Remove key.now) caller.old.pass caller.new.pass e) }
         ensures full { IfErr result (λ e. IsFull e (length caller.old.limbo)) }
@@ -339,8 +289,8 @@ impl<K: FarObject, V: FarObject, J: Naming, D: Device> FarTable<K, V, J, D> {
 
     /// One try of a put where the key's value is the expected one, over a frame.
     ///
-    /// Its refusals are those of `try_put`. Where the value is not the expected one nothing is made, so that `TooLong`,
-    /// `NoFrame` and `NamesSpent` don't come.
+    /// Its refusals are those of `try_put`, and leave the same. Where the value is not the expected one nothing is made, so that
+    /// `TooLong`, `NoFrame` and `NamesSpent` don't come.
     pub fn try_put_if(
         &self,
         alloc: Global,
@@ -352,6 +302,8 @@ impl<K: FarObject, V: FarObject, J: Naming, D: Device> FarTable<K, V, J, D> {
         ensures lawful { IsLawful K.enc V.enc J.limits caller.new.pass.front }
         ensures limbo { AtMostOneMore caller.old.limbo caller.new.limbo }
         ensures finished { IfOk result (λ r. IsFinished K.enc V.enc J.limits caller.old.pass (op.PutIf key.now (lent_value expected.entry) value.now) r caller.new.pass) }
+        ensures installed { IfOk result (λ _. IsInstalled K.enc V.enc J.limits self.now.limit self.now.frames (bucket K.enc J.limits.buckets key.now) (op.PutIf key.now (lent_value expected.entry) value.now) caller.old.pass caller.old.limbo caller.new.pass caller.new.limbo) }
+        ensures given_up { IfErr result (λ e. LeavesSpares (IsOfFrame self.now.frames (bucket K.enc J.limits.buckets key.now)) caller.old.limbo caller.new.limbo e) }
         ensures goes { IfErr result (λ _. Goes caller.old.pass caller.new.pass) }
         ensures refused { IfErr result (λ e. IsUnchanged K.enc V.enc J.limits self.now.limit (bucket K.enc J.limits.buckets key.now) (op.PutIf key.now (lent_value expected.entry) value.now) caller.old.pass caller.new.pass e) }
         ensures full { IfErr result (λ e. IsFull e (length caller.old.limbo)) }
@@ -363,7 +315,9 @@ impl<K: FarObject, V: FarObject, J: Naming, D: Device> FarTable<K, V, J, D> {
     /// A put that goes on until it is done: it repeats while it is moved or missed, and reads a far bucket through.
     ///
     /// `LimboFull`, `Memory`, `TooLong`, `NoFrame` and `NamesSpent` come as at `try_put`; `Device` where the device fails,
-    /// `Damaged` where what it gives is no object of this bucket and name.
+    /// `Damaged` where what it gives is no object of this bucket and name. A refused put has made no call and leaves the bucket as
+    /// it stood. Names that were drawn in vain leave their spares, whatever is answered; after Ok the word that was replaced is
+    /// behind them.
     pub fn put<R: Wait>(
         &self,
         rt: &R,
@@ -375,6 +329,8 @@ impl<K: FarObject, V: FarObject, J: Naming, D: Device> FarTable<K, V, J, D> {
         ensures lawful { IsLawful K.enc V.enc J.limits caller.new.pass.front }
         ensures limbo { IsPrefix caller.old.limbo caller.new.limbo }
         ensures finished { IfOk result (λ r. IsFinished K.enc V.enc J.limits caller.old.pass (op.Put key.now value.now) r caller.new.pass) }
+        ensures installed { IfOk result (λ _. IsInstalledLater K.enc V.enc J.limits self.now.limit self.now.frames (bucket K.enc J.limits.buckets key.now) (op.Put key.now value.now) caller.old.pass caller.old.limbo caller.new.pass caller.new.limbo) }
+        ensures given_up { IfErr result (λ _. GaveUp (IsOfFrame self.now.frames (bucket K.enc J.limits.buckets key.now)) caller.old.limbo caller.new.limbo) }
         ensures goes { IfErr result (λ _. Goes caller.old.pass caller.new.pass) }
         ensures refused { IfErr result (λ e. IsUnchanged K.enc V.enc J.limits self.now.limit (bucket K.enc J.limits.buckets key.now) (op.Put key.now value.now) caller.old.pass caller.new.pass e) }
         ensures full { IfErr result (λ e. IsFull e (length caller.new.limbo)) }
@@ -383,7 +339,7 @@ impl<K: FarObject, V: FarObject, J: Naming, D: Device> FarTable<K, V, J, D> {
         self.change(rt, alloc, caller, &Operation::Put(key, value))
     }
 
-    /// A removal that goes on until it is done, as `put` does, with its refusals but `TooLong`.
+    /// A removal that goes on until it is done, as `put` does, with its refusals but `TooLong` and what they leave.
     pub fn remove<R: Wait>(
         &self,
         rt: &R,
@@ -394,6 +350,8 @@ impl<K: FarObject, V: FarObject, J: Naming, D: Device> FarTable<K, V, J, D> {
         ensures lawful { IsLawful K.enc V.enc J.limits caller.new.pass.front }
         ensures limbo { IsPrefix caller.old.limbo caller.new.limbo }
         ensures finished { IfOk result (λ r. IsFinished K.enc V.enc J.limits caller.old.pass (op.Remove key.now) r caller.new.pass) }
+        ensures installed { IfOk result (λ _. IsInstalledLater K.enc V.enc J.limits self.now.limit self.now.frames (bucket K.enc J.limits.buckets key.now) (op.Remove key.now) caller.old.pass caller.old.limbo caller.new.pass caller.new.limbo) }
+        ensures given_up { IfErr result (λ _. GaveUp (IsOfFrame self.now.frames (bucket K.enc J.limits.buckets key.now)) caller.old.limbo caller.new.limbo) }
         ensures goes { IfErr result (λ _. Goes caller.old.pass caller.new.pass) }
         ensures refused { IfErr result (λ e. IsUnchanged K.enc V.enc J.limits self.now.limit (bucket K.enc J.limits.buckets key.now) (op.Remove key.now) caller.old.pass caller.new.pass e) }
         ensures full { IfErr result (λ e. IsFull e (length caller.new.limbo)) }
@@ -402,7 +360,7 @@ impl<K: FarObject, V: FarObject, J: Naming, D: Device> FarTable<K, V, J, D> {
         self.change(rt, alloc, caller, &Operation::Remove(key))
     }
 
-    /// A put_if that goes on until it is done, as `put` does, with its refusals.
+    /// A put_if that goes on until it is done, as `put` does, with its refusals and what they leave.
     pub fn put_if<R: Wait>(
         &self,
         rt: &R,
@@ -415,6 +373,8 @@ impl<K: FarObject, V: FarObject, J: Naming, D: Device> FarTable<K, V, J, D> {
         ensures lawful { IsLawful K.enc V.enc J.limits caller.new.pass.front }
         ensures limbo { IsPrefix caller.old.limbo caller.new.limbo }
         ensures finished { IfOk result (λ r. IsFinished K.enc V.enc J.limits caller.old.pass (op.PutIf key.now (lent_value expected.entry) value.now) r caller.new.pass) }
+        ensures installed { IfOk result (λ _. IsInstalledLater K.enc V.enc J.limits self.now.limit self.now.frames (bucket K.enc J.limits.buckets key.now) (op.PutIf key.now (lent_value expected.entry) value.now) caller.old.pass caller.old.limbo caller.new.pass caller.new.limbo) }
+        ensures given_up { IfErr result (λ _. GaveUp (IsOfFrame self.now.frames (bucket K.enc J.limits.buckets key.now)) caller.old.limbo caller.new.limbo) }
         ensures goes { IfErr result (λ _. Goes caller.old.pass caller.new.pass) }
         ensures refused { IfErr result (λ e. IsUnchanged K.enc V.enc J.limits self.now.limit (bucket K.enc J.limits.buckets key.now) (op.PutIf key.now (lent_value expected.entry) value.now) caller.old.pass caller.new.pass e) }
         ensures full { IfErr result (λ e. IsFull e (length caller.new.limbo)) }

@@ -1,14 +1,15 @@
 //! Moves of a bucket's contents between frames and devices, and the removal of old versions. They are no calls of the
 //! history.
-ghost use Rattle.std.specs.Prelude.{◌≡◌, ◌<◌, ℕ, IsTrue, IfOk, IfErr, OnOk, MatchBool, length};
+ghost use Rattle.std.specs.Prelude.{◌≡◌, ℕ, IfOk, IfErr, OnOk, MatchBool, length};
 ghost use mathlib.Core.List.{IsPrefix};
 ghost use Rattle.far_object.specs.Buckets.{bucket};
 ghost use Rattle.table_core.specs.BucketWords.{far_place};
 ghost use Rattle.table_core.specs.Lawful.{IsLawful};
 ghost use Rattle.version_words.specs.Views.{Goes};
-ghost use Rattle.hash_table.specs.Calls.{AtMostOneMore, SeenInCall, IsNear, IsMoved, IsRefused, IsFull};
-ghost use Rattle.hash_table.specs.Reclaims.{IsReclaimed};
-ghost use Rattle.hash_table.specs.Refusals.{OfFetch, OfSwapOut};
+ghost use Rattle.hash_table.specs.Calls.{AtMostOneMore, SeenInCall, IsNear, IsRefused, IsFull};
+ghost use Rattle.hash_table.specs.Reclaims.{WasTried, IsReclaimed};
+ghost use Rattle.hash_table.specs.Refusals.{OfFetch, OfSwapOut, WasRefused};
+ghost use Rattle.hash_table.specs.Steps.{IsInFrame, IsOfFrame, IsOfDevice, FetchLeavesSpares, SwapLeavesSpares, IsUnfetched, IsUnswapped, IsMovedOver, IsSwapped};
 
 use crate::caller::Caller;
 use crate::refusal::{ReclaimFault, Refusal};
@@ -30,6 +31,9 @@ impl<K: FarObject, V: FarObject, J: Naming, D: Device> FarTable<K, V, J, D> {
     /// where what it gives is no object of this bucket and name, `Memory` where a growth is refused, `NoFrame` where no
     /// frame that is named was free, `NamesSpent` where the last name was drawn, `Moved` where another name was drawn at that
     /// moment or the bucket's word is another one at the end.
+    ///
+    /// After true the object lies in the frame that its word names, and the word that it replaced is the newest spare. `Moved`
+    /// leaves the spare of the name that this call drew, if it drew one; false, and any other refusal, leave none.
     pub fn fetch<R: Wait>(
         &self,
         rt: &R,
@@ -41,11 +45,13 @@ impl<K: FarObject, V: FarObject, J: Naming, D: Device> FarTable<K, V, J, D> {
         ensures goes { Goes caller.old.pass caller.new.pass }
         ensures limbo { AtMostOneMore caller.old.limbo caller.new.limbo }
         ensures fetched { IfOk result (λ done. MatchBool done
-            (IsMoved (bucket K.enc J.limits.buckets key.now) (λ p. p < self.now.frames) caller.old.pass caller.new.pass)
-            (IsNear K.enc V.enc J.limits (bucket K.enc J.limits.buckets key.now) caller.new.pass.front)) }
+            (IsMovedOver K.enc J.limits (bucket K.enc J.limits.buckets key.now) (λ p. p ≡ far_place) (IsInFrame self.now.frames (bucket K.enc J.limits.buckets key.now)) caller.old.pass caller.old.limbo caller.new.pass caller.new.limbo)
+            (IsNear K.enc V.enc J.limits (bucket K.enc J.limits.buckets key.now) caller.new.pass.front × (caller.new.limbo ≡ caller.old.limbo))) }
+        ensures given_up { IfErr result (λ e. FetchLeavesSpares (IsOfFrame self.now.frames (bucket K.enc J.limits.buckets key.now)) caller.new.pass.front caller.old.limbo caller.new.limbo e) }
         ensures refused { IfErr result (λ e. IsRefused K.enc V.enc J.limits (bucket K.enc J.limits.buckets key.now) caller.old.pass caller.new.pass e) }
         ensures full { IfErr result (λ e. IsFull e (length caller.old.limbo)) }
         ensures only { IfErr result (λ e. OfFetch e) }
+        ensures unmoved { IfErr result (λ e. IsUnfetched K.enc J.limits (bucket K.enc J.limits.buckets key.now) caller.new.pass.front e) }
     {
         let _front = caller.pass.mark();
         if caller.limbo.is_full() {
@@ -81,6 +87,10 @@ impl<K: FarObject, V: FarObject, J: Naming, D: Device> FarTable<K, V, J, D> {
     /// `LimboFull` comes before all; `Missed` where the frame does not give the version, `NamesSpent` where the last name
     /// was drawn, `Memory` where a growth of the lane or its device is refused, `Device` where the device fails, `Moved`
     /// where another name was drawn at that moment or the bucket's word is another one at the end.
+    ///
+    /// After true the device took the object before its word said so, and the word of this frame is the newest spare. `Memory`
+    /// and `Device` leave the spare of the name that this call drew, and so does `Moved`, if it drew one; false, and any other
+    /// refusal, leave none.
     pub fn swap_out<R: Wait>(
         &self,
         rt: &R,
@@ -90,10 +100,13 @@ impl<K: FarObject, V: FarObject, J: Naming, D: Device> FarTable<K, V, J, D> {
         ensures lawful { IsLawful K.enc V.enc J.limits caller.new.pass.front }
         ensures goes { Goes caller.old.pass caller.new.pass }
         ensures limbo { AtMostOneMore caller.old.limbo caller.new.limbo }
-        ensures swapped { IfOk result (λ done. IsTrue done → (b : ℕ) × IsMoved b (λ p. p ≡ far_place) caller.old.pass caller.new.pass) }
+        ensures swapped { IfOk result (λ done. IsSwapped K.enc J.limits self.now.format frame caller.old.pass caller.old.limbo caller.new.pass caller.new.limbo done) }
+        ensures given_up { IfErr result (λ e. (b : ℕ) × SwapLeavesSpares (IsOfDevice b) caller.new.pass.front caller.old.limbo caller.new.limbo e) }
         ensures refused { IfErr result (λ e. (b : ℕ) × IsRefused K.enc V.enc J.limits b caller.old.pass caller.new.pass e) }
         ensures full { IfErr result (λ e. IsFull e (length caller.old.limbo)) }
         ensures only { IfErr result (λ e. OfSwapOut e) }
+        ensures unmoved { IfErr result (λ e. (b : ℕ) × IsUnswapped K.enc J.limits b frame caller.new.pass.front e) }
+        ensures answered { IfErr result (λ e. WasRefused frame e) }
     {
         let _front = caller.pass.mark();
         if caller.limbo.is_full() {
@@ -127,6 +140,7 @@ impl<K: FarObject, V: FarObject, J: Naming, D: Device> FarTable<K, V, J, D> {
         ensures goes { Goes caller.old.pass caller.new.pass }
         ensures limbo { caller.new.limbo ≡ caller.old.limbo }
         ensures told { IsPrefix spare.front caller.new.pass.front }
+        ensures tried { WasTried spare }
         ensures reclaimed { OnOk result (IsReclaimed spare) }
         ensures back { IfErr result (λ e. e.0 ≡ spare) }
     {

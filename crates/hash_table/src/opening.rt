@@ -6,7 +6,7 @@ ghost use Rattle.version_words.specs.Rows.{limits_of};
 ghost use Rattle.version_words.specs.Views.{EndsWith, calls};
 ghost use Rattle.version_words.specs.Faults.{IsEnterFault};
 ghost use Rattle.hash_table.specs.Configs.{first_bad_with, sizes_of};
-ghost use Rattle.hash_table.specs.Openings.{IsOpenFault, IsNamedFault};
+ghost use Rattle.hash_table.specs.Openings.{IsOpenFault, IsNamedFault, WasOpened, format_of};
 
 use crate::caller::Caller;
 use crate::config::Config;
@@ -92,6 +92,8 @@ impl<K: FarObject, V: FarObject, D: Device> Opening<K, V, D> {
         ensures limit { IfOk result (λ t. t.limit ≡ self.config.limit) }
         ensures frames { IfOk result (λ t. t.frames ≡ self.config.frames) }
         ensures lanes { IfOk result (λ t. t.lanes ≡ self.config.lanes) }
+        ensures format { IfOk result (λ t. t.format ≡ format_of self.config.format) }
+        ensures opened { IfOk result (λ _. WasOpened self.config) }
         ensures fault { IfErr result (λ e. IsNamedFault e) }
     {
         let Opening {

@@ -129,7 +129,7 @@ impl<K: FarObject, V: FarObject, J: Naming, D: Device> FarTable<K, V, J, D> {
     /// `Far` comes where the bucket's object lies on the device, `Missed` where the frame does not give the version: it has
     /// another one by now, is being filled or emptied, has as many readers as can be counted, or 1,000 claims to read it in a
     /// row each met a change by another thread. `Memory` comes where the copy is refused, `Moved` where the bucket's word is
-    /// another one at the end.
+    /// another one at the end. A refused try has made no call, and no try leaves a spare.
     pub fn try_get(
         &self,
         alloc: Global,
@@ -159,7 +159,7 @@ impl<K: FarObject, V: FarObject, J: Naming, D: Device> FarTable<K, V, J, D> {
     ///
     /// `Missed` comes where the frame does not give the version or the lane has no receipt, `Device` where the device
     /// fails, `Damaged` where what it gives is no object of this bucket and name, `Memory` where a growth is refused,
-    /// `Moved` where the bucket's word is another one at the end.
+    /// `Moved` where the bucket's word is another one at the end. A refused try has made no call, and no try leaves a spare.
     pub fn read_through<R: Wait>(
         &self,
         rt: &R,
@@ -221,8 +221,11 @@ impl<K: FarObject, V: FarObject, J: Naming, D: Device> FarTable<K, V, J, D> {
         }
     }
 
-    // One round of a get.
-    fn get_round<R: Wait>(
+    /// One round of a get: a get goes on by these until one is finished. A far bucket is fetched, so that the next round finds it
+    /// in its frame; where a swap-in lacks a frame, a name or room for a spare it is read through.
+    ///
+    /// `Again` where another round may finish it. It is refused as `get` is. Spares come as `fetch` leaves them.
+    pub fn get_round<R: Wait>(
         &self,
         rt: &R,
         alloc: Global,
@@ -253,7 +256,7 @@ impl<K: FarObject, V: FarObject, J: Naming, D: Device> FarTable<K, V, J, D> {
     /// for that, it is read through.
     ///
     /// `Memory` comes where a growth is refused, `Device` where the device fails, `Damaged` where what it gives is no object
-    /// of this bucket and name.
+    /// of this bucket and name. A refused get has made no call. Swap-ins leave their spares, whatever is answered.
     pub fn get<R: Wait>(
         &self,
         rt: &R,

@@ -5,10 +5,12 @@ ghost use Rattle.hash_table.specs.Refusals.{passes_by};
 
 use crate::refusal::Refusal;
 
-/// What one round gave: the call is finished with this answer, or another round may finish it.
+/// What one round gave.
 #[derive(Drop)]
-pub(crate) enum Round<V> {
+pub enum Round<V> {
+    /// The call is finished with this answer.
     Finished(Option<V>),
+    /// Another round may finish it.
     Again,
 }
 

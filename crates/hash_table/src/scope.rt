@@ -79,7 +79,8 @@ impl<K: FarObject, V: FarObject, J: Naming, D: Device> FarTable<K, V, J, D> {
     /// no memory and copies nothing, and touches the frame.
     ///
     /// `Far` comes where the bucket's object lies on the device, `Missed` where the frame does not give the version, `Moved`
-    /// where the bucket's word is another one at the end.
+    /// where the bucket's word is another one at the end. A refused try has made no call and holds no frame, and no try leaves a
+    /// spare.
     pub fn open_scope(
         &self,
         caller: &mut Caller<K, V, J>,

@@ -6,3 +6,4 @@ pub(crate) mod far;
 pub(crate) mod local;
 pub(crate) mod publish;
 pub(crate) mod seen;
+pub(crate) mod settle;

@@ -62,7 +62,8 @@ impl<K: FarObject, V: FarObject, J: Naming, D: Device> FarTable<K, V, J, D> {
     /// All pairs of a bucket, in key order, by one try. It is no call of the history.
     ///
     /// `Missed` comes where the frame does not give the version or the lane has no receipt, `Device` where the device
-    /// fails, `Damaged` where what it gives is no object of this bucket and name, `Memory` where a growth is refused.
+    /// fails, `Damaged` where what it gives is no object of this bucket and name, `Memory` where a growth is refused. Nothing is
+    /// changed then.
     pub fn pairs_in<R: Wait>(
         &self,
         rt: &R,

@@ -5,10 +5,11 @@
 //! No clause can name what lies behind a lock, since another thread may change it before the call and after. The functions
 //! of `Lane`, which are lent the lane, say what each call does to it. Here stand the facts that a lane's type keeps whoever
 //! had the lock before: each receipt is that of a name of this row of words, and its object is stored.
-ghost use Rattle.std.specs.Prelude.{◌≡◌, ◌<◌, ◌≤◌, ◌%◌, IfOk, OnErr, IfSome, IfNone, vec_len};
+ghost use Rattle.std.specs.Prelude.{◌≡◌, ◌<◌, ◌≤◌, ◌%◌, IfOk, OnOk, OnErr, IfSome, IfNone, vec_len};
 ghost use Rattle.table_core.specs.BucketWords.{place_of, far_place};
 ghost use Rattle.table_core.specs.Logs.{contents};
 ghost use Rattle.lane_store.specs.Lanes.{IsRead};
+ghost use Rattle.lane_store.specs.Stores.{WasStored};
 
 use crate::fault::LaneFault;
 use crate::lane::Lane;
@@ -92,7 +93,7 @@ impl<K: FarObject, V: FarObject, J: Naming, D: Device> LaneStore<K, V, J, D> {
     }
 
     /// Makes `Lane::write` on the name's lane, once its lock is free. What that does to the lane is said there: no clause
-    /// can say it here.
+    /// can say it here but that, after Ok, it was done.
     pub fn write<R: Wait>(
         &self,
         rt: &R,
@@ -101,6 +102,7 @@ impl<K: FarObject, V: FarObject, J: Naming, D: Device> LaneStore<K, V, J, D> {
         format: Format,
     ) -> Result<(), LaneFault>
         requires object { contents name.now.front name.now.number ≡ object.now }
+        ensures stored { OnOk result (WasStored format name.now.bucket name.now.number) }
     {
         let mut lane = self.lane(rt, name.number());
         lane.write(name, object, format)

@@ -1,10 +1,10 @@
 -- What one command after another is replied.
-use Rattle.std.proofs.Common.{◌≡◌, ℕ, ◌+◌, ◌-◌, ◌^◌, ◌<◌, ◌≤◌, List, [], ◌∷◌, ◌++◌, Option, Result, Ok, Err, MatchResult, length, length-take, take, drop, suc, get_or, take-append-drop, drop-cons, refl, ap, sym, ◌∙◌, subst, arith, inl, inr, add-one}
+use Rattle.std.proofs.Common.{◌≡◌, ℕ, ◌+◌, ◌-◌, ◌^◌, ◌<◌, ◌≤◌, List, [], ◌∷◌, ◌++◌, Option, None, Result, Ok, Err, MatchResult, length, length-take, take, drop, suc, get_or, take-append-drop, drop-cons, refl, ap, sym, ◌∙◌, subst, arith, inl, inr, add-one}
 use Rattle.std.proofs.lemmas.List.{append-nil, take_all}
 use Rattle.std.proofs.Math.Seq.{take-suc}
-use Rattle.std.specs.List.{AllByRecursion, fold}
+use Rattle.std.specs.List.{AllByRecursion}
 use Rattle.far_object.specs.Encodings.{enc_text}
-use Rattle.table_core.specs.Maps.{after, map_of, reply}
+use Rattle.table_core.specs.Maps.{map_of, reply}
 use Rattle.table_core.specs.Logs.{history, names_of}
 use Rattle.table_core.specs.Machines.{buckets_of}
 use Rattle.command_file.specs.declared.command.Command.{Command}
@@ -12,14 +12,14 @@ use Rattle.command_file.specs.declared.command.Command.TheVariants.{Map, Table}
 use Rattle.command_file.specs.declared.command.MapCommand.{MapCommand}
 use Rattle.command_file.specs.declared.command.TableCommand.{TableCommand}
 use Rattle.run_lines.specs.declared.refusal.Refusal.{Refusal}
-use Rattle.run_lines.specs.Calls.{Texts, Asked, Call, calls_by, operation_of, IsTooLong}
-use Rattle.run_lines.specs.Replies.{line_of}
+use Rattle.run_lines.specs.Calls.{Asked, Call, calls_by, operation_of, IsTooLong}
+use Rattle.run_lines.specs.Replies.{line_of, held_by}
 use Rattle.run_lines.proofs.Calls.{calls_by-append, calls_by-own}
 use Rattle.run_lines.proofs.Replying.{Step, replied_more}
 use Rattle.run_lines.proofs.Written.{written-more}
 use Rattle.plain_run.specs.declared.table.PlainTable.{PlainTable}
 use Rattle.plain_run.specs.Tables.{Log, IsAt, IsWhy, CallEnds}
-use Rattle.plain_run.specs.Runs.{IsOfMap, MayRefuse, Fits, AsksTableAt, RunsTo}
+use Rattle.plain_run.specs.Runs.{IsOfMap, MayReply, AsksTableAt, RunsTo}
 
 -- ---- lists
 
@@ -33,52 +33,47 @@ here commands i c d at is = subst (λ (x : Command). x ≡ get_or commands i x) 
 
 -- ---- calls
 
-abbrev map_from : Texts → List Call → Texts
-map_from m calls = fold (λ m call. after enc_text enc_text m call.1) m calls
-
-fits_more : (buckets limit : ℕ) (m : Texts) (calls : List Call) (call : Call) → Fits buckets limit m calls → (IsTooLong buckets limit (map_from m calls) call.1 → ⊥) → Fits buckets limit m (calls ++ call ∷ [])
-fits_more buckets limit m [] call fits not = (not, tt)
-fits_more buckets limit m (x ∷ calls) call fits not = (fits.0, fits_more buckets limit (after enc_text enc_text m x.1) calls call fits.1 not)
-
--- a call that ends is one more command, and the calls stay sound
-pub record Ends (buckets limit : ℕ) (h h' : List Call) (c : MapCommand) (line : List ℕ) : Type 0 where
-  pub step : Step (MayRefuse buckets limit) h h' 1 (Map c) line
+-- a call that ends is one more command, and the calls stay the pass's own
+pub record Ends (buckets limit : ℕ) (h h' : List Call) (held : Option (List ℕ)) (c : MapCommand) (line : List ℕ) : Type 0 where
+  pub last : Option (List ℕ)
+  pub step : Step (MayReply buckets limit) h h' 1 held (Map c) line last
   pub rest : List Call
   pub grows : h ++ rest ≡ h'
   pub own : AllByRecursion (λ call. call.0 ≡ 1) h → AllByRecursion (λ call. call.0 ≡ 1) h'
-  pub fits : Fits buckets limit [] h → Fits buckets limit [] h'
 
-ends : (buckets limit : ℕ) (h h' : List Call) (c : MapCommand) (r : Result (Option (List ℕ)) Refusal)
+ends : (buckets limit : ℕ) (h h' : List Call) (held : Option (List ℕ)) (c : MapCommand) (r : Result (Option (List ℕ)) Refusal)
     → MatchResult r
     (λ answer. (h' ≡ h ++ (1, operation_of c) ∷ []) × (answer ≡ reply enc_text (map_of enc_text enc_text h) (operation_of c)) × (IsTooLong buckets limit (map_of enc_text enc_text h) (operation_of c) → ⊥))
     (λ why. (h' ≡ h) × IsWhy buckets limit (map_of enc_text enc_text h) (operation_of c) why)
-    → Ends buckets limit h h' c (line_of r)
-ends buckets limit h h' c (Ok answer) w =
+    → Ends buckets limit h h' held c (line_of r)
+ends buckets limit h h' held c (Ok answer) w =
     let o : Asked = operation_of c in
     record {
+      last = held_by c answer held;
       step =
           inl (
             answer,
             refl,
-            record { before = h; later = []; stands = w.0; past = refl; told = w.1 },
+            record { before = h; later = []; stands = w.0; past = refl; told = w.1; may = w.2 },
             ap (calls_by 1) w.0 ∙ (calls_by-append 1 h ((1, o) ∷ []) ∙ ap (λ (x : List Asked). calls_by 1 h ++ x) (calls_by-own 1 o)),
+            refl,
           );
       rest = (1, o) ∷ [];
       grows = sym w.0;
       own = λ all. subst (λ (x : List Call). AllByRecursion (λ call. call.0 ≡ 1) x) (sym w.0) (all-push (λ (call : Call). call.0 ≡ 1) h (1, o) all refl);
-      fits = λ fits. subst (λ (x : List Call). Fits buckets limit [] x) (sym w.0) (fits_more buckets limit [] h (1, o) fits w.2);
     }
-ends buckets limit h h' c (Err why) w =
+ends buckets limit h h' held c (Err why) w =
     record {
+      last = held;
       step =
           inr (
             record { why = why; line_is = refl; place = record { before = h; later = []; stands = w.0 ∙ sym (append-nil h); past = refl }; may = w.1 },
             ap (calls_by 1) w.0,
+            refl,
           );
       rest = [];
       grows = append-nil h ∙ sym w.0;
       own = λ all. subst (λ (x : List Call). AllByRecursion (λ call. call.0 ≡ 1) x) (sym w.0) all;
-      fits = λ fits. subst (λ (x : List Call). Fits buckets limit [] x) (sym w.0) fits;
     }
 
 -- ---- the loop
@@ -98,9 +93,8 @@ start old commands text none fresh =
         stands = fresh.1;
         lines = [];
         mapped = tt;
-        replied = ap (calls_by 1) fresh.2;
+        replied = (None, (ap (calls_by 1) fresh.2, refl));
         own = subst (λ (x : List Call). AllByRecursion (λ call. call.0 ≡ 1) x) (sym fresh.2) tt;
-        fits = subst (λ (x : List Call). Fits (buckets_of old.machine) old.limit [] x) (sym fresh.2) tt;
         text_is = none;
       };
       buckets = refl;
@@ -121,11 +115,12 @@ next old new last commands i text more c r run lt few at on more_is = record {
     lines = run.so_far.lines ++ line_of r ∷ [];
     mapped = rw taken (all-push IsOfMap (take i commands) (Map c) run.so_far.mapped tt);
     replied =
-        rw taken
-        (replied_more (MayRefuse (buckets_of old.machine) old.limit) (history run.so_far.log) (history g.later) 1 [] (take i commands) run.so_far.lines (Map c) (line_of r)
-        (e.rest, e.grows) run.so_far.replied e.step);
+        rw taken (
+          e.last,
+          replied_more (MayReply (buckets_of old.machine) old.limit) (history run.so_far.log) (history g.later) 1 [] None (take i commands) run.so_far.lines run.so_far.replied.0 (Map c) (line_of r) e.last
+              (e.rest, e.grows) run.so_far.replied.1 e.step,
+        );
     own = e.own run.so_far.own;
-    fits = e.fits run.so_far.fits;
     text_is = more_is ∙ (ap (λ (z : List ℕ). z ++ (line_of r ++ 10 ∷ [])) run.so_far.text_is ∙ sym (written-more run.so_far.lines (line_of r)));
   };
   buckets = g.buckets ∙ run.buckets;
@@ -136,11 +131,11 @@ next old new last commands i text more c r run lt few at on more_is = record {
     g : CallEnds new last run.so_far.log (operation_of c) r
     g = on run.so_far.log run.so_far.stands (omega (arith, run.few))
 
-    e : Ends (buckets_of old.machine) old.limit (history run.so_far.log) (history g.later) c (line_of r)
+    e : Ends (buckets_of old.machine) old.limit (history run.so_far.log) (history g.later) run.so_far.replied.0 c (line_of r)
     e =
-        subst (λ (l : ℕ). Ends (buckets_of old.machine) l (history run.so_far.log) (history g.later) c (line_of r)) run.limit
-        (subst (λ (n : ℕ). Ends n new.limit (history run.so_far.log) (history g.later) c (line_of r)) run.buckets
-        (ends (buckets_of new.machine) new.limit (history run.so_far.log) (history g.later) c r g.went))
+        subst (λ (l : ℕ). Ends (buckets_of old.machine) l (history run.so_far.log) (history g.later) run.so_far.replied.0 c (line_of r)) run.limit
+        (subst (λ (n : ℕ). Ends n new.limit (history run.so_far.log) (history g.later) run.so_far.replied.0 c (line_of r)) run.buckets
+        (ends (buckets_of new.machine) new.limit (history run.so_far.log) (history g.later) run.so_far.replied.0 c r g.went))
 
     taken : take (i + 1) commands ≡ take i commands ++ Map c ∷ []
     taken = rw add-one (take-suc commands i (Map c) lt) ∙ ap (λ (x : Command). take i commands ++ x ∷ []) (sym at)

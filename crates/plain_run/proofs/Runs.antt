@@ -38,7 +38,6 @@ plain_ran bytes commands old new text file run = record {
         ap (λ (x : List ℕ). ended x (map_of enc_text enc_text (history run.log))) run.text_is
         ∙ ap (λ (x : List ℕ). x ++ written (codes "contents" ∷ map pair_line (map_of enc_text enc_text (history run.log)))) (texts_are_lines 1 (run.lines ∷ []));
   };
-  fits = run.fits;
 }
 
 pub ran : (buckets limit : ℕ) (known : Option (List ℕ)) (commands : List Command) (old new : PlainTable) (text : List ℕ) (a b : Option (List ℕ))

@@ -1,9 +1,9 @@
 -- A run of one file on the map of one thread.
-use Rattle.std.specs.Prelude.{◌≡◌, ℕ, ◌+◌, List, [], ◌∷◌, ◌++◌, length, Option, IfSome, ⊤}
+use Rattle.std.specs.Prelude.{◌≡◌, ℕ, ◌+◌, List, [], ◌∷◌, ◌++◌, length, Option, Result, Ok, Err, IfSome, ⊤}
 use Rattle.std.specs.List.{AllByRecursion}
 use Rattle.std.specs.Io.KnownBytes.{Keeps}
 use Rattle.far_object.specs.Encodings.{enc_text}
-use Rattle.table_core.specs.Maps.{after, map_of}
+use Rattle.table_core.specs.Maps.{map_of}
 use Rattle.table_core.specs.Logs.{history}
 use Rattle.table_core.specs.Machines.{buckets_of}
 use Rattle.command_file.specs.declared.command.Command.{Command}
@@ -13,7 +13,7 @@ use Rattle.command_file.specs.declared.command.TableCommand.{TableCommand}
 use Rattle.command_file.specs.Lines.{lines_of}
 use Rattle.command_file.specs.Files.{IsFile, IsFileFault}
 use Rattle.run_lines.specs.declared.refusal.Refusal.{Refusal}
-use Rattle.run_lines.specs.Calls.{Texts, Call, operation_of, IsTooLong}
+use Rattle.run_lines.specs.Calls.{Call, operation_of, IsTooLong}
 use Rattle.run_lines.specs.Replies.{RepliedIn}
 use Rattle.run_lines.specs.Output.{written}
 use Rattle.run_lines.specs.Runs.{Ran}
@@ -27,22 +27,17 @@ abbrev pub IsOfMap : Command → Type 0
 IsOfMap (Map c) = ⊤
 IsOfMap (Table c) = ⊥
 
--- a command is refused where it would be too long for the map of the calls before it, or for want of memory
-abbrev pub MayRefuse : ℕ → ℕ → List Call → MapCommand → Refusal → Type 0
-MayRefuse buckets limit before c why = IsWhy buckets limit (map_of enc_text enc_text before) (operation_of c) why
+-- a command is answered where its object is not too long for the map of the calls before it, and refused where it is, or for want of memory
+abbrev pub MayReply : ℕ → ℕ → List Call → MapCommand → Result (Option (List ℕ)) Refusal → Type 0
+MayReply buckets limit before c (Ok answer) = IsTooLong buckets limit (map_of enc_text enc_text before) (operation_of c) → ⊥
+MayReply buckets limit before c (Err why) = IsWhy buckets limit (map_of enc_text enc_text before) (operation_of c) why
 
--- from the map m on, none of the calls was too long at its place
-abbrev pub Fits : ℕ → ℕ → Texts → List Call → Type 0
-Fits buckets limit m [] = ⊤
-Fits buckets limit m (call ∷ calls) = (IsTooLong buckets limit m call.1 → ⊥) × Fits buckets limit (after enc_text enc_text m call.1) calls
-
--- the text is what the commands of the file are replied, each of which asks the map, and the contents behind them; no call was too long
+-- the text is what the commands of the file are replied, each of which asks the map, and the contents behind them
 pub record PlainRan (buckets limit : ℕ) (bytes text : List ℕ) : Type 0 where
   pub commands : List Command
   pub file : IsFile (lines_of bytes) commands
   pub mapped : AllByRecursion IsOfMap commands
-  pub ran : Ran (MayRefuse buckets limit) (commands ∷ []) text
-  pub fits : Fits buckets limit [] ran.calls
+  pub ran : Ran (MayReply buckets limit) (commands ∷ []) text
 
 -- ---- why a run ends early
 
@@ -87,7 +82,6 @@ pub record RunsTo (old new : PlainTable) (commands : List Command) (text : List 
   pub stands : IsAt new log
   pub lines : List (List ℕ)
   pub mapped : AllByRecursion IsOfMap commands
-  pub replied : RepliedIn (MayRefuse (buckets_of old.machine) old.limit) (history log) 1 commands lines
+  pub replied : RepliedIn (MayReply (buckets_of old.machine) old.limit) (history log) 1 commands lines
   pub own : AllByRecursion (λ call. call.0 ≡ 1) (history log)
-  pub fits : Fits (buckets_of old.machine) old.limit [] (history log)
   pub text_is : text ≡ written lines

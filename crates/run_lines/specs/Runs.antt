@@ -1,5 +1,5 @@
 -- A run of several files, each by a pass of its own.
-use Rattle.std.specs.Prelude.{◌≡◌, ◌≢◌, ℕ, List, [], ◌∷◌, map, ⊤}
+use Rattle.std.specs.Prelude.{◌≡◌, ◌≢◌, ℕ, List, [], ◌∷◌, map, Option, Result, ⊤}
 use Rattle.std.specs.List.{AllByRecursion}
 use Rattle.far_object.specs.Encodings.{enc_text}
 use Rattle.table_core.specs.Maps.{map_of}
@@ -22,11 +22,11 @@ AreApart [] = ⊤
 AreApart (p ∷ passes) = AllByRecursion (λ q. p ≢ q) passes × AreApart passes
 
 -- the text is what one history replies to the files, each by a pass of its own, and the contents behind them; the history has no other call
-pub record Ran (MayRefuse : List Call → MapCommand → Refusal → Type 0) (files : List (List Command)) (text : List ℕ) : Type 0 where
+pub record Ran (MayReply : List Call → MapCommand → Result (Option (List ℕ)) Refusal → Type 0) (files : List (List Command)) (text : List ℕ) : Type 0 where
   pub calls : List Call
   pub all : List Worked
   pub files_are : map (λ w. w.commands) all ≡ files
   pub apart : AreApart (map (λ w. w.pass) all)
-  pub replied : AllByRecursion (λ w. RepliedIn MayRefuse calls w.pass w.commands w.lines) all
+  pub replied : AllByRecursion (λ w. RepliedIn MayReply calls w.pass w.commands w.lines) all
   pub others : (p : ℕ) → AllByRecursion (λ w. w.pass ≢ p) all → calls_by p calls ≡ []
   pub text_is : text ≡ output (map (λ w. w.lines) all) (map_of enc_text enc_text calls)

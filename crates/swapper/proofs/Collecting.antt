@@ -7,13 +7,14 @@ use Rattle.table_core.specs.declared.limits.Limits.{Limits}
 use Rattle.version_words.specs.Views.{SpareView, Goes}
 use Rattle.version_words.proofs.Fronts.{prefix_trans}
 use Rattle.hash_table.proofs.Fronts.{goes_self, goes_trans}
-use Rattle.hash_table.specs.Reclaims.{IsReclaimed}
+use Rattle.hash_table.specs.Reclaims.{WasTried, IsReclaimed}
 use Rattle.hash_table.specs.declared.caller.Caller.{Caller}
 use Rattle.hash_table.specs.declared.refusal.Refusal.{Refusal}
 use Rattle.swapper.specs.Meetings.{Asks}
 use Rattle.swapper.proofs.Clocks.{asks_all}
 use Rattle.swapper.specs.declared.rule.SeatView.{SeatView}
 use Rattle.swapper.specs.Seats.{TakesNext}
+use Rattle.far_object.specs.declared.format.Format.{Format}
 use Rattle.swapper.specs.Evictors.{EvictorView, shown, Works, Tries, Stays, DrawsKept, DrawsOwn, DrawsNext, IsFull, IsDrained, Sifts, AreTold, TakesAll, AreGone, Retries, Tried, Collects, Picks, GivesUp, Turns}
 
 -- counts that are shown add up
@@ -57,9 +58,9 @@ module _ {K V : Type 0} where
 
   told_later : (log later : List (Event K V)) → IsPrefix log later → (ss : List (SpareView K V)) → AreTold log ss → AreTold later ss
   told_later log later p [] h = tt
-  told_later log later p (s ∷ ss) h = (prefix_trans s.front log later h.0 p, told_later log later p ss h.1)
+  told_later log later p (s ∷ ss) h = ((h.0.0, prefix_trans s.front log later h.0.1 p), told_later log later p ss h.1)
 
-  told_push : (log : List (Event K V)) (ss : List (SpareView K V)) (s : SpareView K V) → AreTold log ss → IsPrefix s.front log → AreTold log (ss ++ s ∷ [])
+  told_push : (log : List (Event K V)) (ss : List (SpareView K V)) (s : SpareView K V) → AreTold log ss → WasTried s × IsPrefix s.front log → AreTold log (ss ++ s ∷ [])
   told_push log [] s h t = (t, tt)
   told_push log (x ∷ ss) s h t = (h.0, told_push log ss s h.1 t)
 
@@ -297,6 +298,6 @@ module _ {K V : Type 0} where
   pub turns_trans : {a b c : EvictorView K V} → Turns a b → Turns b c → Turns a c
   turns_trans f g = record { goes = goes_trans f.goes g.goes; count = g.count ∙ f.count; room = g.room ∙ f.room }
 
-module _ {K V : Type 0} (ek : K → List ℕ) (ev : V → List ℕ) (l : Limits) where
-  pub turns_give_up : (old new : EvictorView K V) (r : Result Bool Refusal) → GivesUp ek ev l old new r → Turns old new
-  turns_give_up old new r c = record { goes = c.works.goes; count = ap (λ (k : _). length k.marks) c.works.clock; room = c.works.room }
+module _ {K V : Type 0} (ek : K → List ℕ) (ev : V → List ℕ) (l : Limits) (format : Format) where
+  pub turns_give_up : (old new : EvictorView K V) (frame : ℕ) (r : Result Bool Refusal) → GivesUp ek ev l format old new frame r → Turns old new
+  turns_give_up old new frame r c = record { goes = c.works.goes; count = ap (λ (k : _). length k.marks) c.works.clock; room = c.works.room }

@@ -5,3 +5,4 @@ pub mod Settles
 pub mod Bits
 pub mod Clocks
 pub mod Collecting
+pub mod Rooms

@@ -1,13 +1,14 @@
 -- What an evictor does: where spares go, and whom it gives up.
-use Rattle.std.specs.Prelude.{◌≡◌, ℕ, ◌+◌, ◌-◌, ◌^◌, ◌<◌, ◌≤◌, min, Bool, false, List, [], ◌∷◌, ◌++◌, ◌⊎◌, length, Option, Some, None, Result, Ok, Err, IfOk, IfErr, IfNone, IsTrue, ⊤}
+use Rattle.std.specs.Prelude.{◌≡◌, ℕ, ◌+◌, ◌-◌, ◌^◌, ◌<◌, ◌≤◌, min, Bool, false, List, [], ◌∷◌, ◌++◌, ◌⊎◌, length, Option, Some, None, Result, Ok, Err, IfOk, IfErr, IfSome, IfNone, ⊤}
 use mathlib.Core.List.{IsPrefix}
+use Rattle.far_object.specs.declared.format.Format.{Format}
 use Rattle.table_core.specs.declared.event.Event.{Event}
 use Rattle.table_core.specs.declared.limits.Limits.{Limits}
-use Rattle.table_core.specs.BucketWords.{far_place}
 use Rattle.version_words.specs.Views.{PassView, SpareView, Goes}
-use Rattle.hash_table.specs.Calls.{AtMostOneMore, IsMoved, IsRefused, IsFull as IsLimboFull}
-use Rattle.hash_table.specs.Reclaims.{IsReclaimed}
-use Rattle.hash_table.specs.Refusals.{OfSwapOut}
+use Rattle.hash_table.specs.Calls.{AtMostOneMore, IsRefused, IsFull as IsLimboFull}
+use Rattle.hash_table.specs.Reclaims.{WasTried, IsReclaimed}
+use Rattle.hash_table.specs.Refusals.{OfSwapOut, WasRefused}
+use Rattle.hash_table.specs.Steps.{IsSwapped, IsOfDevice, SwapLeavesSpares}
 use Rattle.hash_table.specs.declared.caller.Caller.{Caller}
 use Rattle.hash_table.specs.declared.refusal.Refusal.{Refusal}
 use Rattle.swapper.specs.Chances.{ClockView}
@@ -42,7 +43,7 @@ module _ {K V : Type 0} where
   -- a spare was tried, and so its mark learned: it was reclaimed, or it is kept as the last one. So many were reclaimed
   pub record Tries (old new : EvictorView K V) (s : SpareView K V) (reclaimed : ℕ) : Type 0 where
     pub works : Works old new
-    pub told : IsPrefix s.front new.pass.front
+    pub told : WasTried s × IsPrefix s.front new.pass.front
     pub kept : ((reclaimed ≡ 1) × (new.kept ≡ old.kept) × IsReclaimed s) ⊎ ((reclaimed ≡ 0) × (new.kept ≡ old.kept ++ s ∷ []))
     pub limbo : new.limbo ≡ old.limbo
     pub seat : new.seat ≡ old.seat
@@ -91,10 +92,10 @@ module _ {K V : Type 0} where
   Sifts [] kept = kept ≡ []
   Sifts (s ∷ ss) kept = (IsReclaimed s × Sifts ss kept) ⊎ ((rest : List (SpareView K V)) × (kept ≡ s ∷ rest) × Sifts ss rest)
 
-  -- the log begins with what each of these spares says
+  -- each of these spares was tried, and the log begins with what it says
   abbrev pub AreTold : List (Event K V) → List (SpareView K V) → Type 0
   AreTold log [] = ⊤
-  AreTold log (s ∷ ss) = IsPrefix s.front log × AreTold log ss
+  AreTold log (s ∷ ss) = (WasTried s × IsPrefix s.front log) × AreTold log ss
 
   -- these were taken one after another
   abbrev pub TakesAll : SeatView (SpareView K V) → List (SpareView K V) → SeatView (SpareView K V) → Type 0
@@ -164,17 +165,19 @@ module _ {K V : Type 0} where
     pub count : length new.clock.marks ≡ length old.clock.marks
     pub room : new.room ≡ old.room
 
-module _ {K V : Type 0} (ek : K → List ℕ) (ev : V → List ℕ) (l : Limits) where
-  -- a frame was swapped out, or held nothing that its bucket's word names, or the table refused, for the reason that a swap-out has
-  pub record GivesUp (old new : EvictorView K V) (result : Result Bool Refusal) : Type 0 where
+module _ {K V : Type 0} (ek : K → List ℕ) (ev : V → List ℕ) (l : Limits) (format : Format) where
+  -- this frame was swapped out, or held nothing that its bucket's word names, or the table refused, for the reason that a swap-out has
+  pub record GivesUp (old new : EvictorView K V) (frame : ℕ) (result : Result Bool Refusal) : Type 0 where
     pub works : Works old new
     pub limbo : AtMostOneMore old.limbo new.limbo
     pub kept : new.kept ≡ old.kept
     pub seat : new.seat ≡ old.seat
-    pub swapped : IfOk result (λ done. IsTrue done → (b : ℕ) × IsMoved b (λ p. p ≡ far_place) old.pass new.pass)
+    pub swapped : IfOk result (λ done. IsSwapped ek l format frame old.pass old.limbo new.pass new.limbo done)
+    pub given_up : IfErr result (λ e. (b : ℕ) × SwapLeavesSpares (IsOfDevice b) new.pass.front old.limbo new.limbo e)
     pub refused : IfErr result (λ e. (b : ℕ) × IsRefused ek ev l b old.pass new.pass e)
     pub full : IfErr result (λ e. IsLimboFull e (length old.limbo))
     pub only : IfErr result (λ e. OfSwapOut e)
+    pub answered : IfErr result (λ e. WasRefused frame e)
 
   -- a caller had the hand's victim swapped out, if there is one. Nothing is said of what the frames answered the hand
   pub record GivesOneUp {J : Type 0} (old new : Caller K V J) (clock moved : ClockView) (result : Result Bool Refusal) : Type 0 where
@@ -185,15 +188,17 @@ module _ {K V : Type 0} (ek : K → List ℕ) (ev : V → List ℕ) (l : Limits)
     pub walked : IsWalked (λ f b. Unit {0}) (λ f b. Unit {0}) clock.marks clock.hand asked moved.marks moved.hand victim
     pub none : IfNone victim ((result ≡ Ok false) × (new.pass ≡ picked) × (new.limbo ≡ old.limbo))
     pub limbo : AtMostOneMore old.limbo new.limbo
-    pub swapped : IfOk result (λ done. IsTrue done → (b : ℕ) × IsMoved b (λ p. p ≡ far_place) picked new.pass)
+    pub swapped : IfSome victim (λ frame. IfOk result (λ done. IsSwapped ek l format frame picked old.limbo new.pass new.limbo done))
+    pub given_up : IfErr result (λ e. (b : ℕ) × SwapLeavesSpares (IsOfDevice b) new.pass.front old.limbo new.limbo e)
     pub refused : IfErr result (λ e. (b : ℕ) × IsRefused ek ev l b picked new.pass e)
     pub full : IfErr result (λ e. IsLimboFull e (length old.limbo))
     pub only : IfErr result (λ e. OfSwapOut e)
+    pub answered : IfErr result (λ e. IfSome victim (λ frame. WasRefused frame e))
 
   -- the victim was given up, if there is one
   abbrev pub GivesUpVictim : EvictorView K V → EvictorView K V → Option ℕ → Bool → Type 0
   GivesUpVictim old new None evicted = (new ≡ old) × (evicted ≡ false)
-  GivesUpVictim old new (Some v) evicted = GivesUp old new (Ok evicted)
+  GivesUpVictim old new (Some v) evicted = GivesUp old new v (Ok evicted)
 
   -- a turn: a collecting, a walk of the hand, its victim given up, and another collecting
   pub record IsTurn (old new : EvictorView K V) (answer : Turn) : Type 0 where
@@ -218,4 +223,4 @@ module _ {K V : Type 0} (ek : K → List ℕ) (ev : V → List ℕ) (l : Limits)
     pub first : ℕ
     pub collects : Collects old collected first
     pub picks : Picks collected picked (Some victim)
-    pub gives_up : GivesUp picked new (Err refusal)
+    pub gives_up : GivesUp picked new victim (Err refusal)

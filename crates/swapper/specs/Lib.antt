@@ -4,3 +4,4 @@ pub mod Meetings
 pub mod Namings
 pub mod Seats
 pub mod Evictors
+pub mod Rooms

@@ -144,8 +144,8 @@ impl<K: FarObject, V: FarObject, J: Naming, B: QueueNaming> Evictor<K, V, J, B> 
         table: &FarTable<K, V, J, D>,
         queue: &SpareQueue<K, V, J, B>,
     ) -> Result<Turn, Refusal>
-        ensures turn { IfOk result (λ t. IsTurn K.enc V.enc J.limits self.old self.new t) }
-        ensures refused { IfErr result (λ e. IsTurnRefused K.enc V.enc J.limits self.old self.new e) }
+        ensures turn { IfOk result (λ t. IsTurn K.enc V.enc J.limits table.now.format self.old self.new t) }
+        ensures refused { IfErr result (λ e. IsTurnRefused K.enc V.enc J.limits table.now.format self.old self.new e) }
         ensures turns { Turns self.old self.new }
         ensures only { IfErr result (λ e. OfSwapOut e) }
     {
@@ -186,7 +186,7 @@ impl<K: FarObject, V: FarObject, J: Naming, B: QueueNaming> Evictor<K, V, J, B> 
         table: &FarTable<K, V, J, D>,
         frame: u32,
     ) -> Result<bool, Refusal>
-        ensures { GivesUp K.enc V.enc J.limits self.old self.new result }
+        ensures { GivesUp K.enc V.enc J.limits table.now.format self.old self.new frame result }
     {
         table.swap_out(rt, &mut self.caller, frame)
     }

@@ -25,7 +25,7 @@ impl Clock {
         caller: &mut Caller<K, V, J>,
     ) -> Result<bool, Refusal>
         ensures goes { Goes caller.old.pass caller.new.pass }
-        ensures given { GivesOneUp K.enc V.enc J.limits caller.old caller.new self.old self.new result }
+        ensures given { GivesOneUp K.enc V.enc J.limits table.now.format caller.old caller.new self.old self.new result }
     {
         let count = self.frames();
         let Some(frame) = self.walk(&TableFrames { table, count }, caller) else {

@@ -5,8 +5,10 @@
 //! A change that finds no frame has read its bucket in vain, from the device where frames are few, and has made its object in
 //! vain: it does both again once there is a frame. So a caller that found none has one ready before each further change, until
 //! frames are named as free again.
-ghost use Rattle.std.specs.Prelude.{◌<◌};
+ghost use Rattle.std.specs.Prelude.{◌<◌, IfErr};
 ghost use Rattle.version_words.specs.Views.{Goes};
+ghost use Rattle.hash_table.specs.Refusals.{OfSwapOut};
+ghost use Rattle.swapper.specs.Rooms.{IsRecycled, LeavesRoom, MayLeaveRoom, WasRefusedBehind};
 
 use crate::clock::Clock;
 use far_device::Device;
@@ -31,15 +33,19 @@ pub fn recycle<K: FarObject, V: FarObject, J: Naming, D: Device, R: Wait>(
     table: &FarTable<K, V, J, D>,
     caller: &mut Caller<K, V, J>,
 )
-    ensures { Goes caller.old.pass caller.new.pass }
+    ensures goes { Goes caller.old.pass caller.new.pass }
+    ensures limbo { IsRecycled caller.old.limbo caller.new.limbo }
 {
     caller.recycle();
     let _front = caller.mark();
-    if let Some(spare) = caller.take_spare() {
-        if let Err((back, _)) = table.reclaim(rt, caller, spare) {
-            let _ = caller.return_spare(back);
-        }
-    }
+    let _few = caller.limbo_len();
+    let Some(spare) = caller.take_spare() else {
+        return;
+    };
+    let Err((back, _)) = table.reclaim(rt, caller, spare) else {
+        return;
+    };
+    let _ = caller.return_spare(back);
 }
 
 // The frame behind the part of all frames that the number's bits in their other order are of 2^32: so those of two, of four and
@@ -69,23 +75,27 @@ impl RoomMaker {
     /// For a caller whose change was refused with `NoFrame`: it gives a frame up, and reclaims its oldest spare. Where none
     /// waited in its limbo that is the one of this frame, and its next try fills it.
     ///
-    /// True where an object went to the device, false where no frame could be given up. It is refused as `Clock::give_up` is.
+    /// True where an object went to the device, false where no frame could be given up, which leaves the spares as they were. It
+    /// is refused as `Clock::give_up` is, which may leave the spare of the name that the swap-out drew.
     pub fn make_room<K: FarObject, V: FarObject, J: Naming, D: Device, R: Wait>(
         &mut self,
         rt: &R,
         table: &FarTable<K, V, J, D>,
         caller: &mut Caller<K, V, J>,
     ) -> Result<bool, Refusal>
-        ensures { Goes caller.old.pass caller.new.pass }
+        ensures goes { Goes caller.old.pass caller.new.pass }
+        ensures limbo { LeavesRoom caller.old.limbo caller.new.limbo result }
+        ensures refused { IfErr result (λ e. WasRefusedBehind K.enc V.enc J.limits caller.old.pass caller.new.pass e) }
+        ensures only { IfErr result (λ e. OfSwapOut e) }
     {
         self.lacks_frames = true;
         match self.clock.give_up(rt, table, caller) {
-            Ok(true) => {
-                recycle(rt, table, caller);
-                Ok(true)
-            }
-            other => other,
+            Ok(true) => {}
+            Ok(false) => return Ok(false),
+            Err(refusal) => return Err(refusal),
         }
+        recycle(rt, table, caller);
+        Ok(true)
     }
 
     /// For a caller that is about to make a change: where it found no frame of late, keeps none and none is named as free, it
@@ -96,7 +106,8 @@ impl RoomMaker {
         table: &FarTable<K, V, J, D>,
         caller: &mut Caller<K, V, J>,
     )
-        ensures { Goes caller.old.pass caller.new.pass }
+        ensures goes { Goes caller.old.pass caller.new.pass }
+        ensures limbo { MayLeaveRoom caller.old.limbo caller.new.limbo }
     {
         if !self.lacks_frames || caller.keeps_frame() {
             return;

@@ -6,15 +6,16 @@ pub line_so : {T E : Type 0} (r : Result T E) (old new line : List ℕ) (P : Lis
 line_so (Ok done) old new line P so h = (line, h, so)
 line_so (Err e) old new line P so h = tt
 
-pub some_line : {T E : Type 0} (r : Result T E) (old new line : List ℕ) → OnOk r (new ≡ old ++ (line ++ 10 ∷ [])) → OnOk r ((x : List ℕ) × (new ≡ old ++ (x ++ 10 ∷ [])))
-some_line (Ok done) old new line h = (line, h)
-some_line (Err e) old new line h = tt
-
 -- a line that is added in two parts
-pub two_parts : {T E : Type 0} (r : Result T E) (old mid new place digits : List ℕ) → mid ≡ old ++ place → OnOk r (new ≡ mid ++ (digits ++ 10 ∷ [])) → OnOk r ((x : List ℕ) × (new ≡ old ++ (x ++ 10 ∷ [])))
+pub two_parts : {T E : Type 0} (r : Result T E) (old mid new place digits : List ℕ) → mid ≡ old ++ place → OnOk r (new ≡ mid ++ (digits ++ 10 ∷ [])) → OnOk r (new ≡ old ++ ((place ++ digits) ++ 10 ∷ []))
 two_parts (Ok done) old mid new place digits is h =
-    (place ++ digits, h ∙ (ap (λ (z : List ℕ). z ++ (digits ++ 10 ∷ [])) is ∙ (append_assoc old place (digits ++ 10 ∷ []) ∙ ap (λ (z : List ℕ). old ++ z) (sym (append_assoc place digits (10 ∷ []))))))
+    h ∙ (ap (λ (z : List ℕ). z ++ (digits ++ 10 ∷ [])) is ∙ (append_assoc old place (digits ++ 10 ∷ []) ∙ ap (λ (z : List ℕ). old ++ z) (sym (append_assoc place digits (10 ∷ [])))))
 two_parts (Err e) old mid new place digits is h = tt
+
+-- a line of which more is so
+pub line_and : {T E : Type 0} (r : Result T E) (old new : List ℕ) (P Q : List ℕ → Type 0) → ((line : List ℕ) → P line → Q line) → OnOk r ((x : List ℕ) × (new ≡ old ++ (x ++ 10 ∷ [])) × P x) → OnOk r ((x : List ℕ) × (new ≡ old ++ (x ++ 10 ∷ [])) × Q x)
+line_and (Ok done) old new P Q more h = (h.0, h.1, more h.0 h.2)
+line_and (Err e) old new P Q more h = tt
 
 -- and the command of which it is the line
 pub of_command : {C T E : Type 0} (r : Result T E) (old new : List ℕ) (Is : C → Type 0) (P : C → List ℕ → Type 0) (c : C) → Is c

@@ -4,7 +4,7 @@ use Rattle.std.specs.Prelude.{slice_index_or}
 use Rattle.far_object.specs.Encodings.{enc_text}
 use Rattle.table_core.specs.declared.limits.Limits.{Limits}
 use Rattle.hash_table.specs.declared.caller.Caller.{Caller}
-use Rattle.hash_table.specs.Closes.{AreBack, ClosesSorted, IsClosed, passes}
+use Rattle.hash_table.specs.Closes.{AreBack, ClosesSorted, passes}
 use Rattle.version_words.specs.Views.{Goes, IsWhole, AreNone, AreApart, calls_of}
 use Rattle.version_words.proofs.Fronts.{prefix_trans}
 use Rattle.run_lines.specs.Calls.{Texts}

@@ -19,7 +19,7 @@ use Rattle.run_lines.specs.Output.{written, pair_line, file_lines, file_texts, o
 use Rattle.run_lines.specs.Runs.{Worked, AreApart, Ran}
 use Rattle.run_lines.proofs.Replying.{replied_later}
 use Rattle.run_lines.proofs.Texts.{texts_are_lines}
-use Rattle.threaded_run.specs.Replies.{View, Log, MayRefuse}
+use Rattle.threaded_run.specs.Replies.{View, Log, MayReply}
 use Rattle.threaded_run.specs.declared.fault.ThreadedFault.{ThreadedFault}
 use Rattle.threaded_run.specs.declared.fault.ThreadedFault.TheVariants as fault
 use Rattle.threaded_run.specs.Runs.{JobView, Served, IsServed, WorkedAll, AreLines, IsEarly, EndsAt, WritesBefore}
@@ -56,11 +56,11 @@ last_of P (x ∷ xs) y h = last_of P xs y h.1
 
 module _ (l : Limits) (limit : ℕ) (honest : IsTrue l.honest) (log : Log) where
   here : (all : List Served) (ys : List View) → AllByRecursion (λ (pass : View). IsWhole log pass) (map (λ s. s.pass) all ++ ys) → AllByRecursion (IsServed l limit) all
-      → AllByRecursion (λ w. RepliedIn (MayRefuse l.buckets limit) (history log) w.pass w.commands w.lines) (map worked all)
+      → AllByRecursion (λ w. RepliedIn (MayReply l.buckets limit) (history log) w.pass w.commands w.lines) (map worked all)
   here [] ys whole r = tt
   here (s ∷ all) ys whole r =
       let w = whole.0 in (
-        replied_later (MayRefuse l.buckets limit) (history s.pass.front) (history log) s.pass.number [] s.commands s.lines (history_grows s.pass.front log w.seen) w.all (r.0.replied honest),
+        (let own = r.0.replied honest in (own.0, replied_later (MayReply l.buckets limit) (history s.pass.front) (history log) s.pass.number [] None s.commands s.lines own.0 (history_grows s.pass.front log w.seen) w.all own.1)),
         here all ys whole.1 r.1,
       )
 
@@ -86,7 +86,7 @@ counts l limit (s ∷ all) h =
 module _ {J : Type 0} where
   pub ran : (l : Limits) (limit : ℕ) (jobs : List JobView) (files : List (List Command)) (callers : List (Caller (List ℕ) (List ℕ) J)) (e : Caller (List ℕ) (List ℕ) J) (all : List (Caller (List ℕ) (List ℕ) J)) (texts : List (List ℕ)) (pairs : Texts)
       → map (λ j. j.commands) jobs ≡ files → WorkedAll l limit jobs (map (λ c. c.pass) callers) texts → calls e.pass ≡ [] → all ≡ callers ++ e ∷ [] → IsClosed enc_text enc_text l all pairs → IsTrue l.honest
-      → Ran (MayRefuse l.buckets limit) files (file_texts 1 texts ++ written (codes "contents" ∷ map pair_line pairs))
+      → Ran (MayReply l.buckets limit) files (file_texts 1 texts ++ written (codes "contents" ∷ map pair_line pairs))
   ran l limit jobs files callers e all texts pairs j w none all_is close honest = record {
     calls = history close.log;
     all = map worked w.all;

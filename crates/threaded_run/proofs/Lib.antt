@@ -1,3 +1,4 @@
+mod TooLong
 pub mod Trying
 pub mod Stepping
 pub mod Working

@@ -15,7 +15,7 @@ use Rattle.run_lines.specs.Replies.{line_of}
 use Rattle.run_lines.proofs.Replying.{Step}
 use Rattle.version_words.specs.Views.{calls_of}
 use Rattle.version_words.proofs.Calling.{calls-append, calls_kept, calls_between}
-use Rattle.threaded_run.specs.Replies.{View, Log, MayRefuse, AnswersWith, RunsTo}
+use Rattle.threaded_run.specs.Replies.{View, Log, MayReply, AnswersWith, RunsTo, held_behind}
 
 pub history_grows : (xs ys : Log) → IsPrefix xs ys → IsPrefix (history xs) (history ys)
 history_grows xs ys pre = (history pre.0, sym (history-append xs pre.0) ∙ ap history pre.1)
@@ -29,18 +29,19 @@ past p o w xs before ys pre is more =
 
 module _ (l : Limits) (limit : ℕ) where
   number_stays : (old new : View) (c : MapCommand) (r : Result (Option (List ℕ)) Refusal) → AnswersWith l limit old new c r → (new.number ≡ old.number) × IsPrefix old.front new.front
-  number_stays old new c (Ok answer) h = (h.call.number, h.call.grows)
+  number_stays old new c (Ok answer) h = (h.finished.call.number, h.finished.call.grows)
   number_stays old new c (Err why) h = (h.goes.number, h.goes.grows)
 
-  pub stays : (old new : View) (c : Command) (line : List ℕ) → RunsTo l limit old new c line → (new.number ≡ old.number) × IsPrefix old.front new.front
-  stays old new (Map c) line h = number_stays old new c h.0 h.2
-  stays old new (Table c) line h = (h.number, h.grows)
+  pub stays : (old new : View) (held later : Option (List ℕ)) (c : Command) (line : List ℕ) → RunsTo l limit old new held later c line → (new.number ≡ old.number) × IsPrefix old.front new.front
+  stays old new held later (Map c) line h = number_stays old new c h.0 h.2
+  stays old new held later (Table c) line h = (h.0.number, h.0.grows)
 
-  answered : IsTrue l.honest → (old new : View) (c : MapCommand) (r : Result (Option (List ℕ)) Refusal) → AnswersWith l limit old new c r → Step (MayRefuse l.buckets limit) (history old.front) (history new.front) old.number (Map c) (line_of r)
-  answered honest old new c (Ok answer) h =
+  answered : IsTrue l.honest → (old new : View) (held later : Option (List ℕ)) (c : MapCommand) (r : Result (Option (List ℕ)) Refusal) → AnswersWith l limit old new c r → later ≡ held_behind c r held
+      → Step (MayReply l.buckets limit) (history old.front) (history new.front) old.number held (Map c) (line_of r) later
+  answered honest old new held later c (Ok answer) h behind =
       let o : Asked = operation_of c in
-      let at = h.answered honest in
-      let more : calls_of old.number new.front ≡ calls_of old.number old.front ++ o ∷ [] = ap (λ (q : ℕ). calls_of q new.front) (sym h.call.number) ∙ h.call.call_added in
+      let at = h.finished.answered honest in
+      let more : calls_of old.number new.front ≡ calls_of old.number old.front ++ o ∷ [] = ap (λ (q : ℕ). calls_of q new.front) (sym h.finished.call.number) ∙ h.finished.call.call_added in
       inl (
         answer,
         refl,
@@ -50,10 +51,12 @@ module _ (l : Limits) (limit : ℕ) where
           stands = ap history at.2 ∙ history-append at.0 (Done old.number o at.1 ∷ []);
           past = past old.number o at.1 old.front at.0 new.front at.3 at.2 more;
           told = at.4;
+          may = h.may honest at.0 (Done old.number o at.1) at.2;
         },
         more,
+        behind,
       )
-  answered honest old new c (Err why) h =
+  answered honest old new held later c (Err why) h behind =
       let s = h.seen honest in
       let same : calls_of old.number new.front ≡ calls_of old.number old.front = ap (λ (q : ℕ). calls_of q new.front) (sym h.goes.number) ∙ h.goes.calls_stay in
       let rest : IsPrefix (history s.0) (history new.front) = history_grows s.0 new.front s.2 in
@@ -65,8 +68,9 @@ module _ (l : Limits) (limit : ℕ) where
           may = s.3;
         },
         same,
+        behind,
       )
 
-  pub step : IsTrue l.honest → (old new : View) (c : Command) (line : List ℕ) → RunsTo l limit old new c line → Step (MayRefuse l.buckets limit) (history old.front) (history new.front) old.number c line
-  step honest old new (Map c) line h = rw h.1 (answered honest old new c h.0 h.2)
-  step honest old new (Table c) line h = ap (λ (q : ℕ). calls_of q new.front) (sym h.number) ∙ h.calls_stay
+  pub step : IsTrue l.honest → (old new : View) (held later : Option (List ℕ)) (c : Command) (line : List ℕ) → RunsTo l limit old new held later c line → Step (MayReply l.buckets limit) (history old.front) (history new.front) old.number held c line later
+  step honest old new held later (Map c) line h = rw h.1 (answered honest old new held later c h.0 h.2 h.3)
+  step honest old new held later (Table c) line h = (h.1, ap (λ (q : ℕ). calls_of q new.front) (sym h.0.number) ∙ h.0.calls_stay)

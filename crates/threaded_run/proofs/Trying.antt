@@ -1,12 +1,14 @@
 -- One try of a command after another.
-use Rattle.std.proofs.Common.{◌≡◌, ℕ, List, Option, None, Result, Ok, Err, refl, sym, subst, inl, inr, ◌⊎◌}
-use Rattle.std.specs.Prelude.{codes}
+use Rattle.std.proofs.Common.{◌≡◌, ℕ, false, List, Option, Some, None, Result, Ok, Err, refl, sym, ◌∙◌, subst, inl, inr, ◌⊎◌}
+use Rattle.std.specs.Prelude.{codes, is_some}
+use Rattle.std.proofs.lemmas.List.{same_from_push}
 use Rattle.far_object.specs.Encodings.{enc_text}
 use Rattle.far_object.specs.Buckets.{bucket}
 use Rattle.table_core.specs.declared.limits.Limits.{Limits}
-use Rattle.table_core.specs.Maps.{key_of}
+use Rattle.table_core.specs.declared.event.Event.TheVariants.{Done}
+use Rattle.table_core.specs.Maps.{key_of, map_of}
 use Rattle.table_core.specs.Logs.{history}
-use Rattle.version_words.specs.Views.{Goes}
+use Rattle.version_words.specs.Views.{Goes, SpareView}
 use Rattle.version_words.proofs.Fronts.{prefix_self, prefix_trans}
 use Rattle.hash_table.specs.declared.refusal.Refusal.{Refusal as TableRefusal}
 use Rattle.hash_table.specs.declared.refusal.Refusal.TheVariants as table
@@ -14,6 +16,7 @@ use Rattle.hash_table.specs.Calls.{IsUnchanged, IsFinished}
 use Rattle.hash_table.specs.Scopes.{ScopeView, shown}
 use Rattle.hash_table.specs.Calls.{IsRefused as IsRefusedCall}
 use Rattle.hash_table.specs.Refusals.{OfGet}
+use Rattle.hash_table.specs.Steps.{IsInstalledLater}
 use Rattle.hash_table.proofs.Fronts.{goes_self, goes_trans, finished_from}
 use Rattle.command_file.specs.declared.command.Command.{Command}
 use Rattle.command_file.specs.declared.command.Command.TheVariants.{Map, Table}
@@ -21,18 +24,19 @@ use Rattle.command_file.specs.declared.command.MapCommand.{MapCommand}
 use Rattle.command_file.specs.declared.command.MapCommand.TheVariants.{Hold}
 use Rattle.run_lines.specs.declared.refusal.Refusal.{Refusal}
 use Rattle.run_lines.specs.declared.refusal.Refusal.TheVariants as refusal
-use Rattle.run_lines.specs.Calls.{Asked, operation_of}
-use Rattle.threaded_run.specs.Replies.{View, Log, MayRefuse, said, IsOfTurn, IsRefused, AnswersWith, RunsTo, Tries}
+use Rattle.run_lines.specs.Calls.{Texts, operation_of, sets}
+use Rattle.threaded_run.specs.Replies.{View, Log, MayReply, said, IsOfTurn, IsDone, IsRefused, AnswersWith, RunsTo, Tries}
+use Rattle.threaded_run.proofs.TooLong.{too_long_in, too_long_there}
 
 module _ (l : Limits) (limit : ℕ) where
   -- a refusal of which nothing else is said
-  free : (old new : View) (c : MapCommand) (why : Refusal) → ((log : Log) → MayRefuse l.buckets limit (history log) c why) → Goes old new → IsRefused l limit old new c why
+  free : (old new : View) (c : MapCommand) (why : Refusal) → ((log : Log) → MayReply l.buckets limit (history log) c (Err why)) → Goes old new → IsRefused l limit old new c why
   free old new c why may goes = record { goes = goes; seen = λ _. (old.front, prefix_self old.front, goes.grows, may old.front) }
 
   -- a command for which there was no memory: no call is made
-  pub unmade : (v : View) (c : Command) → RunsTo l limit v v c (codes "memory")
-  unmade v (Map c) = (Err refusal.Memory, refl, free v v c refusal.Memory (λ _. tt) (goes_self v))
-  unmade v (Table c) = goes_self v
+  pub unmade : (v : View) (held : Option (List ℕ)) (c : Command) → RunsTo l limit v v held held c (codes "memory")
+  unmade v held (Map c) = (Err refusal.Memory, refl, free v v c refusal.Memory (λ _. tt) (goes_self v), refl)
+  unmade v held (Table c) = (goes_self v, inr (refl, refl))
 
   abbrev at : MapCommand → ℕ
   at c = bucket enc_text l.buckets (key_of (operation_of c))
@@ -43,7 +47,7 @@ module _ (l : Limits) (limit : ℕ) where
   change_refused old new c table.Moved goes h = free old new c refusal.Full (λ _. tt) goes
   change_refused old new c table.Missed goes h = free old new c refusal.Full (λ _. tt) goes
   change_refused old new c table.NoFrame goes h = free old new c refusal.Full (λ _. tt) goes
-  change_refused old new c table.TooLong goes h = record { goes = goes; seen = λ honest. let s = h.1 honest in (s.0, s.1, s.2, record { sets = h.0; longer = s.3 }) }
+  change_refused old new c table.TooLong goes h = record { goes = goes; seen = λ honest. let s = h.1 honest in (s.0, s.1, s.2, too_long_in l.buckets limit (history s.0) (operation_of c) s.3) }
   change_refused old new c table.NamesSpent goes h = free old new c refusal.NamesSpent (λ _. tt) goes
   change_refused old new c table.LimboFull goes h = free old new c refusal.LimboFull (λ _. tt) goes
   change_refused old new c table.Device goes h = free old new c refusal.Device (λ _. tt) goes
@@ -66,6 +70,26 @@ module _ (l : Limits) (limit : ℕ) where
   pub get_refused : (b : ℕ) (old new : View) (c : MapCommand) (e : TableRefusal) → Goes old new → IsRefusedCall enc_text enc_text l b old new e → OfGet e → IsRefused l limit old new c (said e)
   get_refused b old new c e goes h of = refused OfGet (λ x. x) b old new c e goes h of
 
+  -- ---- calls that were answered
+
+  -- a change that was installed was not too long
+  pub changed : (frames : ℕ) (old new : View) (before after : List (SpareView (List ℕ) (List ℕ))) (c : MapCommand) (answer : Option (List ℕ)) → IsFinished enc_text enc_text l old (operation_of c) answer new
+      → IsInstalledLater enc_text enc_text l limit frames (at c) (operation_of c) old before new after → IsDone l limit old new c answer
+  changed frames old new before after c answer finished later = record {
+    finished = finished;
+    may = λ honest log last is.
+        let installed = later.2 in
+        let same : installed.follows.0 ≡ log = let both = same_from_push installed.follows.0 log (Done old.number (operation_of c) installed.word) last (sym installed.follows.1 ∙ is) in both.0 in
+        subst (λ (x : Log). MayReply l.buckets limit (history x) c (Ok answer)) same (λ long. installed.fits honest (too_long_there l.buckets limit (history installed.follows.0) (operation_of c) long));
+  }
+
+  -- what sets no key is never too long
+  pub read : (old new : View) (c : MapCommand) (answer : Option (List ℕ)) → ((m : Texts) → sets m (operation_of c) ≡ false) → IsFinished enc_text enc_text l old (operation_of c) answer new → IsDone l limit old new c answer
+  read old new c answer none finished = record {
+    finished = finished;
+    may = λ honest log last is long. let so = long.sets in let not = none (map_of enc_text enc_text (history log)) in cc;
+  }
+
   -- ---- tries that were refused before
 
   pub refused_from : (old mid new : View) (c : MapCommand) (why : Refusal) → Goes old mid → IsRefused l limit mid new c why → IsRefused l limit old new c why
@@ -74,12 +98,15 @@ module _ (l : Limits) (limit : ℕ) where
     seen = λ honest. let s = h.seen honest in (s.0, prefix_trans old.front mid.front s.0 goes.grows s.1, s.2, s.3);
   }
 
+  pub done_from : (old mid new : View) (c : MapCommand) (answer : Option (List ℕ)) → Goes old mid → IsDone l limit mid new c answer → IsDone l limit old new c answer
+  done_from old mid new c answer goes h = record { finished = finished_from enc_text enc_text l (operation_of c) answer goes h.finished; may = h.may }
+
   pub answers_from : (old mid new : View) (c : MapCommand) (r : Result (Option (List ℕ)) Refusal) → Goes old mid → AnswersWith l limit mid new c r → AnswersWith l limit old new c r
-  answers_from old mid new c (Ok answer) goes h = finished_from enc_text enc_text l (operation_of c) answer goes h
+  answers_from old mid new c (Ok answer) goes h = done_from old mid new c answer goes h
   answers_from old mid new c (Err why) goes h = refused_from old mid new c why goes h
 
   pub tries_from : (old mid new : View) (c : MapCommand) (r : Result (Option (List ℕ)) TableRefusal) → Goes old mid → Tries l limit mid new c r → Tries l limit old new c r
-  tries_from old mid new c (Ok answer) goes h = finished_from enc_text enc_text l (operation_of c) answer goes h
+  tries_from old mid new c (Ok answer) goes h = done_from old mid new c answer goes h
   tries_from old mid new c (Err e) goes h = refused_from old mid new c (said e) goes h
 
   of_turn : (old new : View) (c : MapCommand) (why : Refusal) → Goes old new → IsOfTurn why → IsRefused l limit old new c why
@@ -107,5 +134,9 @@ module _ (l : Limits) (limit : ℕ) where
   pub held_already : (v : View) (k : List ℕ) → IsRefused l limit v v (Hold k) refusal.HeldAlready
   held_already v k = free v v (Hold k) refusal.HeldAlready (λ _. tt) (goes_self v)
 
-  pub none_shown : (old new : View) (o : Asked) (s : Option (ScopeView (List ℕ))) → s ≡ None → IsFinished enc_text enc_text l old o (shown s) new → IsFinished enc_text enc_text l old o None new
-  none_shown old new o s is h = subst (λ (x : Option (ScopeView (List ℕ))). IsFinished enc_text enc_text l old o (shown x) new) is h
+  pub none_shown : (old new : View) (c : MapCommand) (s : Option (ScopeView (List ℕ))) → s ≡ None → IsDone l limit old new c (shown s) → IsDone l limit old new c None
+  none_shown old new c s is h = subst (λ (x : Option (ScopeView (List ℕ))). IsDone l limit old new c (shown x)) is h
+
+pub none_held : (held : Option (ScopeView (List ℕ))) → is_some held ≡ false → shown held ≡ None
+none_held None is = refl
+none_held (Some scope) is = cc

@@ -1,3 +1,4 @@
 pub mod Replies
 pub mod Runs
 pub mod Ends
+pub mod Spares

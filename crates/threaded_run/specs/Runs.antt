@@ -1,5 +1,5 @@
 -- The workers of a run, and its faults.
-use Rattle.std.specs.Prelude.{◌≡◌, ℕ, IsTrue, List, length, map, Option, ⊤}
+use Rattle.std.specs.Prelude.{◌≡◌, ℕ, IsTrue, List, length, map, Option, Result, Ok, Err, ⊤}
 use Rattle.std.specs.List.{AllByRecursion}
 use Rattle.std.specs.Io.KnownBytes.{Keeps, Appends}
 use Rattle.table_core.specs.declared.limits.Limits.{Limits}
@@ -9,7 +9,9 @@ use Rattle.run_lines.specs.Replies.{RepliedIn}
 use Rattle.run_lines.specs.Output.{written, file_lines}
 use Rattle.threaded_run.specs.declared.fault.ThreadedFault.{ThreadedFault}
 use Rattle.threaded_run.specs.declared.fault.ThreadedFault.TheVariants as fault
-use Rattle.threaded_run.specs.Replies.{View, MayRefuse}
+use Rattle.threaded_run.specs.declared.fault.WorkFault.{WorkFault}
+use Rattle.threaded_run.specs.declared.fault.WorkFault.TheVariants as work
+use Rattle.threaded_run.specs.Replies.{View, MayReply}
 
 -- a file that is to be run: its pass, and its commands
 pub record JobView : Type 0 where
@@ -31,7 +33,7 @@ module _ (l : Limits) (limit : ℕ) where
   -- each command has a line, and at the pass's front they are what the commands were replied
   pub record IsServed (s : Served) : Type 0 where
     pub count : length s.lines ≡ length s.commands
-    pub replied : IsTrue l.honest → RepliedIn (MayRefuse l.buckets limit) (history s.pass.front) s.pass.number s.commands s.lines
+    pub replied : IsTrue l.honest → RepliedIn (MayReply l.buckets limit) (history s.pass.front) s.pass.number s.commands s.lines
 
   -- the same pass has run the commands, and the text is their lines
   pub record EndedIs (old : View) (commands : List Command) (e : EndedView) : Type 0 where
@@ -47,6 +49,17 @@ module _ (l : Limits) (limit : ℕ) where
     pub passes_are : map (λ s. s.pass) all ≡ passes
     pub texts_are : map (λ s. written s.lines) all ≡ texts
     pub served : AllByRecursion IsServed all
+
+-- of both answers this is so
+abbrev pub BothSo : {A B E : Type 0} → Result A E → Result B E → (A → B → Type 0) → Type 0
+BothSo (Ok a) (Ok b) P = P a b
+BothSo _ _ P = ⊥
+
+-- the fault of the first answer, else that of the second, else want of memory
+abbrev pub IsFirstFault : {A B : Type 0} → Result A WorkFault → Result B WorkFault → WorkFault → Type 0
+IsFirstFault (Err e) second fault = fault ≡ e
+IsFirstFault (Ok a) (Err e) fault = fault ≡ e
+IsFirstFault (Ok a) (Ok b) fault = fault ≡ work.Memory
 
 -- the text is the lines of the files, a line for each command
 pub record AreLines (files : List (List Command)) (text : List ℕ) : Type 0 where

@@ -1,6 +1,7 @@
 //! What is done between two tries of a command.
 ghost use Rattle.std.specs.Prelude.{◌≡◌, ◌⊎◌, IfErr};
 ghost use Rattle.threaded_run.specs.Replies.{said, IsOfTurn};
+ghost use Rattle.threaded_run.specs.Spares.{EmptiesFrames, MakesRoom};
 ghost use Rattle.version_words.specs.Views.{Goes};
 
 use crate::shared::{Seated, Shared};
@@ -36,6 +37,7 @@ fn empty_frame<J: Naming, B: QueueNaming, D: Device, R: Wait>(
     seated: &mut Seated<J, B>,
 ) -> Result<(), Refusal>
     ensures pass { Goes seated.old.caller.pass seated.new.caller.pass }
+    ensures spares { EmptiesFrames shared.now.queue seated.old seated.new }
     ensures why { IfErr result IsOfTurn }
 {
     match shared.empty_frames(rt, seated) {
@@ -55,6 +57,7 @@ pub(crate) fn make_room<J: Naming, B: QueueNaming, D: Device, R: Wait>(
     refusal: TableRefusal,
 ) -> Result<(), Refusal>
     ensures pass { Goes seated.old.caller.pass seated.new.caller.pass }
+    ensures spares { MakesRoom shared.now.queue seated.old seated.new refusal }
     ensures why { IfErr result (λ why. (why ≡ said refusal) ⊎ IsOfTurn why) }
 {
     match refusal {

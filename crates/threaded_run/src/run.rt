@@ -2,7 +2,7 @@
 ghost use Rattle.std.specs.Prelude.{◌≡◌, ◌<◌, ◌≤◌, IsTrue, true, ℕ, List, vec_len, map, OnOk, IfErr};
 ghost use Rattle.std.specs.Io.KnownBytes.{Appends};
 ghost use Rattle.run_lines.specs.Runs.{Ran};
-ghost use Rattle.threaded_run.specs.Replies.{MayRefuse};
+ghost use Rattle.threaded_run.specs.Replies.{MayReply};
 ghost use Rattle.threaded_run.specs.Runs.{WritesBefore};
 
 use crate::drawing::{draw, enter};
@@ -52,7 +52,7 @@ where
     requires taker { taker.takes ≡ true }
     requires seats { vec_len seats ≡ vec_len files }
     requires few { vec_len files ≤ 64 }
-    ensures ran { OnOk result (IsTrue J.limits.honest → (text : List ℕ) × Ran (MayRefuse J.limits.buckets table.limit) files.items text × Appends (W.contents out.old) (W.contents out.new) text) }
+    ensures ran { OnOk result (IsTrue J.limits.honest → (text : List ℕ) × Ran (MayReply J.limits.buckets table.limit) files.items text × Appends (W.contents out.old) (W.contents out.new) text) }
     ensures before { IfErr result (WritesBefore files.items (W.contents out.old) (W.contents out.new)) }
 {
     let jobs = match draw(rt, alloc, &table, config.frames, seats, files) {

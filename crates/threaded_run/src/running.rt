@@ -1,11 +1,12 @@
 //! One command to one line.
-ghost use Rattle.std.specs.Prelude.{◌≡◌, ◌<◌, ◌++◌, ◌∷◌, [], ℕ, List, Result, Option, length, slice_index_or, OnOk};
+ghost use Rattle.std.specs.Prelude.{◌≡◌, ◌<◌, ◌++◌, ◌∷◌, [], ℕ, List, Result, Option, None, length, decimal, slice_index_or, OnOk};
 ghost use Rattle.command_file.specs.declared.command.Command.{Command as command};
 ghost use Rattle.command_file.specs.declared.command.Command.TheVariants.{Map, Table};
 ghost use Rattle.run_lines.specs.declared.refusal.Refusal.{Refusal as refusal};
-ghost use Rattle.run_lines.specs.Replies.{line_of};
+ghost use Rattle.run_lines.specs.Replies.{line_of, shown_text, released_text, held_past, IsEvictLine, IsPlaceLine, TellsTable};
 ghost use Rattle.version_words.specs.Views.{Goes};
 ghost use Rattle.command_file.specs.declared.command.MapCommand.TheVariants.{Hold};
+ghost use Rattle.hash_table.specs.Scopes.{shown};
 ghost use Rattle.threaded_run.specs.Replies.{AnswersWith, RunsTo};
 
 use crate::answering::answer;
@@ -34,7 +35,7 @@ fn hold<'a, J: Naming, B: QueueNaming, D: Device, R: Wait>(
     key: &Text,
 ) -> Result<(), Memory>
     ensures { OnOk result ((line : List ℕ) × (lines.new.items ≡ lines.old.items ++ (line ++ 10 ∷ []))
-        × RunsTo J.limits shared.now.table.limit seated.old.caller.pass seated.new.caller.pass (Map (Hold key.now)) line) }
+        × RunsTo J.limits shared.now.table.limit seated.old.caller.pass seated.new.caller.pass (shown held.old) (shown held.new) (Map (Hold key.now)) line) }
 {
     if held.is_some() {
         return push_line(lines, Refusal::HeldAlready.text());
@@ -63,7 +64,7 @@ fn run_map<'a, J: Naming, B: QueueNaming, D: Device, R: Wait>(
     command: &MapCommand,
 ) -> Result<(), Memory>
     ensures { OnOk result ((line : List ℕ) × (lines.new.items ≡ lines.old.items ++ (line ++ 10 ∷ []))
-        × RunsTo J.limits shared.now.table.limit seated.old.caller.pass seated.new.caller.pass (Map command.now) line) }
+        × RunsTo J.limits shared.now.table.limit seated.old.caller.pass seated.new.caller.pass (shown held.old) (shown held.new) (Map command.now) line) }
 {
     if let MapCommand::Hold { key } = command {
         return hold(rt, alloc, shared, seated, held, lines, key);
@@ -93,7 +94,8 @@ fn evict<J: Naming, B: QueueNaming, D: Device, R: Wait>(
     shared: &Shared<J, B, D>,
     seated: &mut Seated<J, B>,
 ) -> &'static [u8]
-    ensures { Goes seated.old.caller.pass seated.new.caller.pass }
+    ensures pass { Goes seated.old.caller.pass seated.new.caller.pass }
+    ensures line { IsEvictLine result.now }
 {
     for _ in 0..MOST_TRIES {
         match evict_one(rt, shared) {
@@ -110,7 +112,7 @@ fn evict<J: Naming, B: QueueNaming, D: Device, R: Wait>(
 
 /// Adds a line of a place and a name.
 fn push_place(lines: &mut Vec<u8>, place: &[u8], name: u64) -> Result<(), Memory>
-    ensures { OnOk result ((line : List ℕ) × (lines.new.items ≡ lines.old.items ++ (line ++ 10 ∷ []))) }
+    ensures { OnOk result (lines.new.items ≡ lines.old.items ++ ((place.now ++ decimal name) ++ 10 ∷ [])) }
 {
     let mut digits = Buffer::new();
     lines.extend_from_slice(place)?;
@@ -119,7 +121,7 @@ fn push_place(lines: &mut Vec<u8>, place: &[u8], name: u64) -> Result<(), Memory
 
 /// Adds the line of `where`: where the bucket's object lies, and its name.
 fn push_state(lines: &mut Vec<u8>, state: BucketState) -> Result<(), Memory>
-    ensures { OnOk result ((line : List ℕ) × (lines.new.items ≡ lines.old.items ++ (line ++ 10 ∷ []))) }
+    ensures { OnOk result ((line : List ℕ) × (lines.new.items ≡ lines.old.items ++ (line ++ 10 ∷ [])) × IsPlaceLine line) }
 {
     match state {
         BucketState::Empty(name) => push_place(lines, b"empty ", name),
@@ -129,7 +131,10 @@ fn push_state(lines: &mut Vec<u8>, state: BucketState) -> Result<(), Memory>
 }
 
 /// Ends the hold, and gives its line.
-fn release<J: Naming>(held: &mut Held<'_, J>) -> &'static [u8] {
+fn release<J: Naming>(held: &mut Held<'_, J>) -> &'static [u8]
+    ensures line { result.now ≡ released_text (shown held.old) }
+    ensures held { shown held.new ≡ None }
+{
     match held.take() {
         Some(scope) => {
             scope.close();
@@ -141,7 +146,7 @@ fn release<J: Naming>(held: &mut Held<'_, J>) -> &'static [u8] {
 
 /// Adds the line of `show`.
 fn show<J: Naming>(held: &Held<'_, J>, lines: &mut Vec<u8>) -> Result<(), Memory>
-    ensures { OnOk result ((line : List ℕ) × (lines.new.items ≡ lines.old.items ++ (line ++ 10 ∷ []))) }
+    ensures { OnOk result (lines.new.items ≡ lines.old.items ++ (shown_text (shown held.now) ++ 10 ∷ [])) }
 {
     match held {
         Some(scope) => push_line(lines, held_value(scope)),
@@ -158,8 +163,9 @@ fn run_table<J: Naming, B: QueueNaming, D: Device, R: Wait>(
     lines: &mut Vec<u8>,
     command: &TableCommand,
 ) -> Result<(), Memory>
-    ensures line { OnOk result ((line : List ℕ) × (lines.new.items ≡ lines.old.items ++ (line ++ 10 ∷ []))) }
-    ensures goes { Goes seated.old.caller.pass seated.new.caller.pass }
+    ensures line { OnOk result ((line : List ℕ) × (lines.new.items ≡ lines.old.items ++ (line ++ 10 ∷ [])) × TellsTable command.now (shown held.old) line) }
+    ensures held { shown held.new ≡ held_past command.now (shown held.old) }
+    ensures pass { Goes seated.old.caller.pass seated.new.caller.pass }
 {
     match command {
         TableCommand::Show => show(held, lines),
@@ -184,7 +190,7 @@ fn run_command<'a, J: Naming, B: QueueNaming, D: Device, R: Wait>(
     command: &Command,
 ) -> Result<(), Memory>
     ensures { OnOk result ((line : List ℕ) × (lines.new.items ≡ lines.old.items ++ (line ++ 10 ∷ []))
-        × RunsTo J.limits shared.now.table.limit seated.old.caller.pass seated.new.caller.pass command.now line) }
+        × RunsTo J.limits shared.now.table.limit seated.old.caller.pass seated.new.caller.pass (shown held.old) (shown held.new) command.now line) }
 {
     match command {
         Command::Map(command) => run_map(rt, alloc, shared, seated, held, lines, command),
@@ -206,7 +212,7 @@ pub(crate) fn run_at<'a, J: Naming, B: QueueNaming, D: Device, R: Wait>(
 ) -> Result<(), Memory>
     requires { at < length script.now }
     ensures { OnOk result ((command : command) × (line : List ℕ) × (command ≡ slice_index_or script.now at command) × (lines.new.items ≡ lines.old.items ++ (line ++ 10 ∷ []))
-        × RunsTo J.limits shared.now.table.limit seated.old.caller.pass seated.new.caller.pass command line) }
+        × RunsTo J.limits shared.now.table.limit seated.old.caller.pass seated.new.caller.pass (shown held.old) (shown held.new) command line) }
 {
     match script.command(alloc, at) {
         Ok(command) => run_command(rt, alloc, shared, seated, held, lines, &command),

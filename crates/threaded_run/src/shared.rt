@@ -1,6 +1,7 @@
 //! What the workers and the evictor's thread share.
 ghost use Rattle.std.specs.Prelude.{◌≡◌};
 ghost use Rattle.version_words.specs.Views.{Goes};
+ghost use Rattle.threaded_run.specs.Spares.{IsSettled, MayMakeReady, MakesOwnRoom, EmptiesFrames, SeesToSpares};
 
 use far_device::Device;
 use far_object::Text;
@@ -69,7 +70,8 @@ impl<J: Naming, B: QueueNaming, D: Device> Shared<J, B, D> {
 
     /// The caller makes room itself. Spares that waited go first, so that the one which it reclaims is that of the frame.
     fn make_own_room<R: Wait>(&self, rt: &R, seated: &mut Seated<J, B>) -> Result<bool, Refusal>
-        ensures { Goes seated.old.caller.pass seated.new.caller.pass }
+        ensures pass { Goes seated.old.caller.pass seated.new.caller.pass }
+        ensures spares { MakesOwnRoom self.now.queue seated.old seated.new result }
     {
         self.settle(rt, seated);
         seated.room.make_room(rt, &self.table, &mut seated.caller)
@@ -78,7 +80,8 @@ impl<J: Naming, B: QueueNaming, D: Device> Shared<J, B, D> {
     /// What comes before a change: a frame for it, where frames were lacking of late. What the queue had no room for waits in
     /// the limbo, and goes first. Where the evictor has no thread nothing is done: there no caller makes room itself.
     pub(crate) fn before_change<R: Wait>(&self, rt: &R, seated: &mut Seated<J, B>)
-        ensures { Goes seated.old.caller.pass seated.new.caller.pass }
+        ensures pass { Goes seated.old.caller.pass seated.new.caller.pass }
+        ensures spares { MayMakeReady seated.old seated.new }
     {
         seated.room.make_ready(rt, &self.table, &mut seated.caller);
     }
@@ -90,7 +93,8 @@ impl<J: Naming, B: QueueNaming, D: Device> Shared<J, B, D> {
         rt: &R,
         seated: &mut Seated<J, B>,
     ) -> Result<bool, Refusal>
-        ensures { Goes seated.old.caller.pass seated.new.caller.pass }
+        ensures pass { Goes seated.old.caller.pass seated.new.caller.pass }
+        ensures spares { EmptiesFrames self.now.queue seated.old seated.new }
     {
         if !self.started.load(Ordering::SeqCst) {
             return self.turn(rt);
@@ -109,7 +113,8 @@ impl<J: Naming, B: QueueNaming, D: Device> Shared<J, B, D> {
 
     /// Hands over the spares that the caller's calls have left, as far as the queue has room.
     pub(crate) fn settle<R: Wait>(&self, rt: &R, seated: &mut Seated<J, B>)
-        ensures { seated.new.caller.pass ≡ seated.old.caller.pass }
+        ensures pass { seated.new.caller.pass ≡ seated.old.caller.pass }
+        ensures spares { IsSettled self.now.queue seated.old seated.new }
     {
         self.queue.settle(rt, &mut seated.seat, &mut seated.caller);
     }
@@ -117,7 +122,8 @@ impl<J: Naming, B: QueueNaming, D: Device> Shared<J, B, D> {
     /// What follows each command. Where the evictor has a thread the caller reclaims its oldest spare itself, and hands over what
     /// still waits; else it hands all over, and has them reclaimed.
     pub(crate) fn after_command<R: Wait>(&self, rt: &R, seated: &mut Seated<J, B>)
-        ensures { Goes seated.old.caller.pass seated.new.caller.pass }
+        ensures pass { Goes seated.old.caller.pass seated.new.caller.pass }
+        ensures spares { SeesToSpares self.now.queue seated.old seated.new }
     {
         if self.started.load(Ordering::SeqCst) {
             recycle(rt, &self.table, &mut seated.caller);

@@ -1,7 +1,8 @@
 //! One worker per file, side by side as far as threads can be started, and beside the evictor's.
-ghost use Rattle.std.specs.Prelude.{◌≡◌, ◌++◌, ◌∷◌, [], map, IfOk};
+ghost use Rattle.std.specs.Prelude.{◌≡◌, ◌++◌, ◌∷◌, [], map, IfOk, IfErr};
 ghost use Rattle.std.specs.Thread.{IsSync, IsSend};
-ghost use Rattle.threaded_run.specs.Runs.{EndedIs, WorkedAll};
+ghost use Rattle.threaded_run.specs.declared.fault.WorkFault.TheVariants as fault;
+ghost use Rattle.threaded_run.specs.Runs.{EndedIs, WorkedAll, BothSo, IsFirstFault};
 
 use crate::evicting::evict;
 use crate::fault::WorkFault;
@@ -25,6 +26,7 @@ pub(crate) type Worked<J> = (Vec<Caller<Text, Text, J>>, Vec<Vec<u8>>);
 fn with_last<J: Naming>(others: Worked<J>, last: Ended<J>) -> Result<Worked<J>, WorkFault>
     ensures callers { IfOk result (λ r. map (λ c. c.pass) r.0.items ≡ map (λ c. c.pass) others.0.items ++ last.pass ∷ []) }
     ensures texts { IfOk result (λ r. map (λ t. t.items) r.1.items ≡ map (λ t. t.items) others.1.items ++ last.text ∷ []) }
+    ensures fault { IfErr result (λ e. e ≡ fault.Memory) }
 {
     let (mut callers, mut texts) = others;
     let Ended { caller, lines } = last;
@@ -32,6 +34,21 @@ fn with_last<J: Naming>(others: Worked<J>, last: Ended<J>) -> Result<Worked<J>, 
         return Err(WorkFault::Memory);
     };
     Ok((callers, texts))
+}
+
+/// What the last worker and those before it answered. Of their faults the others' goes first, and where there is none
+/// `Memory` is a growth that was refused.
+fn together<J: Naming>(
+    others: Result<Worked<J>, WorkFault>,
+    last: Result<Ended<J>, WorkFault>,
+) -> Result<Worked<J>, WorkFault>
+    ensures callers { IfOk result (λ r. BothSo others last (λ o e. map (λ c. c.pass) r.0.items ≡ map (λ c. c.pass) o.0.items ++ e.pass ∷ [])) }
+    ensures texts { IfOk result (λ r. BothSo others last (λ o e. map (λ t. t.items) r.1.items ≡ map (λ t. t.items) o.1.items ++ e.text ∷ [])) }
+    ensures fault { IfErr result (IsFirstFault others last) }
+{
+    let others = others?;
+    let last = last?;
+    with_last(others, last)
 }
 
 /// Runs each job by a worker: the first on this thread, and each other on one of its own. Of several workers' faults that of
@@ -69,9 +86,7 @@ where
             ensures { IfOk result (λ r. WorkedAll J.limits shared.entry.now.table.limit jobs.items (map (λ c. c.pass) r.0.items) (map (λ t. t.items) r.1.items)) }
         { workers(rt, alloc, shared, gate, jobs) },
     );
-    let others = others?;
-    let last = last?;
-    with_last(others, last)
+    together(others, last)
 }
 
 /// Runs the jobs. Where they are several the evictor has a thread beside them. Where that can't be started its loop begins

@@ -3,8 +3,9 @@ ghost use Rattle.std.specs.Prelude.{◌≡◌, ◌<◌, ◌≤◌, IsTrue, None,
 ghost use Rattle.std.specs.Io.KnownBytes.{Appends};
 ghost use Rattle.version_words.specs.Rows.{limits_of};
 ghost use Rattle.hash_table.specs.Configs.{first_bad_with, sizes_of};
+ghost use Rattle.hash_table.specs.Openings.{WasOpened};
 ghost use Rattle.run_lines.specs.Runs.{Ran};
-ghost use Rattle.threaded_run.specs.Replies.{MayRefuse};
+ghost use Rattle.threaded_run.specs.Replies.{MayReply};
 ghost use Rattle.threaded_run.specs.Runs.{WritesBefore};
 
 use crate::fault::ThreadedFault;
@@ -43,7 +44,7 @@ where
     requires queue { queue.table ≡ B.table }
     requires frames { 0 < config.frames }
     requires few { vec_len files ≤ 64 }
-    ensures ran { OnOk result (IsTrue J.limits.honest → (text : List ℕ) × Ran (MayRefuse J.limits.buckets table.limit) files.items text × Appends (W.contents out.old) (W.contents out.new) text) }
+    ensures ran { OnOk result (IsTrue J.limits.honest → (text : List ℕ) × Ran (MayReply J.limits.buckets table.limit) files.items text × Appends (W.contents out.old) (W.contents out.new) text) }
     ensures before { IfErr result (WritesBefore files.items (W.contents out.old) (W.contents out.new)) }
 {
     let (queue, taker, seats) = match queue.named::<B>(alloc, files.len() as u32) {
@@ -78,7 +79,8 @@ where
     requires frames { 0 < config.frames }
     requires spares { 0 < config.spares }
     requires few { vec_len files ≤ 64 }
-    ensures ran { OnOk result (IsTrue D.HONEST → (text : List ℕ) × Ran (MayRefuse config.buckets config.limit) files.items text × Appends (W.contents out.old) (W.contents out.new) text) }
+    ensures ran { OnOk result (IsTrue D.HONEST → (text : List ℕ) × Ran (MayReply config.buckets config.limit) files.items text × Appends (W.contents out.old) (W.contents out.new) text) }
+    ensures opened { OnOk result (WasOpened config) }
     ensures before { IfErr result (WritesBefore files.items (W.contents out.old) (W.contents out.new)) }
 {
     let table = match opening.named::<J>(alloc) {
@@ -122,7 +124,8 @@ where
     requires within { first_bad_with (vec_len devices) config ≡ None }
     requires some { 0 < vec_len files }
     requires few { vec_len files ≤ 64 }
-    ensures ran { OnOk result (IsTrue D.HONEST → (text : List ℕ) × Ran (MayRefuse config.buckets config.limit) files.items text × Appends (W.contents out.old) (W.contents out.new) text) }
+    ensures ran { OnOk result (IsTrue D.HONEST → (text : List ℕ) × Ran (MayReply config.buckets config.limit) files.items text × Appends (W.contents out.old) (W.contents out.new) text) }
+    ensures opened { OnOk result (WasOpened config) }
     ensures before { IfErr result (WritesBefore files.items (W.contents out.old) (W.contents out.new)) }
 {
     let opening = match Opening::open(alloc, config, devices) {

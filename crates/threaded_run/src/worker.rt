@@ -1,6 +1,7 @@
 //! One worker: the commands of a file, one after another.
-ghost use Rattle.std.specs.Prelude.{◌≡◌, [], IfOk};
+ghost use Rattle.std.specs.Prelude.{◌≡◌, [], None, IfOk};
 ghost use Rattle.version_words.specs.Views.{calls};
+ghost use Rattle.hash_table.specs.Scopes.{shown};
 ghost use Rattle.threaded_run.specs.Runs.{EndedIs};
 
 use crate::fault::WorkFault;
@@ -116,7 +117,8 @@ fn work<'a, J: Naming, B: QueueNaming, D: Device, G: Gate, R: Wait>(
     held: &mut Held<'a, J>,
     script: &Script,
 ) -> Result<Vec<u8>, WorkFault>
-    requires { calls seated.old.caller.pass ≡ [] }
+    requires new { calls seated.old.caller.pass ≡ [] }
+    requires unheld { shown held.old ≡ None }
     ensures { IfOk result (λ lines. EndedIs J.limits shared.now.table.limit seated.old.caller.pass script.now (record { pass = seated.new.caller.pass; text = lines.items })) }
 {
     let mut lines = Vec::new(alloc);

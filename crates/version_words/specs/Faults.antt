@@ -22,8 +22,17 @@ module _ {K V J : Type 0} (ek : K → List ℕ) (ev : V → List ℕ) (l : Limit
   IsGatherFault count (gather.Missing mark) = IsLawful ek ev l mark × (count < passes_of mark)
   IsGatherFault count gather.Memory = ⊤
 
+-- another name was drawn at the moment of a drawing, which then saw this front, and drew none. It is opaque: who promises it had `Words::name` say `Moved`, or cites the lemma below
+pub WasOvertaken : {K V : Type 0} → List (Event K V) → Type 0
+WasOvertaken log = Unit {0}
+
+-- for the proof of `Words::name` alone
+pub was_overtaken : {K V : Type 0} (log : List (Event K V)) → WasOvertaken log
+unfolding WasOvertaken
+was_overtaken log = tt
+
 module _ {K V : Type 0} (l : Limits) where
-  -- the last name was drawn, or the front has more names than what had been seen before the call
+  -- the last name was drawn; or another was, so that the front has more names than what had been seen before the call
   abbrev pub IsNameFault : List (Event K V) → List (Event K V) → NameFault → Type 0
   IsNameFault seen log name.NamesSpent = names_of log ≡ l.names
-  IsNameFault seen log name.Moved = names_of seen < names_of log
+  IsNameFault seen log name.Moved = (names_of seen < names_of log) × WasOvertaken log

@@ -13,9 +13,8 @@ use far_object::FarObject;
 use std::marker::Model;
 use table_core::word::pack;
 
-/// A name that was drawn for a bucket and its new contents, with the right to install it once. It can't be copied.
-/// Contracts see its number, its bucket and the log in which it was drawn.
-#[derive(Drop)]
+/// A name that was drawn for a bucket and its new contents, with the right to install it once. It can be neither copied nor
+/// dropped: it has to be installed or given up. Contracts see its number, its bucket and the log in which it was drawn.
 pub struct Name<K: FarObject, V: FarObject, J: Naming> {
     pub(crate) number: u64,
     pub(crate) bucket: u32,

@@ -64,13 +64,23 @@ impl<J: Naming> Row<J> {
     }
 }
 
-/// A name with the object that it was drawn for, and the format that this is written in.
-#[derive(Drop)]
+/// A name with the object that it was drawn for, and the format that this is written in. Where it is dropped it is given up.
 pub struct Drawn<J: Naming> {
     pub name: Name<u64, u64, J>,
     pub object: Object<u64, u64>,
     pub format: Format,
     ghost own: { contents name.front name.number ≡ object },
+}
+
+impl<J: Naming> Drop for Drawn<J> {
+    fn drop(self) {
+        let Drawn {
+            name,
+            object: _,
+            format: _,
+        } = self;
+        drop(name.give_up(FAR_PLACE));
+    }
 }
 
 impl<J: Naming> Drawn<J> {
@@ -115,6 +125,11 @@ impl<J: Naming> Drawn<J> {
     pub fn give_up(self) -> Spare<u64, u64, J>
         ensures far { place_of result.word ≡ far_place }
     {
-        self.name.give_up(FAR_PLACE)
+        let Drawn {
+            name,
+            object: _,
+            format: _,
+        } = self;
+        name.give_up(FAR_PLACE)
     }
 }

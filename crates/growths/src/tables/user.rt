@@ -41,6 +41,7 @@ pub enum Deed {
     Remove,
     TryPutIf,
     PutIf,
+    RemoveIf,
 }
 
 impl Deed {
@@ -48,7 +49,7 @@ impl Deed {
     fn leaves(self) -> Option<&'static [u8]> {
         match self {
             Deed::TryGet | Deed::ReadThrough | Deed::Get => Some(OLD),
-            Deed::TryRemove | Deed::Remove => None,
+            Deed::TryRemove | Deed::Remove | Deed::RemoveIf => None,
             _ => Some(NEW),
         }
     }
@@ -183,6 +184,10 @@ impl<'t, J: Naming> User<'t, J> {
             Deed::Remove => table.remove(rt, alloc, caller, &KEY),
             Deed::TryPutIf => table.try_put_if(alloc, caller, &KEY, Some(old), new),
             Deed::PutIf => table.put_if(rt, alloc, caller, &KEY, Some(old), new),
+            Deed::RemoveIf => match table.remove_if(rt, alloc, caller, &KEY, old) {
+                Ok(removal) => Ok(removal.found),
+                Err(refusal) => Err(refusal),
+            },
         }
     }
 

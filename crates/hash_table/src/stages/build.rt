@@ -1,11 +1,12 @@
 //! What an operation makes of an object, and whether that is within the limit.
-ghost use Rattle.std.specs.Prelude.{◌≡◌, ◌≤◌, [], ◌∷◌, IfOk, IfErr};
+ghost use Rattle.std.specs.Prelude.{◌≡◌, ◌<◌, ◌≤◌, [], ◌∷◌, length, IfOk, IfErr};
 ghost use Rattle.std.specs.BTreeMap.{insert_entry};
 ghost use Rattle.far_object.specs.Buckets.{key_cmp};
+ghost use Rattle.far_object.specs.Objects.{object_of};
 ghost use Rattle.table_core.specs.declared.operation.Operation.TheVariants as op;
 ghost use Rattle.table_core.specs.Maps.{reply, is_met};
 ghost use Rattle.table_core.specs.Lent.{lent, lent_value};
-ghost use Rattle.hash_table.specs.Changes.{MayMake, Leaves};
+ghost use Rattle.hash_table.specs.Changes.{MayMake, Leaves, Fits};
 ghost use Rattle.hash_table.specs.Stages.{IsUnmade};
 
 use crate::refusal::Refusal;
@@ -20,8 +21,8 @@ pub struct Built<K: FarObject, V: FarObject> {
     pub(crate) object: Option<Object<K, V>>,
 }
 
-// Whether the value is the expected one.
-fn is_met<V: FarObject>(expected: Option<&V>, found: &Option<V>) -> bool
+/// Whether the value is the expected one.
+pub(crate) fn is_met<V: FarObject>(expected: Option<&V>, found: &Option<V>) -> bool
     ensures { result ≡ is_met V.enc (lent_value expected.entry) found.now }
 {
     match (expected, found) {
@@ -42,6 +43,8 @@ fn with<K: FarObject, V: FarObject>(
     requires own { entry.now.pairs ≡ object.now }
     requires limited { limit ≤ 1048576 }
     ensures with { IfOk result (λ o. o ≡ insert_entry (key_cmp K.enc) object.now entry.now.key value.now) }
+    ensures some { IfOk result (λ o. 0 < length o) }
+    ensures fits { IfOk result (λ o. length (object_of K.enc V.enc o) ≤ limit) }
     ensures why { IfErr result (λ e. IsUnmade K.enc V.enc limit object.now (op.Put entry.now.key value.now) e) }
 {
     full_objects_grow_too_long::<K, V>();
@@ -67,6 +70,8 @@ fn only<K: FarObject, V: FarObject>(
     limit: u32,
 ) -> Result<Object<K, V>, Refusal>
     ensures only { IfOk result (λ o. o ≡ (key.now, value.now) ∷ []) }
+    ensures some { IfOk result (λ o. 0 < length o) }
+    ensures fits { IfOk result (λ o. length (object_of K.enc V.enc o) ≤ limit) }
     ensures why { IfErr result (λ e. IsUnmade K.enc V.enc limit [] (op.Put key.now value.now) e) }
 {
     let object = match Object::of_pair(alloc, key, value) {
@@ -88,6 +93,7 @@ pub(crate) fn build_first<'a, K: FarObject, V: FarObject>(
 ) -> Result<Built<K, V>, Refusal>
     ensures answer { IfOk result (λ t. t.answer ≡ reply K.enc [] (lent operation.now)) }
     ensures object { IfOk result (λ t. Leaves K.enc V.enc [] (lent operation.now) t.object) }
+    ensures fits { IfOk result (λ t. Fits K.enc V.enc limit (lent operation.now) t.object) }
     ensures may { IfOk result (λ t. MayMake (lent operation.now) t.object) }
     ensures why { IfErr result (λ e. IsUnmade K.enc V.enc limit [] (lent operation.now) e) }
 {
@@ -131,6 +137,7 @@ pub(crate) fn build<'a, K: FarObject, V: FarObject>(
     requires limited { limit ≤ 1048576 }
     ensures answer { IfOk result (λ t. t.answer ≡ reply K.enc object.now (lent operation.now)) }
     ensures object { IfOk result (λ t. Leaves K.enc V.enc object.now (lent operation.now) t.object) }
+    ensures fits { IfOk result (λ t. Fits K.enc V.enc limit (lent operation.now) t.object) }
     ensures may { IfOk result (λ t. MayMake (lent operation.now) t.object) }
     ensures why { IfErr result (λ e. IsUnmade K.enc V.enc limit object.now (lent operation.now) e) }
 {

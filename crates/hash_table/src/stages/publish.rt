@@ -1,12 +1,13 @@
 //! A new object gets a name and a place, and is installed over the word that was seen.
-ghost use Rattle.std.specs.Prelude.{◌≡◌, ◌<◌, ℕ, [], IsTrue, IfOk, IfErr, length};
-ghost use Rattle.table_core.specs.BucketWords.{name_of, place_of, empty_place, far_place};
+ghost use Rattle.std.specs.Prelude.{◌≡◌, ◌<◌, ℕ, [], ◌++◌, IsTrue, IfOk, IfErr, length, option_to_list};
+ghost use Rattle.table_core.specs.BucketWords.{name_of, place_of, empty_place};
 ghost use Rattle.table_core.specs.Logs.{contents, word};
 ghost use Rattle.table_core.specs.Lawful.{IsLawful};
-ghost use Rattle.version_words.specs.Views.{Goes, MakesCall, WasSeen, Follows, IsOfBucket, operation_of, installing, changed, MovesObject};
-ghost use Rattle.hash_table.specs.Calls.{AtMostOneMore, IsMoved, IsRefused, IsFull, most_spares};
+ghost use Rattle.version_words.specs.Views.{Goes, MakesCall, WasSeen, Follows, IsOfBucket, operation_of, installing, changed, spare_of, MovesObject};
+ghost use Rattle.hash_table.specs.Calls.{AtMostOneMore, IsRefused, IsFull, most_spares};
 ghost use Rattle.hash_table.specs.Refusals.{OfSwapOut};
-ghost use Rattle.hash_table.specs.Stages.{IsLocal, IsUndrawn, IsUnpublished};
+ghost use Rattle.hash_table.specs.Stages.{IsLocal, IsUndrawn, IsUnpublished, IsUntouched};
+ghost use Rattle.hash_table.specs.Steps.{IsInFrame, IsOnDevice, IsOfFrame, IsOfDevice, FetchLeavesSpares, SwapLeavesSpares, IsUnswapped, IsMovedOver};
 
 use crate::caller::Caller;
 use crate::limbo::Limbo;
@@ -70,9 +71,12 @@ impl<K: FarObject, V: FarObject, J: Naming, D: Device> FarTable<K, V, J, D> {
         requires room { length limbo.old < most_spares }
         ensures lawful { IsLawful K.enc V.enc J.limits pass.new.front }
         ensures limbo { AtMostOneMore limbo.old limbo.new }
+        ensures left { IfOk result (λ _. limbo.new ≡ limbo.old ++ option_to_list (spare_of b old pass.new.front)) }
+        ensures given_up { IfErr result (λ e. FetchLeavesSpares (IsOfFrame self.now.frames b) pass.new.front limbo.old limbo.new e) }
         ensures made { IfOk result (λ _. MakesCall (operation_of change.now) pass.old pass.new) }
-        ensures follows { IfOk result (λ _. (w : ℕ) × (place_of w < self.now.frames) × Follows K.enc J.limits.buckets pass.old.front b old (installing pass.old.number b w (operation_of change.now)) pass.new.front) }
+        ensures follows { IfOk result (λ _. (w : ℕ) × IsInFrame self.now.frames b w × Follows K.enc J.limits.buckets pass.old.front b old (installing pass.old.number b w (operation_of change.now)) pass.new.front) }
         ensures goes { IfErr result (λ _. Goes pass.old pass.new) }
+        ensures untouched { IfErr result (λ e. IsUntouched pass.old pass.new e) }
         ensures why { IfErr result (λ e. IsUnpublished K.enc J.limits b old pass.old pass.new e) }
     {
         let Ok(reserved) = self.reserve(limbo) else {
@@ -119,8 +123,10 @@ impl<K: FarObject, V: FarObject, J: Naming, D: Device> FarTable<K, V, J, D> {
         requires room { length limbo.old < most_spares }
         ensures lawful { IsLawful K.enc V.enc J.limits pass.new.front }
         ensures limbo { AtMostOneMore limbo.old limbo.new }
+        ensures left { IfOk result (λ _. limbo.new ≡ limbo.old ++ option_to_list (spare_of b old pass.new.front)) }
+        ensures given_up { IfErr result (λ _. limbo.new ≡ limbo.old) }
         ensures made { IfOk result (λ _. MakesCall (operation_of change.now) pass.old pass.new) }
-        ensures follows { IfOk result (λ _. (w : ℕ) × Follows K.enc J.limits.buckets pass.old.front b old (installing pass.old.number b w (operation_of change.now)) pass.new.front) }
+        ensures follows { IfOk result (λ _. (w : ℕ) × (place_of w ≡ empty_place) × Follows K.enc J.limits.buckets pass.old.front b old (installing pass.old.number b w (operation_of change.now)) pass.new.front) }
         ensures goes { IfErr result (λ _. Goes pass.old pass.new) }
         ensures why { IfErr result (λ e. IsUnpublished K.enc J.limits b old pass.old pass.new e) }
     {
@@ -133,7 +139,11 @@ impl<K: FarObject, V: FarObject, J: Naming, D: Device> FarTable<K, V, J, D> {
                 limbo.keep(installed.spare);
                 Ok(())
             }
-            Err((Moved, _)) => Err(Refusal::Moved),
+            Err((Moved, name)) => {
+                // What lies nowhere leaves nothing to reclaim.
+                drop(name.give_up(EMPTY_PLACE));
+                Err(Refusal::Moved)
+            }
         }
     }
 
@@ -150,15 +160,17 @@ impl<K: FarObject, V: FarObject, J: Naming, D: Device> FarTable<K, V, J, D> {
         requires lawful { IsLawful K.enc V.enc J.limits caller.old.pass.front }
         requires seen { WasSeen K.enc J.limits.buckets caller.old.pass.front b old }
         requires stands { old ≡ word K.enc J.limits.buckets caller.old.pass.front b }
-        requires local { IsLocal old }
+        requires local { IsLocal old × (place_of old ≡ frame) }
         requires room { length caller.old.limbo < most_spares }
         ensures lawful { IsLawful K.enc V.enc J.limits caller.new.pass.front }
         ensures goes { Goes caller.old.pass caller.new.pass }
         ensures limbo { AtMostOneMore caller.old.limbo caller.new.limbo }
-        ensures moved { IfOk result (λ _. IsMoved b (λ p. p ≡ far_place) caller.old.pass caller.new.pass) }
+        ensures moved { IfOk result (λ _. IsMovedOver K.enc J.limits b (λ p. p ≡ frame) (IsOnDevice self.now.format b) caller.old.pass caller.old.limbo caller.new.pass caller.new.limbo) }
+        ensures given_up { IfErr result (λ e. SwapLeavesSpares (IsOfDevice b) caller.new.pass.front caller.old.limbo caller.new.limbo e) }
         ensures refused { IfErr result (λ e. IsRefused K.enc V.enc J.limits b caller.old.pass caller.new.pass e) }
         ensures full { IfErr result (λ e. IsFull e (length caller.old.limbo)) }
         ensures only { IfErr result (λ e. OfSwapOut e) }
+        ensures unmoved { IfErr result (λ e. IsUnswapped K.enc J.limits b frame caller.new.pass.front e) }
     {
         let Ok(scope) = self.enter_frame(&caller.pass, b, old, frame) else {
             let _front = caller.pass.mark();

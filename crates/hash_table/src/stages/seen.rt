@@ -1,5 +1,6 @@
 //! Where the contents of a word lie.
-ghost use Rattle.std.specs.Prelude.{IsTrue};
+ghost use Rattle.std.specs.Prelude.{◌≡◌, IsTrue};
+ghost use Rattle.table_core.specs.BucketWords.{name_of, place_of};
 ghost use Rattle.hash_table.specs.Stages.{IsPlace, IsLocal};
 
 use table_core::word::{EMPTY_PLACE, FAR_PLACE, name_of, place_of};
@@ -31,7 +32,7 @@ pub(crate) fn split(word: u64) -> Place
 
 /// Whether the word says that its contents lie in this frame, under this name.
 pub(crate) fn lies_in(word: u64, name: u64, frame: u32) -> bool
-    ensures { IsTrue result → IsLocal word }
+    ensures { IsTrue result → IsLocal word × (place_of word ≡ frame) × (name_of word ≡ name) }
 {
     match split(word) {
         // An object of no pairs lies nowhere.

@@ -35,12 +35,18 @@ fn version<J: Naming>(
     None
 }
 
-/// A name whose version was put into a frame.
-#[derive(Drop)]
+/// A name whose version was put into a frame. Where it is dropped it is given up.
 struct Filled<J: Naming> {
     frame: u32,
     name: Name<Text, Text, J>,
     ghost below: { frame < 65536 },
+}
+
+impl<J: Naming> Drop for Filled<J> {
+    fn drop(self) {
+        let Filled { frame, name } = self;
+        drop(name.give_up(frame));
+    }
 }
 
 impl<J: Naming> Filled<J> {
@@ -68,10 +74,11 @@ fn fill<J: Naming>(
         return None;
     };
     let answered = reserved.fill(version);
+    let filled = Filled { frame, name };
     if answered != frame {
         return None;
     }
-    Some(Filled { frame, name })
+    Some(filled)
 }
 
 /// Reclaims the spare's version, and keeps the frame or names it as free. The place of each spare of these tests is a frame's.

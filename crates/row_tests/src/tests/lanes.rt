@@ -22,12 +22,18 @@ use std::sync::Wait;
 use table_core::word::{FAR_PLACE, place_of};
 use version_words::{Name, Naming, Pass, Spare, Words};
 
-/// A name with the object that it was drawn for.
-#[derive(Drop)]
+/// A name with the object that it was drawn for. Where it is dropped it is given up.
 struct Drawn<J: Naming> {
     name: Name<Text, Text, J>,
     object: Object<Text, Text>,
     ghost same: { contents name.front name.number ≡ object },
+}
+
+impl<J: Naming> Drop for Drawn<J> {
+    fn drop(self) {
+        let Drawn { name, object: _ } = self;
+        drop(name.give_up(FAR_PLACE));
+    }
 }
 
 impl<J: Naming> Drawn<J> {

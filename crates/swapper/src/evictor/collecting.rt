@@ -2,7 +2,7 @@
 ghost use Rattle.std.specs.Prelude.{◌≡◌, ◌<◌, ◌≤◌, ◌⊎◌, [], List, length, MatchBool, MatchOption, IfErr, OnOk};
 ghost use mathlib.Core.List.{IsPrefix};
 ghost use Rattle.version_words.specs.Views.{Goes, SpareView};
-ghost use Rattle.hash_table.specs.Reclaims.{IsReclaimed};
+ghost use Rattle.hash_table.specs.Reclaims.{WasTried, IsReclaimed};
 ghost use Rattle.swapper.specs.Evictors.{Tries, Stays, DrawsKept, DrawsOwn, DrawsNext, IsFull, IsDrained, Retries, Tried};
 
 use super::Evictor;
@@ -25,6 +25,7 @@ fn reclaim<K: FarObject, V: FarObject, J: Naming, D: Device, R: Wait>(
     ensures goes { Goes caller.old.pass caller.new.pass }
     ensures limbo { caller.new.limbo ≡ caller.old.limbo }
     ensures told { IsPrefix spare.front caller.new.pass.front }
+    ensures tried { WasTried spare }
     ensures reclaimed { OnOk result (IsReclaimed spare) }
     ensures back { IfErr result (λ s. s ≡ spare) }
 {

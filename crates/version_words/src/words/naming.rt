@@ -21,8 +21,8 @@ impl<K: FarObject, V: FarObject, J: Naming> Words<K, V, J> {
     /// every word that was seen in the bucket.
     ///
     /// `NamesSpent` comes where the last name was drawn, `Moved` where another one was drawn between the look and the
-    /// step; of the latter the clause says no more than that the pass had not seen some name of its new front. A name that
-    /// is drawn in vain stays drawn.
+    /// step; of the latter the clause says that the pass had not seen some name of its new front, and that this call
+    /// drew none. A name that is drawn in vain stays drawn.
     pub fn name(
         &self,
         pass: &mut Pass<K, V, J>,

@@ -270,10 +270,11 @@ impl<J: Naming> User<J> {
         let one = self.spares.take()?;
         let object = object(self.alloc, b'1')?;
         let reserved = self.frames.reserve().ok()?;
-        let Some((_, version)) = version(&self.words, &mut self.pass, bucket, object) else {
+        let Some((name, version)) = version(&self.words, &mut self.pass, bucket, object) else {
             reserved.cancel();
             return None;
         };
+        drop(name.give_up(EMPTY_PLACE));
         Some(comes_back(reserved, version, &one, &two))
     }
 }

@@ -62,12 +62,18 @@ pub fn last_calls<J: Naming, R: Abort>(
     let (Moved, back) = refused.expect(rt, "a word that is gone was replaced");
     let handed_back = (back.number(), back.bucket());
     let spare = back.give_up(1);
-    let fault = words.name(pass, a.bucket, &a.object).err();
+    let spent = match words.name(pass, a.bucket, &a.object) {
+        Ok(name) => {
+            drop(name.give_up(1));
+            false
+        }
+        Err(fault) => fault == NameFault::NamesSpent,
+    };
     Said::Last {
         name,
         back: handed_back,
         given_up: (spare.word(), spare.bucket()),
-        spent: fault == Some(NameFault::NamesSpent),
+        spent,
         stands: words.look(pass, a.bucket) == installed.word,
     }
 }

@@ -227,7 +227,9 @@ fn drawn<J: Naming>(
     sample: &Sample<J>,
 ) -> Option<u64> {
     let name = words.name(pass, sample.bucket, &sample.object).ok()?;
-    Some(name.number().wrapping_sub(1))
+    let number = name.number();
+    drop(name.give_up(0));
+    Some(number.wrapping_sub(1))
 }
 
 fn samples<J: Naming, R: Abort>(

@@ -9,7 +9,7 @@ use super::Sample;
 use super::case::Left;
 use far_object::{Object, Text};
 use std::process::Abort;
-use version_words::{Change, Installed, Naming, Pass, Words};
+use version_words::{Change, Installed, Moved, Naming, Pass, Words};
 
 /// A name that was installed.
 #[derive(Clone, Copy)]
@@ -59,8 +59,12 @@ pub fn put<J: Naming, R: Abort>(
         panic!(rt; "no name");
     };
     let (number, bucket) = (name.number(), name.bucket());
-    let Ok(installed) = words.install(pass, b.bucket, old, name, place, change) else {
-        panic!(rt; "no word");
+    let installed = match words.install(pass, b.bucket, old, name, place, change) {
+        Ok(installed) => installed,
+        Err((Moved, name)) => {
+            drop(name.give_up(place));
+            panic!(rt; "no word")
+        }
     };
     Step {
         number,

@@ -59,8 +59,12 @@ fn set_twice<J: Naming, R: Abort>(
     };
     empty_holds::<Text, Text>();
     let set = Change::PutIf(&pair.0, None, &pair.1);
-    let Ok(installed) = words.install(pass, bucket, old, name, 0, &set) else {
-        panic!(rt; "no word");
+    let installed = match words.install(pass, bucket, old, name, 0, &set) {
+        Ok(installed) => installed,
+        Err((Moved, name)) => {
+            drop(name.give_up(0));
+            panic!(rt; "no word")
+        }
     };
     contents_stay::<Text, Text>();
     let unmet = Probe::PutIf(&pair.0, None, &pair.1);

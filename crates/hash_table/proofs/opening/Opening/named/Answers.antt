@@ -1,5 +1,6 @@
 use Rattle.std.proofs.Common.{ap, sym, ◌∙◌}
 use Rattle.std.specs.Prelude.{vec_len}
+use Rattle.hash_table.specs.Openings.{was_opened}
 use Rattle.hash_table.proofs.Settings.{settled}
 use Rattle.hash_table.proofs.opening.Opening.named.Goals as goal
 
@@ -21,3 +22,6 @@ pub returns-clause-lanes : goal.returns-clause-lanes
 returns-clause-lanes g c =
     let s = settled (vec_len c.self.inside.devices) c.self.inside.config c.self.inside.within in
     rw (← c.self.view_is) (c.in-Ok-open.ensures.count ∙ sym s.lanes)
+
+pub returns-clause-opened : goal.returns-clause-opened
+returns-clause-opened g c = was_opened c.args.self.config

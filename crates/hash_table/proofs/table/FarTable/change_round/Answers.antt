@@ -5,6 +5,7 @@ use Rattle.hash_table.specs.Calls.{IsUnchanged}
 use Rattle.table_core.specs.Lent.{lent}
 use Rattle.hash_table.proofs.Fronts.{goes_self, goes_trans, finished_from}
 use Rattle.hash_table.proofs.Refused.{unbuilt_far_refused}
+use Rattle.hash_table.proofs.Steps.{installed_from}
 use Rattle.hash_table.proofs.table.FarTable.change_round.Goals.{in-Ok-after, in-Err-after}
 use Rattle.hash_table.proofs.table.FarTable.change_round.Goals as goal
 
@@ -27,3 +28,8 @@ returns-then-is_full-clause-goes g c = goes_self c.args.caller.now.pass
 
 pub returns-clause-goes : goal.returns-clause-goes
 returns-clause-goes g c = goes_trans c.look-word.ensures.pass c.in-Err-settle.ensures.goes
+
+pub returns-in-Ok-settle-clause-left : goal.returns-in-Ok-settle-clause-left
+returns-in-Ok-settle-clause-left g c =
+    let is = c.bucket-b.ensures.is ∙ ap (λ k. bucket g.K.FarObject.enc g.J.Naming.limits.buckets k) c.key.ensures in
+    installed_from g.K.FarObject.enc g.V.FarObject.enc g.J.Naming.limits c.args.self.now.limit c.args.self.now.frames c.bucket-b.result _ (lent c.args.operation.now) _ _ c.look-word.ensures.pass is c.in-Ok-settle.ensures.installed

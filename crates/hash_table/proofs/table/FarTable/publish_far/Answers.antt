@@ -1,8 +1,8 @@
-use Rattle.std.proofs.Common.{◌≡◌, ℕ, refl, arith}
-use Rattle.table_core.specs.BucketWords.{far_place}
-use Rattle.hash_table.proofs.Fronts.{goes_self, goes_trans, place_packed}
+use Rattle.std.proofs.Common.{◌≡◌, ℕ, refl}
+use Rattle.hash_table.proofs.Fronts.{goes_self, goes_trans}
 use Rattle.hash_table.proofs.Refused.{undrawn_refused, undrawn_full, undrawn_of_swap_out, moved_seen}
-use Rattle.hash_table.proofs.Moves.{moved_to}
+use Rattle.hash_table.specs.Steps.{IsOnDevice}
+use Rattle.hash_table.proofs.Steps.{moved_over, on_device, undrawn_swap_left}
 use Rattle.hash_table.proofs.table.FarTable.publish_far.Goals as goal
 
 pub returns-in_default-clause-goes : goal.returns-in_default-clause-goes
@@ -21,7 +21,8 @@ pub returns-in-Ok-install-clause-moved : goal.returns-in-Ok-install-clause-moved
 returns-in-Ok-install-clause-moved g c =
     let e = c.in-Ok-install.ensures in
     let w = c.in-Ok-install.installed.word in
-    moved_to g.K.FarObject.enc g.V.FarObject.enc g.J.Naming.limits c.args.b c.args.b w c.args.old (λ (p : ℕ). p ≡ far_place) c.args.caller.now.pass c.draw.new.pass c.install.new.pass c.draw.ensures.pass refl (place_packed w c.in-Ok-draw.name.number far_place e.word (omega arith)) e.follows
+    moved_over g.K.FarObject.enc g.J.Naming.limits c.args.b c.args.b c.args.old w (λ (p : ℕ). p ≡ c.args.frame) (IsOnDevice c.args.self.now.format c.args.b) c.args.caller.now.limbo c.keep-in-Ok-install.new.self c.draw.ensures.pass refl c.requires.local.1
+    (on_device c.args.self.now.format c.args.b c.in-Ok-draw.name.number w e.word (rw c.in-Ok-draw.ensures.name.0 at c.in-Ok-written.ensures.stored)) e.follows (rw e.spare at c.keep-in-Ok-install.ensures)
 
 pub returns-in-Err-install-clause-goes : goal.returns-in-Err-install-clause-goes
 returns-in-Err-install-clause-goes g c = goes_trans c.draw.ensures.pass c.in-Err-install.ensures.pass
@@ -33,3 +34,6 @@ returns-in-Err-install-clause-refused g c =
 
 pub returns-in-Err-clause-full : goal.returns-in-Err-clause-full
 returns-in-Err-clause-full g c = undrawn_full g.K.FarObject.enc g.V.FarObject.enc g.J.Naming.limits _ c.args.caller.now.pass c.draw.new.pass c.in-Err.refusal c.in-Err.ensures.why
+
+pub returns-in-Err-clause-given_up : goal.returns-in-Err-clause-given_up
+returns-in-Err-clause-given_up g c = undrawn_swap_left g.J.Naming.limits _ c.args.caller.now.pass c.draw.new.pass _ _ c.in-Err.refusal c.in-Err.ensures.why refl

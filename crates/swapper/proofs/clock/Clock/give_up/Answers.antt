@@ -1,4 +1,4 @@
-use Rattle.std.proofs.Common.{refl, sym, true≢false, inl, subst, length, Some, None, List}
+use Rattle.std.proofs.Common.{refl, inl, subst, length, Some, None, List}
 use Rattle.hash_table.specs.Calls.{AtMostOneMore}
 use Rattle.hash_table.proofs.Fronts.{goes_trans}
 use Rattle.swapper.proofs.Collecting.{asked_goes}
@@ -20,10 +20,12 @@ returns-in_default-clause-given g c =
       walked = w.1;
       none = (refl, refl, a.1);
       limbo = inl a.1;
-      swapped = λ t. absurd (true≢false (sym t));
+      swapped = tt;
+      given_up = tt;
       refused = tt;
       full = tt;
       only = tt;
+      answered = tt;
     }
 
 pub returns-clause-goes : goal.returns-clause-goes
@@ -44,8 +46,10 @@ returns-clause-given g c =
       walked = w.1;
       none = tt;
       limbo = subst (λ (l : List _). AtMostOneMore l c.swap_out.new.caller.limbo) a.1 s.limbo;
-      swapped = s.swapped;
+      swapped = rw (← a.1) s.swapped;
+      given_up = rw (← a.1) s.given_up;
       refused = s.refused;
       full = rw (← a.1) s.full;
       only = s.only;
+      answered = s.answered;
     }

@@ -10,7 +10,9 @@ returns g c =
       kept = refl;
       seat = refl;
       swapped = s.swapped;
+      given_up = s.given_up;
       refused = s.refused;
       full = s.full;
       only = s.only;
+      answered = s.answered;
     })

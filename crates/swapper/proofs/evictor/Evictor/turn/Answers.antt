@@ -40,7 +40,7 @@ returns-in-Err-clause-refused g c =
 pub returns-in-Err-clause-turns : goal.returns-in-Err-clause-turns
 returns-in-Err-clause-turns g c =
     turns_trans (turns_trans (turns_collect _ _ c.collect-first.ensures.gone c.collect-first.ensures.collects) (turns_pick _ _ (Some c.in-Some.frame) c.in-Some.ensures))
-    (turns_give_up _ _ _ _ _ c.give_up.result c.give_up.ensures)
+    (turns_give_up _ _ _ _ _ _ c.in-Some.frame c.give_up.result c.give_up.ensures)
 
 pub returns-clause-turn : goal.returns-clause-turn
 returns-clause-turn g c =
@@ -63,4 +63,4 @@ returns-clause-turn g c =
 pub returns-clause-turns : goal.returns-clause-turns
 returns-clause-turns g c =
     turns_trans (turns_trans (turns_trans (turns_collect _ _ c.collect-first.ensures.gone c.collect-first.ensures.collects) (turns_pick _ _ (Some c.in-Some.frame) c.in-Some.ensures))
-    (turns_give_up _ _ _ _ _ c.give_up.result c.give_up.ensures)) (turns_collect _ _ c.collect-last-2.ensures.gone c.collect-last-2.ensures.collects)
+    (turns_give_up _ _ _ _ _ _ c.in-Some.frame c.give_up.result c.give_up.ensures)) (turns_collect _ _ c.collect-last-2.ensures.gone c.collect-last-2.ensures.collects)

@@ -3,6 +3,7 @@ use Rattle.version_words.proofs.Calling.{still_pass, pass_goes}
 use Rattle.version_words.proofs.Drawing.{spent_names, more_names, new_name, new_right, newer_than}
 use Rattle.version_words.proofs.Fronts.{prefix_trans}
 use Rattle.version_words.proofs.Writing.{can_name}
+use Rattle.version_words.specs.Faults.{was_overtaken}
 use Rattle.version_words.proofs.words.Words.name.Goals as goal
 
 pub invariant_of-pass : goal.invariant_of-pass
@@ -45,7 +46,7 @@ returns-then-not-step-clause-pass g c =
 pub returns-then-not-step-clause-fault : goal.returns-then-not-step-clause-fault
 returns-then-not-step-clause-fault g c =
     let s = c.args.self.now.sizes_are in
-    rw (← c.pass.view_is) (more_names g.K.FarObject.enc g.V.FarObject.enc g.J.Naming.limits c.pass.inside.mark c.look_to_write-drawn.new.mark c.step.new.mark c.look_to_write-drawn.result c.look_to_write-drawn.ensures.grows (rw s.0 at c.look_to_write-drawn.ensures.value) c.step.ensures.grows (rw s.0 at c.if-not-step.ensures.done))
+    rw (← c.pass.view_is) (more_names g.K.FarObject.enc g.V.FarObject.enc g.J.Naming.limits c.pass.inside.mark c.look_to_write-drawn.new.mark c.step.new.mark c.look_to_write-drawn.result c.look_to_write-drawn.ensures.grows (rw s.0 at c.look_to_write-drawn.ensures.value) c.step.ensures.grows (rw s.0 at c.if-not-step.ensures.done), was_overtaken c.step.new.mark)
 
 pub invariant_of-result : goal.invariant_of-result
 invariant_of-result g c =
