@@ -1,4 +1,4 @@
-//! The tests of `hash_table` and `swapper`, apart from them: they call what everybody may call.
+//! The tests of `hash_table`, `swapper` and `far_map`, apart from them: they call what everybody may call.
 #![tactic(auto)]
 
 #[cfg(test)]

@@ -14,6 +14,7 @@ mod limits;
 mod marks;
 mod opening;
 mod places;
+mod programs;
 mod recycling;
 mod scene;
 mod script;

@@ -195,8 +195,49 @@ const FRAMES_TELL_OF_THEMSELVES: &[(Step, Said)] = &[
     (Step::Touched(2), Said::Is(false)),
 ];
 
+const A_REMOVE_IF_TAKES_OUT_WHAT_IS_EXPECTED: &[(Step, Said)] = &[
+    (Step::RemoveIf(b'a', 1), Said::Nothing),
+    (Step::State(b'a'), Said::In(BucketState::Empty(0))),
+    (Step::Put(b'a', 1), Said::Nothing),
+    (Step::Put(b'e', 2), Said::Nothing),
+    (Step::RemoveIf(b'a', 2), Said::Value(1)),
+    (Step::State(b'a'), Said::In(BucketState::Local(2))),
+    (Step::RemoveIf(b'a', 1), Said::TakenOut(1)),
+    (Step::State(b'a'), Said::In(BucketState::Local(3))),
+    (Step::Get(b'a'), Said::Nothing),
+    (Step::Get(b'e'), Said::Value(2)),
+    (Step::RemoveIf(b'a', 1), Said::Nothing),
+    (Step::RemoveIf(b'e', 2), Said::TakenOut(2)),
+    (Step::State(b'a'), Said::In(BucketState::Empty(4))),
+    (Step::Waiting, Said::Count(3)),
+];
+
+const A_REMOVE_IF_READS_A_FAR_BUCKET_THROUGH: &[(Step, Said)] = &[
+    (Step::Put(b'a', 1), Said::Nothing),
+    (Step::SwapOut(0), Said::Is(true)),
+    (Step::RemoveIf(b'a', 2), Said::Value(1)),
+    (Step::State(b'a'), Said::In(BucketState::Far(2))),
+    (Step::RemoveIf(b'a', 1), Said::TakenOut(1)),
+    (Step::State(b'a'), Said::In(BucketState::Empty(3))),
+];
+
+/// A round of a get that finds its bucket far brings it in, and the next one reads it.
+const ROUND_BY_ROUND: &[(Step, Said)] = &[
+    (Step::GetRound(b'a'), Said::Nothing),
+    (Step::PutRound(b'a', 1), Said::Nothing),
+    (Step::GetRound(b'a'), Said::Value(1)),
+    (Step::SwapOut(0), Said::Is(true)),
+    (Step::GetRound(b'a'), Said::Again),
+    (Step::State(b'a'), Said::In(BucketState::Local(3))),
+    (Step::GetRound(b'a'), Said::Value(1)),
+    (Step::PutRound(b'a', 2), Said::Refused(Refusal::NoFrame)),
+    (Step::Reclaim, Said::Is(true)),
+    (Step::PutRound(b'a', 2), Said::Value(1)),
+    (Step::GetRound(b'a'), Said::Value(2)),
+];
+
 /// How many frames there are, and the steps.
-const ROWS: [(u32, &[(Step, Said)]); 13] = [
+const ROWS: [(u32, &[(Step, Said)]); 16] = [
     (2, OUT_AND_IN_AGAIN),
     (2, REMOVED_AND_RECLAIMED),
     (1, ONE_FRAME_IS_ENOUGH_TO_REMOVE),
@@ -206,6 +247,9 @@ const ROWS: [(u32, &[(Step, Said)]); 13] = [
     (8, A_PUT_IF_WRITES_WHERE_IT_IS_MET),
     (8, A_TRY_OF_A_PUT_IF_WRITES_WHERE_IT_IS_MET),
     (2, A_PUT_IF_READS_A_FAR_BUCKET_THROUGH),
+    (8, A_REMOVE_IF_TAKES_OUT_WHAT_IS_EXPECTED),
+    (1, A_REMOVE_IF_READS_A_FAR_BUCKET_THROUGH),
+    (2, ROUND_BY_ROUND),
     (2, AN_ABSENT_KEY_IS_REMOVED_WITHOUT_A_VERSION),
     (8, THREE_KEYS_IN_ONE_BUCKET),
     (2, A_VERSION_STAYS_UNDER_ITS_READER),

@@ -28,6 +28,10 @@ pub enum Step {
     Remove(u8),
     TryPutIf(u8, Option<u32>, u32),
     PutIf(u8, Option<u32>, u32),
+    RemoveIf(u8, u32),
+    /// One round of a put, and of a get.
+    PutRound(u8, u32),
+    GetRound(u8),
     Fetch(u8),
     SwapOut(u32),
     /// Puts over a value that is read meanwhile.
@@ -66,6 +70,10 @@ pub enum Step {
 pub enum Said {
     Nothing,
     Value(u32),
+    /// The value was the expected one, and its key is out.
+    TakenOut(u32),
+    /// Another round may finish the call.
+    Again,
     /// A scope's value, which its bytes spell too, and its name.
     Shown(u32, u64),
     Refused(Refusal),
@@ -85,6 +93,23 @@ impl Said {
         match answer {
             Ok(Some(value)) => Said::Value(value),
             Ok(None) => Said::Nothing,
+            Err(refusal) => Said::Refused(refusal),
+        }
+    }
+
+    fn removal(answer: Result<(bool, Option<u32>), Refusal>) -> Said {
+        match answer {
+            Ok((true, Some(value))) => Said::TakenOut(value),
+            Ok((true, None)) => Said::Wrong,
+            Ok((false, found)) => Said::value(Ok(found)),
+            Err(refusal) => Said::Refused(refusal),
+        }
+    }
+
+    fn round(answer: Result<Option<Option<u32>>, Refusal>) -> Said {
+        match answer {
+            Ok(Some(found)) => Said::value(Ok(found)),
+            Ok(None) => Said::Again,
             Err(refusal) => Said::Refused(refusal),
         }
     }
@@ -174,6 +199,9 @@ impl Step {
             Step::PutIf(key, expected, value) => {
                 Said::value(user.put_if(rt, &[key], expected, value))
             }
+            Step::RemoveIf(key, expected) => Said::removal(user.remove_if(rt, &[key], expected)),
+            Step::PutRound(key, value) => Said::round(user.put_round(rt, &[key], value)),
+            Step::GetRound(key) => Said::round(user.get_round(rt, &[key])),
             Step::Fetch(key) => Said::done(user.fetch(rt, &[key])),
             Step::SwapOut(frame) => Said::done(user.swap_out(rt, frame)),
             Step::PutUnderReader => Said::done(put_under_reader(rt, user)),

@@ -4,11 +4,13 @@ use super::expect::made;
 use far_device::{Device, FakeDevice};
 use far_object::{FarObject, Text};
 use hash_table::{
-    BucketState, Caller, Config, FarTable, OpenFault, Opening, ReclaimFault, Refusal, TableScope,
+    BucketState, Caller, Config, FarTable, OpenFault, Opening, ReclaimFault, Refusal, Round,
+    TableScope,
 };
 use std::alloc::Global;
 use std::process::Abort;
 use std::sync::Wait;
+use table_core::Operation;
 use table_core::word::name_of;
 use version_words::{Naming, Spare};
 
@@ -101,13 +103,27 @@ pub fn number_of(text: &Text) -> u32 {
     number
 }
 
+fn number_in(found: &Option<Text>) -> Option<u32> {
+    match found {
+        Some(text) => Some(number_of(text)),
+        None => None,
+    }
+}
+
 /// What a call answered, as numbers.
 pub type Answer = Result<Option<u32>, Refusal>;
 
 fn answer(found: Result<Option<Text>, Refusal>) -> Answer {
     match found {
-        Ok(Some(text)) => Ok(Some(number_of(&text))),
-        Ok(None) => Ok(None),
+        Ok(found) => Ok(number_in(&found)),
+        Err(refusal) => Err(refusal),
+    }
+}
+
+fn round(answered: Result<Round<Text>, Refusal>) -> Result<Option<Option<u32>>, Refusal> {
+    match answered {
+        Ok(Round::Finished(found)) => Ok(Some(number_in(&found))),
+        Ok(Round::Again) => Ok(None),
         Err(refusal) => Err(refusal),
     }
 }
@@ -268,6 +284,46 @@ impl<'t, J: Naming, D: Device> User<'t, J, D> {
         let expected = expected_of(alloc, expected)?;
         let (table, caller) = (self.table, &mut self.caller);
         answer(table.put_if(rt, alloc, caller, &key, expected.as_ref(), &value))
+    }
+
+    /// Whether the key was taken out, and the value that it had.
+    pub fn remove_if<R: Wait>(
+        &mut self,
+        rt: &R,
+        key: &[u8],
+        expected: u32,
+    ) -> Result<(bool, Option<u32>), Refusal> {
+        let (key, expected) = pair_of(self.alloc, key, expected)?;
+        let (table, caller) = (self.table, &mut self.caller);
+        match table.remove_if(rt, self.alloc, caller, &key, &expected) {
+            Ok(removal) => Ok((removal.removed, number_in(&removal.found))),
+            Err(refusal) => Err(refusal),
+        }
+    }
+
+    /// What one round of a put gave; none where another may finish it.
+    pub fn put_round<R: Wait>(
+        &mut self,
+        rt: &R,
+        key: &[u8],
+        value: u32,
+    ) -> Result<Option<Option<u32>>, Refusal> {
+        let (key, value) = pair_of(self.alloc, key, value)?;
+        let put = Operation::Put(&key, &value);
+        round(
+            self.table
+                .change_round(rt, self.alloc, &mut self.caller, &put),
+        )
+    }
+
+    /// The same of a get.
+    pub fn get_round<R: Wait>(
+        &mut self,
+        rt: &R,
+        key: &[u8],
+    ) -> Result<Option<Option<u32>>, Refusal> {
+        let key = text(self.alloc, key)?;
+        round(self.table.get_round(rt, self.alloc, &mut self.caller, &key))
     }
 
     pub fn read_through<R: Wait>(&mut self, rt: &R, key: &[u8]) -> Answer {

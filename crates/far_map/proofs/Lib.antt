@@ -1,0 +1,4 @@
+pub mod Trying
+pub mod Working
+pub mod Settling
+pub mod Losses

@@ -1,0 +1,184 @@
+-- Workers that have ended, and the end of their run.
+use Rattle.std.proofs.Common.{◌≡◌, ◌≢◌, ℕ, suc, ◌+◌, ◌<◌, ◌==◌, Bool, true, false, List, [], ◌∷◌, ◌++◌, Option, Some, None, Result, Ok, Err, IfOk, length, map, refl, ap, sym, ◌∙◌, subst, arith, length-append}
+use Rattle.std.specs.Prelude.{slice_index_or}
+use Rattle.std.proofs.lemmas.Bool.Decides.{nat_tests}
+use Rattle.std.proofs.lemmas.List.{map-append}
+use Rattle.std.specs.List.{AllByRecursion}
+use Rattle.far_object.specs.Encodings.{enc_text}
+use Rattle.table_core.specs.declared.limits.Limits.{Limits}
+use Rattle.table_core.specs.Logs.{passes_of}
+use Rattle.table_core.specs.Lawful.{IsLawful}
+use Rattle.version_words.specs.Views.{IsWhole, AreNone, AreApart, calls_of}
+use Rattle.hash_table.specs.declared.caller.Caller.{Caller}
+use Rattle.hash_table.specs.Closes.{IsClosed}
+use Rattle.far_map.specs.Views.{View, Log, Pairs, SessionView}
+use Rattle.far_map.specs.Ends.{IsClosedBy}
+use Rattle.far_map.specs.Firsts.{both}
+use Rattle.far_map.specs.Runs.{IsNew, Served, IsServed, AreServed, Worked, IsEnd, AreSeen, IsLeft, IsRun, IsRunApart, EndsSo}
+
+abbrev first_of : {A B E : Type 0} → A → Result (A × B) E → A
+first_of d (Ok p) = p.0
+first_of d (Err e) = d
+
+abbrev second_of : {A B E : Type 0} → B → Result (A × B) E → B
+second_of d (Ok p) = p.1
+second_of d (Err e) = d
+
+both_first : {A B E : Type 0} (x a : A) (y b : B) (r : Result (A × B) E) → r ≡ Ok (x, y) → r ≡ Ok (a, b) → x ≡ a
+both_first {A} {B} {E} x a y b r is made = ap (first_of {A = A} {B = B} {E = E} a) (sym is ∙ made)
+
+both_second : {A B E : Type 0} (x a : A) (y b : B) (r : Result (A × B) E) → r ≡ Ok (x, y) → r ≡ Ok (a, b) → y ≡ b
+both_second {A} {B} {E} x a y b r is made = ap (second_of {A = A} {B = B} {E = E} b) (sym is ∙ made)
+
+not_both : {P E : Type 0} (p : P) (e : E) (r : Result P E) → r ≡ Err e → r ≡ Ok p → ⊥
+not_both p e (Ok q) is made = cc is
+not_both p e (Err f) is made = cc made
+
+module _ {Out : Type 0} (Done : ℕ → SessionView → SessionView → Out → Type 0) (limit : ℕ) where
+  served_more : (n : ℕ) (all : List (Served Out)) (s : Served Out) → AreServed Done limit n all → s.worker ≡ n + length all → IsNew limit s.begun → Done s.worker s.begun s.ended s.out
+      → AreServed Done limit n (all ++ s ∷ [])
+  served_more n [] s h is new done = (omega (arith, is), new, done, tt)
+  served_more n (t ∷ all) s h is new done = (h.0, h.1, h.2, served_more (n + 1) all s h.3 (omega (arith, is)) new done)
+
+  pub nothing : (count : ℕ) (passes : List View) (outs : List Out) → count ≡ 0 → passes ≡ [] → outs ≡ [] → Worked Done limit count passes outs
+  nothing count passes outs c p o = record { all = []; count_is = sym c; passes_are = sym p; outs_are = sym o; served = tt }
+
+  more : (count last : ℕ) (passes new_passes : List View) (outs new_outs : List Out) (pass : View) (out : Out)
+      → count ≡ last + 1 → new_passes ≡ passes ++ pass ∷ [] → new_outs ≡ outs ++ out ∷ []
+      → Worked Done limit last passes outs → IsServed (Done last) limit pass out → Worked Done limit count new_passes new_outs
+  more count last passes new_passes outs new_outs pass out c p o w s =
+      let one : Served Out = record { worker = last; begun = s.begun; ended = s.ended; out = out } in
+      record {
+        all = w.all ++ one ∷ [];
+        count_is = length-append w.all (one ∷ []) ∙ (ap (λ (n : ℕ). n + 1) w.count_is ∙ sym c);
+        passes_are = map-append (λ (t : Served Out). t.ended.pass) w.all (one ∷ []) ∙ (ap (λ (x : List View). x ++ s.ended.pass ∷ []) w.passes_are ∙ (ap (λ (v : View). passes ++ v ∷ []) s.pass_is ∙ sym p));
+        outs_are = map-append (λ (t : Served Out). t.out) w.all (one ∷ []) ∙ (ap (λ (x : List Out). x ++ out ∷ []) w.outs_are ∙ sym o);
+        served = served_more 0 w.all one w.served (omega (arith, w.count_is)) s.new s.done;
+      }
+
+  -- the same of what was answered, where it was
+  pub more_ok : {R E : Type 0} (result : Result R E) (passes_of : R → List View) (outs_of : R → List Out) (count last : ℕ) (passes : List View) (outs : List Out) (pass : View) (out : Out)
+      → count ≡ last + 1 → IfOk result (λ r. passes_of r ≡ passes ++ pass ∷ []) → IfOk result (λ r. outs_of r ≡ outs ++ out ∷ [])
+      → Worked Done limit last passes outs → IsServed (Done last) limit pass out → IfOk result (λ r. Worked Done limit count (passes_of r) (outs_of r))
+  more_ok (Ok r) passes_of outs_of count last passes outs pass out c p o w s = more count last passes (passes_of r) outs (outs_of r) pass out c p o w s
+  more_ok (Err e) passes_of outs_of count last passes outs pass out c p o w s = tt
+
+  -- the same where both were answered
+  pub more_both : {R A B E F : Type 0} (result : Result R F) (passes_of : R → List View) (outs_of : R → List Out) (their_passes : A → List View) (their_outs : A → List Out) (own_pass : B → View) (own_out : B → Out)
+      (first : Result A E) (then : Result B E) (r : Result (A × B) E) (a : A) (b : B) (count last others : ℕ)
+      → r ≡ both first then → r ≡ Ok (a, b) → IfOk first (λ x. Worked Done limit others (their_passes x) (their_outs x)) → IfOk then (λ y. IsServed (Done last) limit (own_pass y) (own_out y))
+      → others ≡ last → count ≡ last + 1 → IfOk result (λ z. passes_of z ≡ their_passes a ++ own_pass b ∷ []) → IfOk result (λ z. outs_of z ≡ their_outs a ++ own_out b ∷ [])
+      → IfOk result (λ z. Worked Done limit count (passes_of z) (outs_of z))
+  more_both {R} {A} {B} result passes_of outs_of their_passes their_outs own_pass own_out (Ok x) (Ok y) r a b count last others is made w s alike c p o =
+      let one : x ≡ a = both_first x a y b r is made in
+      let two : y ≡ b = both_second x a y b r is made in
+      more_ok result passes_of outs_of count last (their_passes a) (their_outs a) (own_pass b) (own_out b) c p o
+      (subst (λ (n : ℕ). Worked Done limit n (their_passes a) (their_outs a)) alike (subst (λ (u : A). Worked Done limit others (their_passes u) (their_outs u)) one w))
+      (subst (λ (u : B). IsServed (Done last) limit (own_pass u) (own_out u)) two s)
+  more_both result passes_of outs_of their_passes their_outs own_pass own_out (Ok x) (Err e) r a b count last others is made w s alike c p o = absurd (not_both (a, b) e r is made)
+  more_both result passes_of outs_of their_passes their_outs own_pass own_out (Err e) then r a b count last others is made w s alike c p o = absurd (not_both (a, b) e r is made)
+
+-- ---- the end
+
+none_front : (pass : View) (xs ys : List View) → AreNone pass (xs ++ ys) → AreNone pass xs
+none_front pass [] ys h = tt
+none_front pass (x ∷ xs) ys h = (h.0, none_front pass xs ys h.1)
+
+apart_front : (xs ys : List View) → AreApart (xs ++ ys) → AreApart xs
+apart_front [] ys h = tt
+apart_front (x ∷ xs) ys h = (none_front x xs ys h.0, apart_front xs ys h.1)
+
+none_of : (pass : View) (xs : List View) (e : View) → AreNone pass xs → pass.number ≢ e.number → AreNone pass (xs ++ e ∷ [])
+none_of pass [] e h other = (other, tt)
+none_of pass (x ∷ xs) e h other = (h.0, none_of pass xs e h.1 other)
+
+all_front : {A : Type 0} (P : A → Type 0) (xs ys : List A) → AllByRecursion P (xs ++ ys) → AllByRecursion P xs
+all_front P [] ys h = tt
+all_front P (x ∷ xs) ys h = (h.0, all_front P xs ys h.1)
+
+last_of : {A : Type 0} (P : A → Type 0) (xs : List A) (y : A) → AllByRecursion P (xs ++ y ∷ []) → P y
+last_of P [] y h = h.0
+last_of P (x ∷ xs) y h = last_of P xs y h.1
+
+module _ {J : Type 0} where
+  abbrev pass_of : Caller (List ℕ) (List ℕ) J → View
+  pass_of c = c.pass
+
+  all_whole : (P : View → Type 0) (callers : List (Caller (List ℕ) (List ℕ) J)) → ((k : ℕ) (d : Caller (List ℕ) (List ℕ) J) → k < length callers → P (slice_index_or callers k d).pass) → AllByRecursion P (map (λ c. c.pass) callers)
+  all_whole P [] each = tt
+  all_whole P (c ∷ cs) each = (each 0 c (omega arith), all_whole P cs (λ k d lt. each (suc k) d (omega (arith, lt))))
+
+  map_length : (callers : List (Caller (List ℕ) (List ℕ) J)) → length (map (λ c. c.pass) callers) ≡ length callers
+  map_length [] = refl
+  map_length (c ∷ cs) = omega (arith, map_length cs)
+
+  -- a map that these callers and its own close ends with their passes
+  pub ended : (l : Limits) (callers : List (Caller (List ℕ) (List ℕ) J)) (pairs : Pairs) → IsClosedBy l callers pairs → IsEnd l (map (λ c. c.pass) callers) pairs
+  ended l callers pairs h = record {
+    log = close.log;
+    lawful = close.lawful;
+    all = close.all ∙ (length-append callers (h.own ∷ []) ∙ ap (λ (n : ℕ). n + 1) (sym (map_length callers)));
+    apart = apart_front own_passes (h.own.pass ∷ []) (subst AreApart passes_are close.apart);
+    whole = all_front (λ (pass : View). IsWhole close.log pass) own_passes (h.own.pass ∷ []) whole;
+    no_other = λ pass none. other pass none (h.own.pass.number == pass.number) refl;
+    pairs_are = close.pairs_are;
+  }
+    where
+      close : IsClosed enc_text enc_text l (callers ++ h.own ∷ []) pairs
+      close = h.closed
+
+      own_passes : List View
+      own_passes = map (λ c. c.pass) callers
+
+      passes_are : map (λ c. c.pass) (callers ++ h.own ∷ []) ≡ own_passes ++ h.own.pass ∷ []
+      passes_are = map-append pass_of callers (h.own ∷ [])
+
+      whole : AllByRecursion (λ (pass : View). IsWhole close.log pass) (own_passes ++ h.own.pass ∷ [])
+      whole = subst (λ (ps : List View). AllByRecursion (λ (pass : View). IsWhole close.log pass) ps) passes_are (all_whole (λ (pass : View). IsWhole close.log pass) (callers ++ h.own ∷ []) close.whole)
+
+      other : (pass : View) → AreNone pass own_passes → (c : Bool) → (h.own.pass.number == pass.number) ≡ c → calls_of pass.number close.log ≡ []
+      other pass none true at =
+          let same : h.own.pass.number ≡ pass.number = grind (arith, nat_tests) in
+          let own : IsWhole close.log h.own.pass = last_of (λ (pass : View). IsWhole close.log pass) own_passes h.own.pass whole in
+          ap (λ (q : ℕ). calls_of q close.log) (sym same) ∙ (own.all ∙ h.no_calls)
+      other pass none false at =
+          let apart : pass.number ≢ h.own.pass.number = grind (arith, nat_tests) in
+          close.no_other pass (subst (λ (ps : List View). AreNone pass ps) (sym passes_are) (none_of pass own_passes h.own.pass none apart))
+
+-- a front that was told what all have seen
+pub seen_left : (l : Limits) (passes : List View) (log : Log) → IsLawful enc_text enc_text l log → AreSeen log passes → IsLeft l passes
+seen_left l passes log lawful seen = record { log = log; lawful = lawful; seen = seen }
+
+pub same_left : {J : Type 0} (l : Limits) (callers others : List (Caller (List ℕ) (List ℕ) J)) → others ≡ callers → IsLeft l (map (λ c. c.pass) others) → IsLeft l (map (λ c. c.pass) callers)
+same_left {J} l callers others same h = subst (λ (cs : List (Caller (List ℕ) (List ℕ) J)). IsLeft l (map (λ c. c.pass) cs)) same h
+
+module _ {Out : Type 0} (Done : ℕ → Limits → SessionView → SessionView → Out → Type 0) (l : Limits) where
+  abbrev WorkedBy : ℕ → ℕ → List View → List Out → Type 0
+  WorkedBy limit count passes outs = Worked (λ worker begun ended (out : Out). Done worker l begun ended out) limit count passes outs
+
+  as_limit : (limit limit' count count' : ℕ) (passes : List View) (outs : List Out) → limit' ≡ limit → count' ≡ count → WorkedBy limit' count' passes outs → WorkedBy limit count passes outs
+  as_limit limit limit' count count' passes outs same alike w = subst (λ (n : ℕ). WorkedBy n count passes outs) same (subst (λ (n : ℕ). WorkedBy limit' n passes outs) alike w)
+
+  pub ran : {J : Type 0} (limit limit' count count' : ℕ) (callers : List (Caller (List ℕ) (List ℕ) J)) (outs : List Out) (pairs : Pairs)
+      → limit' ≡ limit → count' ≡ count → WorkedBy limit' count' (map (λ c. c.pass) callers) outs → IsClosedBy l callers pairs → IsRun Done l limit count outs pairs
+  ran limit limit' count count' callers outs pairs same alike w h = record {
+    passes = map (λ c. c.pass) callers;
+    worked = as_limit limit limit' count count' (map (λ c. c.pass) callers) outs same alike w;
+    ended = ended l callers pairs h;
+  }
+
+  pub ran_apart : (limit limit' count count' : ℕ) (passes : List View) (outs : List Out) → limit' ≡ limit → count' ≡ count → WorkedBy limit' count' passes outs → IsLeft l passes → IsRunApart Done l limit count outs
+  ran_apart limit limit' count count' passes outs same alike w h = record { passes = passes; worked = as_limit limit limit' count count' passes outs same alike w; left = h }
+
+-- the same limits by another name
+pub run_as : {Out R E : Type 0} (r : Result R E) (outs_of : R → List Out) (pairs_of : R → Option Pairs) (Done : ℕ → Limits → SessionView → SessionView → Out → Type 0) (l l' : Limits) (limit limit' count : ℕ) (collects : Bool)
+    → l' ≡ l → limit' ≡ limit → IfOk r (λ x. EndsSo Done l' limit' count (outs_of x) collects (pairs_of x)) → IfOk r (λ x. EndsSo Done l limit count (outs_of x) collects (pairs_of x))
+run_as r outs_of pairs_of Done l l' limit limit' count collects same_l same_limit h =
+    subst (λ (k : Limits). IfOk r (λ x. EndsSo Done k limit count (outs_of x) collects (pairs_of x))) same_l (subst (λ (n : ℕ). IfOk r (λ x. EndsSo Done l' n count (outs_of x) collects (pairs_of x))) same_limit h)
+
+module _ {Out : Type 0} (Done : ℕ → Limits → SessionView → SessionView → Out → Type 0) (l : Limits) (limit count : ℕ) (outs : List Out) where
+  pub collected : (collects : Bool) (pairs : Pairs) → collects ≡ true → IsRun Done l limit count outs pairs → EndsSo Done l limit count outs collects (Some pairs)
+  collected collects pairs is h = subst (λ (b : Bool). EndsSo Done l limit count outs b (Some pairs)) (sym is) h
+
+  pub not_collected : (collects : Bool) → collects ≡ false → IsRunApart Done l limit count outs → EndsSo Done l limit count outs collects None
+  not_collected collects is h = subst (λ (b : Bool). EndsSo Done l limit count outs b None) (sym is) h

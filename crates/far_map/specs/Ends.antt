@@ -1,0 +1,14 @@
+-- The end of a map.
+use Rattle.std.specs.Prelude.{◌≡◌, ℕ, List, [], ◌∷◌, ◌++◌}
+use Rattle.far_object.specs.Encodings.{enc_text}
+use Rattle.table_core.specs.declared.limits.Limits.{Limits}
+use Rattle.version_words.specs.Views.{calls}
+use Rattle.hash_table.specs.declared.caller.Caller.{Caller}
+use Rattle.hash_table.specs.Closes.{IsClosed}
+use Rattle.far_map.specs.Views.{Pairs}
+
+-- these callers, and one of the map's own that made no call, are all that there were
+pub record IsClosedBy {J : Type 0} (l : Limits) (callers : List (Caller (List ℕ) (List ℕ) J)) (pairs : Pairs) : Type 0 where
+  pub own : Caller (List ℕ) (List ℕ) J
+  pub no_calls : calls own.pass ≡ []
+  pub closed : IsClosed enc_text enc_text l (callers ++ own ∷ []) pairs

@@ -1,0 +1,12 @@
+pub mod Views
+pub mod Settings
+pub mod Faults
+pub mod Refusals
+pub mod Asks
+pub mod Answers
+pub mod Counts
+pub mod Spares
+pub mod Updates
+pub mod Ends
+pub mod Firsts
+pub mod Runs

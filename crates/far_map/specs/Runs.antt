@@ -1,0 +1,86 @@
+-- The workers of a run, and what is so at its end.
+use Rattle.std.specs.Prelude.{◌≡◌, ℕ, ◌+◌, Bool, true, false, IsTrue, List, [], ◌∷◌, length, map, Option, Some, None, ⊤}
+use Rattle.std.specs.List.{AllByRecursion}
+use mathlib.Core.List.{IsPrefix}
+use Rattle.far_object.specs.Encodings.{enc_text}
+use Rattle.table_core.specs.declared.limits.Limits.{Limits}
+use Rattle.table_core.specs.Maps.{map_of}
+use Rattle.table_core.specs.Logs.{history, passes_of}
+use Rattle.table_core.specs.Lawful.{IsLawful}
+use Rattle.version_words.specs.Views.{calls, calls_of, IsWhole, AreApart, AreNone}
+use Rattle.far_map.specs.Counts.{no_calls}
+use Rattle.far_map.specs.Views.{View, Log, Pairs, SessionView}
+
+-- a session as a worker gets it: it has made no call and counted none, and this is its map's limit
+pub record IsNew (limit : ℕ) (begun : SessionView) : Type 0 where
+  pub no_call : calls begun.pass ≡ []
+  pub uncounted : begun.stats ≡ no_calls
+  pub limit_is : begun.limit ≡ limit
+
+-- a worker that has ended: its number, its session as it began and as it ended, and what it gave back
+pub record Served (Out : Type 0) : Type 0 where
+  pub worker : ℕ
+  pub begun : SessionView
+  pub ended : SessionView
+  pub out : Out
+
+-- a worker did its work by a new session, which ended with this pass, and gave this back
+pub record IsServed {Out : Type 0} (Done : SessionView → SessionView → Out → Type 0) (limit : ℕ) (pass : View) (out : Out) : Type 0 where
+  pub begun : SessionView
+  pub ended : SessionView
+  pub new : IsNew limit begun
+  pub done : Done begun ended out
+  pub pass_is : ended.pass ≡ pass
+
+module _ {Out : Type 0} (Done : ℕ → SessionView → SessionView → Out → Type 0) (limit : ℕ) where
+  -- each did its work by a new session; they are counted from here on
+  abbrev pub AreServed : ℕ → List (Served Out) → Type 0
+  AreServed n [] = ⊤
+  AreServed n (s ∷ ss) = (s.worker ≡ n) × IsNew limit s.begun × Done s.worker s.begun s.ended s.out × AreServed (n + 1) ss
+
+  -- so many workers did their work, and these are their passes at the end, and what they gave back
+  pub record Worked (count : ℕ) (passes : List View) (outs : List Out) : Type 0 where
+    pub all : List (Served Out)
+    pub count_is : length all ≡ count
+    pub passes_are : map (λ s. s.ended.pass) all ≡ passes
+    pub outs_are : map (λ s. s.out) all ≡ outs
+    pub served : AreServed 0 all
+
+-- a lawful log has the calls of these passes, each as it made them, and no others, and the pairs are its map
+pub record IsEnd (l : Limits) (passes : List View) (pairs : Pairs) : Type 0 where
+  pub log : Log
+  pub lawful : IsLawful enc_text enc_text l log
+  pub all : passes_of log ≡ length passes + 1
+  pub apart : AreApart passes
+  pub whole : AllByRecursion (λ pass. IsWhole log pass) passes
+  pub no_other : (pass : View) → AreNone pass passes → calls_of pass.number log ≡ []
+  pub pairs_are : IsTrue l.honest → pairs ≡ map_of enc_text enc_text (history log)
+
+-- the log begins with what each of these passes has seen
+abbrev pub AreSeen : Log → List View → Type 0
+AreSeen log passes = AllByRecursion (λ pass. IsPrefix pass.front log) passes
+
+-- a lawful log begins with all that these passes have seen: so their fronts are beginnings of one history
+pub record IsLeft (l : Limits) (passes : List View) : Type 0 where
+  pub log : Log
+  pub lawful : IsLawful enc_text enc_text l log
+  pub seen : AreSeen log passes
+
+module _ {Out : Type 0} (Done : ℕ → Limits → SessionView → SessionView → Out → Type 0) (l : Limits) (limit count : ℕ) (outs : List Out) where
+  -- so many workers did their work, and the pairs are the map of one history with their calls and no others
+  pub record IsRun (pairs : Pairs) : Type 0 where
+    pub passes : List View
+    pub worked : Worked (λ worker begun ended out. Done worker l begun ended out) limit count passes outs
+    pub ended : IsEnd l passes pairs
+
+  -- so many workers did their work, in one history
+  pub record IsRunApart : Type 0 where
+    pub passes : List View
+    pub worked : Worked (λ worker begun ended out. Done worker l begun ended out) limit count passes outs
+    pub left : IsLeft l passes
+
+  -- the run ends with pairs where they are collected, and else without
+  abbrev pub EndsSo : Bool → Option Pairs → Type 0
+  EndsSo true (Some pairs) = IsRun pairs
+  EndsSo false None = IsRunApart
+  EndsSo _ _ = ⊥

@@ -1,0 +1,76 @@
+//! A call until it is answered, or refused for good.
+ghost use Rattle.far_map.specs.Asks.{asked};
+ghost use Rattle.version_words.specs.Views.{Goes};
+ghost use Rattle.far_map.specs.Answers.{AnswersBy};
+ghost use Rattle.far_map.specs.Spares.{LosesNone};
+
+use crate::asked::{Asked, call};
+use crate::keeping::Seated;
+use crate::map::FarMap;
+use crate::refusal::{Refusal, said};
+use crate::room::{MOST_TRIES, make_room};
+use far_device::Device;
+use far_object::Text;
+use std::alloc::Global;
+use std::sync::Wait;
+use swapper::QueueNaming;
+use version_words::Naming;
+
+/// What comes before the first try: a frame for a change, where frames were lacking of late.
+#[tactic(auto, using(crate::proofs::Losses::loses_self))]
+fn before<J: Naming, B: QueueNaming, D: Device, R: Wait>(
+    rt: &R,
+    map: &FarMap<J, B, D>,
+    seated: &mut Seated<J, B>,
+    ask: &Asked<'_>,
+)
+    ensures goes { Goes seated.old.caller.pass seated.new.caller.pass }
+    ensures none_lost { LosesNone seated.old.caller.limbo seated.old.seat seated.new.caller.limbo seated.new.seat }
+{
+    if ask.is_change() {
+        map.before_change(rt, seated);
+    }
+}
+
+/// The answer. After each refusal that room may help, room is made and the call is tried again, 1,000 times at most.
+pub(crate) fn answer<J: Naming, B: QueueNaming, D: Device, R: Wait>(
+    rt: &R,
+    alloc: Global,
+    map: &FarMap<J, B, D>,
+    seated: &mut Seated<J, B>,
+    ask: &Asked<'_>,
+) -> Result<Option<Text>, Refusal>
+    ensures answers { AnswersBy J.limits map.now.table.limit seated.old.caller.pass seated.new.caller.pass (asked ask.now) result }
+    ensures none_lost { LosesNone seated.old.caller.limbo seated.old.seat seated.new.caller.limbo seated.new.seat }
+{
+    before(rt, map, seated, ask);
+    for _ in 0..MOST_TRIES {
+        match call(rt, alloc, &map.table, &mut seated.caller, ask) {
+            Ok(answer) => return Ok(answer),
+            Err(refusal) => match make_room(rt, map, seated, refusal) {
+                Ok(()) => {}
+                Err(why) => return Err(why),
+            },
+        }
+    }
+    match call(rt, alloc, &map.table, &mut seated.caller, ask) {
+        Ok(answer) => Ok(answer),
+        Err(refusal) => Err(said(refusal)),
+    }
+}
+
+/// The same, and what follows each call.
+pub(crate) fn answer_and_keep<J: Naming, B: QueueNaming, D: Device, R: Wait>(
+    rt: &R,
+    alloc: Global,
+    map: &FarMap<J, B, D>,
+    seated: &mut Seated<J, B>,
+    ask: &Asked<'_>,
+) -> Result<Option<Text>, Refusal>
+    ensures answers { AnswersBy J.limits map.now.table.limit seated.old.caller.pass seated.new.caller.pass (asked ask.now) result }
+    ensures none_lost { LosesNone seated.old.caller.limbo seated.old.seat seated.new.caller.limbo seated.new.seat }
+{
+    let answered = answer(rt, alloc, map, seated, ask);
+    map.after_call(rt, seated);
+    answered
+}

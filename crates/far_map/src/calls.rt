@@ -1,0 +1,207 @@
+//! A session as workers see it, without the names of its map.
+ghost use Rattle.std.specs.Prelude.{◌≡◌, Some};
+ghost use Rattle.std.specs.Fn.{FnOnceReturnsAt};
+ghost use Rattle.table_core.specs.declared.operation.Operation.TheVariants as op;
+ghost use Rattle.table_core.specs.Lent.{lent_value};
+ghost use Rattle.far_object.specs.Encodings.{enc_text};
+ghost use Rattle.far_object.specs.Buckets.{bucket};
+ghost use Rattle.table_core.specs.Logs.{word};
+ghost use Rattle.version_words.specs.Views.{Goes};
+ghost use Rattle.hash_table.specs.States.{IsState};
+ghost use Rattle.far_map.specs.Answers.{Answers, IsRead, IsFound, held_in};
+ghost use Rattle.far_map.specs.Counts.{Counts};
+ghost use Rattle.far_map.specs.Updates.{IsUpdated};
+
+use crate::asked::Asked;
+use crate::refusal::Refusal;
+use crate::session::Session;
+use crate::stats::Stats;
+use crate::updating::Updated;
+use far_device::Device;
+use far_object::Text;
+use hash_table::{BucketState, TableScope};
+use std::sync::Wait;
+use swapper::QueueNaming;
+use version_words::Naming;
+
+/// The calls of a session. Each makes room and tries again by itself, and is refused only for good: `Memory`, `Device` and
+/// `Damaged` may come of each, `Full` of changes, `TooLong` of those that may set their key, and `NamesSpent` of changes. A call that
+/// is refused leaves the map as it was.
+pub trait Calls {
+    ghost use Rattle.table_core.specs.declared.limits.Limits.{Limits};
+    ghost use Rattle.far_map.specs.Views.{SessionView};
+    ghost use Rattle.std.specs.Prelude.{ℕ, List, Option};
+
+    // The limits of its map.
+    ghost limits: { Limits };
+
+    // Its pass, the most bytes of an object, and what it has counted.
+    ghost shown: { Self → SessionView };
+
+    /// A value that is held where it lies, and stays there: it has to be let go, by `let_go`.
+    type Held;
+
+    // The value's bytes.
+    ghost held: { Self.Held → Option (List ℕ) };
+
+    /// The key's value, copied, or none.
+    fn get<R: Wait>(&mut self, rt: &R, key: &Text) -> Result<Option<Text>, Refusal>
+        ensures answers { Answers limits (shown self.old) (shown self.new) (op.Get key.now) result }
+        ensures counts { Counts (shown self.old) (shown self.new) (op.Get key.now) result };
+
+    /// What the reader makes of the key's value, or none where the key has none. It reads the bytes where they lie, and no swap
+    /// moves them meanwhile; where no frame is left for an object that lies on a device it reads a copy, so that `Full` and
+    /// `NamesSpent` never come.
+    fn with<T, F: FnOnce(&[u8]) -> T + Drop, R: Wait>(
+        &mut self,
+        rt: &R,
+        key: &Text,
+        read: F,
+    ) -> Result<Option<T>, Refusal>
+        requires { F.IsAlwaysCallable read }
+        ensures read { IsRead limits (shown self.old) (shown self.new) key.now (FnOnceReturnsAt F.FnOnce read) result }
+        ensures counts { Counts (shown self.old) (shown self.new) (op.Get key.now) result };
+
+    /// The key's value, held where it lies, or none. Its frame is given to no other object until it is let go, whatever calls are
+    /// made meanwhile: where all frames are held, changes of other keys are `Full`. It is refused as a change is.
+    fn hold<R: Wait>(&mut self, rt: &R, key: &Text) -> Result<Option<Self::Held>, Refusal>
+        ensures answers { Answers limits (shown self.old) (shown self.new) (op.Get key.now) (held_in held result) }
+        ensures counts { Counts (shown self.old) (shown self.new) (op.Get key.now) result };
+
+    /// The bytes of a value that is held.
+    fn bytes_of<'a>(&self, value: &'a Self::Held) -> &'a [u8]
+        ensures { held value.now ≡ Some result.now };
+
+    /// Lets a value go that was held.
+    fn let_go(&self, value: Self::Held);
+
+    /// Whether the key has a value, of which nothing is copied. It is refused as `with` is.
+    fn contains<R: Wait>(&mut self, rt: &R, key: &Text) -> Result<bool, Refusal>
+        ensures found { IsFound limits (shown self.old) (shown self.new) key.now result }
+        ensures counts { Counts (shown self.old) (shown self.new) (op.Get key.now) result };
+
+    /// Sets the key to the value, and answers the one before.
+    fn put<R: Wait>(&mut self, rt: &R, key: &Text, value: &Text) -> Result<Option<Text>, Refusal>
+        ensures answers { Answers limits (shown self.old) (shown self.new) (op.Put key.now value.now) result }
+        ensures counts { Counts (shown self.old) (shown self.new) (op.Put key.now value.now) result };
+
+    /// Takes the key out, and answers the value that it had.
+    fn remove<R: Wait>(&mut self, rt: &R, key: &Text) -> Result<Option<Text>, Refusal>
+        ensures answers { Answers limits (shown self.old) (shown self.new) (op.Remove key.now) result }
+        ensures counts { Counts (shown self.old) (shown self.new) (op.Remove key.now) result };
+
+    /// Sets the key to the value where its value is the expected one, or where it has none and none is expected. It answers the
+    /// one before, by which the caller sees whether it was the expected one.
+    fn put_if<R: Wait>(
+        &mut self,
+        rt: &R,
+        key: &Text,
+        expected: Option<&Text>,
+        value: &Text,
+    ) -> Result<Option<Text>, Refusal>
+        ensures answers { Answers limits (shown self.old) (shown self.new) (op.PutIf key.now (lent_value expected.entry) value.now) result }
+        ensures counts { Counts (shown self.old) (shown self.new) (op.PutIf key.now (lent_value expected.entry) value.now) result };
+
+    /// Sets the key to what is made of its value, where something is, and the value was not changed meanwhile: else it is tried
+    /// again, 1,000 times in all. Each try is a get and a `put_if`, counted as such, and refused as these are.
+    fn update<F: Fn(Option<&Text>) -> Option<Text> + Drop, R: Wait>(
+        &mut self,
+        rt: &R,
+        key: &Text,
+        make: F,
+    ) -> Result<Updated, Refusal>
+        requires { F.IsAlwaysCallable make }
+        ensures { IsUpdated limits key.now (λ found made. (lent : _) × (lent_value lent ≡ found) × F.post make lent made) (shown self.old) (shown self.new) result };
+
+    /// Where the contents of the key's bucket lie. It is no call of the map, and is not counted.
+    fn where_is(&mut self, key: &Text) -> BucketState
+        ensures goes { Goes (shown self.old).pass (shown self.new).pass }
+        ensures state { IsState (word enc_text limits.buckets (shown self.new).pass.front (bucket enc_text limits.buckets key.now)) result }
+        ensures same { ((shown self.new).limit ≡ (shown self.old).limit) × ((shown self.new).stats ≡ (shown self.old).stats) };
+
+    /// Has the evictor empty a frame, and answers whether it did. It is no call of the map, and is not counted. Beside the
+    /// refusals of a call `Full` comes where another thread was faster.
+    fn evict<R: Wait>(&self, rt: &R) -> Result<bool, Refusal>;
+
+    /// What it has counted of its own calls.
+    fn stats(&self) -> Stats
+        ensures { result ≡ (shown self.now).stats };
+}
+
+impl<'m, J: Naming, B: QueueNaming, D: Device> Calls for Session<'m, J, B, D> {
+    ghost limits = { J.limits };
+
+    ghost shown = { λ s. s };
+
+    type Held = TableScope<'m, Text, Text, J>;
+
+    ghost held = { λ s. s.value };
+
+    fn get<R: Wait>(&mut self, rt: &R, key: &Text) -> Result<Option<Text>, Refusal> {
+        self.ask(rt, &Asked::Get(key))
+    }
+
+    fn with<T, F: FnOnce(&[u8]) -> T + Drop, R: Wait>(
+        &mut self,
+        rt: &R,
+        key: &Text,
+        read: F,
+    ) -> Result<Option<T>, Refusal> {
+        self.read(rt, key, read)
+    }
+
+    fn hold<R: Wait>(&mut self, rt: &R, key: &Text) -> Result<Option<Self::Held>, Refusal> {
+        self.take_hold(rt, key)
+    }
+
+    fn bytes_of<'a>(&self, value: &'a Self::Held) -> &'a [u8] {
+        &value.bytes()[2..]
+    }
+
+    fn let_go(&self, value: Self::Held) {
+        value.close();
+    }
+
+    fn contains<R: Wait>(&mut self, rt: &R, key: &Text) -> Result<bool, Refusal> {
+        self.find(rt, key)
+    }
+
+    fn put<R: Wait>(&mut self, rt: &R, key: &Text, value: &Text) -> Result<Option<Text>, Refusal> {
+        self.ask(rt, &Asked::Put(key, value))
+    }
+
+    fn remove<R: Wait>(&mut self, rt: &R, key: &Text) -> Result<Option<Text>, Refusal> {
+        self.ask(rt, &Asked::Remove(key))
+    }
+
+    fn put_if<R: Wait>(
+        &mut self,
+        rt: &R,
+        key: &Text,
+        expected: Option<&Text>,
+        value: &Text,
+    ) -> Result<Option<Text>, Refusal> {
+        self.ask(rt, &Asked::PutIf(key, expected, value))
+    }
+
+    fn update<F: Fn(Option<&Text>) -> Option<Text> + Drop, R: Wait>(
+        &mut self,
+        rt: &R,
+        key: &Text,
+        make: F,
+    ) -> Result<Updated, Refusal> {
+        self.make_anew(rt, key, make)
+    }
+
+    fn where_is(&mut self, key: &Text) -> BucketState {
+        self.place(key)
+    }
+
+    fn evict<R: Wait>(&self, rt: &R) -> Result<bool, Refusal> {
+        self.turn(rt)
+    }
+
+    fn stats(&self) -> Stats {
+        self.stats
+    }
+}

@@ -1,0 +1,48 @@
+//! The evictor's thread.
+
+use crate::map::FarMap;
+use far_device::Device;
+use std::sync::Wait;
+use std::sync::atomic::Ordering;
+use std::thread;
+use std::time::Duration;
+use swapper::QueueNaming;
+use version_words::Naming;
+
+/// How many microseconds the evictor sleeps where a round found nothing to do and the one before did: few enough that few spares
+/// wait.
+const SHORTEST_NAP: u64 = 100;
+
+/// How many it sleeps at most. Each nap is twice as long as the one before, since each that ends takes a processor from a worker,
+/// to find nothing.
+const LONGEST_NAP: u64 = 3_200;
+
+impl<J: Naming, B: QueueNaming, D: Device> FarMap<J, B, D> {
+    /// Has spares reclaimed, and frames emptied while too few are free, until all workers have ended. A nap ends early where
+    /// somebody wakes it.
+    pub(crate) fn evict<R: Wait>(&self, rt: &R) {
+        let mut nap = SHORTEST_NAP;
+        for _ in rt.forever() {
+            if self.ended.load(Ordering::SeqCst) {
+                break;
+            }
+            let worked = if self.table.free() < self.reserve {
+                matches!(self.turns(rt), Ok(true))
+            } else {
+                self.collect(rt)
+            };
+            if worked {
+                nap = SHORTEST_NAP;
+                thread::yield_now();
+            } else {
+                self.bed.park_timeout(rt, Duration::from_micros(nap));
+                nap = nap.saturating_mul(2).min(LONGEST_NAP);
+            }
+        }
+    }
+
+    pub(crate) fn stop_evicting(&self) {
+        self.ended.store(true, Ordering::SeqCst);
+        self.bed.unpark();
+    }
+}

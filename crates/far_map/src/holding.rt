@@ -1,0 +1,125 @@
+//! A value that is held from one call to another.
+ghost use Rattle.std.specs.Prelude.{◌≡◌, IfErr};
+ghost use mathlib.Core.List.{IsPrefix};
+ghost use Rattle.table_core.specs.declared.operation.Operation.TheVariants.{Get};
+ghost use Rattle.far_map.specs.Answers.{IsRefused, Tries, AnswersBy, Answers, held_in};
+ghost use Rattle.version_words.specs.Views.{Goes};
+ghost use Rattle.far_map.specs.Refusals.{said};
+ghost use Rattle.far_map.specs.Counts.{Counts};
+ghost use Rattle.far_map.specs.Spares.{LosesNone};
+
+use crate::asked::Asked;
+use crate::keeping::Seated;
+use crate::map::FarMap;
+use crate::refusal::{Refusal, said};
+use crate::room::{MOST_TRIES, make_room};
+use crate::session::Session;
+use far_device::Device;
+use far_object::Text;
+use hash_table::{Caller, FarTable, Refusal as TableRefusal, TableScope};
+use std::alloc::Global;
+use std::sync::Wait;
+use swapper::QueueNaming;
+use version_words::Naming;
+
+/// A value that is held, or none.
+pub(crate) type Held<'a, J> = Option<TableScope<'a, Text, Text, J>>;
+
+/// One try to fetch the key's object into a frame. What another try may not meet is no refusal.
+fn bring<J: Naming, D: Device, R: Wait>(
+    rt: &R,
+    alloc: Global,
+    table: &FarTable<Text, Text, J, D>,
+    caller: &mut Caller<Text, Text, J>,
+    key: &Text,
+) -> Result<(), TableRefusal>
+    ensures goes { Goes caller.old.pass caller.new.pass }
+    ensures refused { IfErr result (λ e. IsRefused J.limits table.now.limit caller.old.pass caller.new.pass (Get key.now) (said e)) }
+    ensures limbo { IsPrefix caller.old.limbo caller.new.limbo }
+{
+    match table.fetch(rt, alloc, caller, key) {
+        Ok(_) => Ok(()),
+        Err(TableRefusal::Moved) => Ok(()),
+        Err(TableRefusal::Missed) => Ok(()),
+        Err(refusal) => Err(refusal),
+    }
+}
+
+/// Tries to open a scope until the key's object lies in a frame; it is fetched where it does not.
+pub(crate) fn open_near<'a, J: Naming, D: Device, R: Wait>(
+    rt: &R,
+    alloc: Global,
+    table: &'a FarTable<Text, Text, J, D>,
+    caller: &mut Caller<Text, Text, J>,
+    key: &Text,
+) -> Result<Held<'a, J>, TableRefusal>
+    ensures tries { Tries J.limits table.now.limit caller.old.pass caller.new.pass (Get key.now) (held_in (λ s. s.value) result) }
+    ensures limbo { IsPrefix caller.old.limbo caller.new.limbo }
+{
+    for _ in rt.forever() {
+        match table.open_scope(caller, key) {
+            Ok(held) => return Ok(held),
+            Err(TableRefusal::Far) => match bring(rt, alloc, table, caller, key) {
+                Ok(()) => {}
+                Err(refusal) => return Err(refusal),
+            },
+            Err(_) => {}
+        }
+    }
+    unreachable!()
+}
+
+/// Opens a scope on the key's value. After each refusal that room may help, room is made and it is tried again, 1,000 times at
+/// most.
+fn open<'a, J: Naming, B: QueueNaming, D: Device, R: Wait>(
+    rt: &R,
+    alloc: Global,
+    map: &'a FarMap<J, B, D>,
+    seated: &mut Seated<J, B>,
+    key: &Text,
+) -> Result<Held<'a, J>, Refusal>
+    ensures answers { AnswersBy J.limits map.now.table.limit seated.old.caller.pass seated.new.caller.pass (Get key.now) (held_in (λ s. s.value) result) }
+    ensures none_lost { LosesNone seated.old.caller.limbo seated.old.seat seated.new.caller.limbo seated.new.seat }
+{
+    for _ in 0..MOST_TRIES {
+        match open_near(rt, alloc, &map.table, &mut seated.caller, key) {
+            Ok(held) => return Ok(held),
+            Err(refusal) => match make_room(rt, map, seated, refusal) {
+                Ok(()) => {}
+                Err(why) => return Err(why),
+            },
+        }
+    }
+    match open_near(rt, alloc, &map.table, &mut seated.caller, key) {
+        Ok(held) => Ok(held),
+        Err(refusal) => Err(said(refusal)),
+    }
+}
+
+/// The same, and what follows each call.
+fn open_and_keep<'a, J: Naming, B: QueueNaming, D: Device, R: Wait>(
+    rt: &R,
+    alloc: Global,
+    map: &'a FarMap<J, B, D>,
+    seated: &mut Seated<J, B>,
+    key: &Text,
+) -> Result<Held<'a, J>, Refusal>
+    ensures answers { AnswersBy J.limits map.now.table.limit seated.old.caller.pass seated.new.caller.pass (Get key.now) (held_in (λ s. s.value) result) }
+    ensures none_lost { LosesNone seated.old.caller.limbo seated.old.seat seated.new.caller.limbo seated.new.seat }
+{
+    let held = open(rt, alloc, map, seated, key);
+    map.after_call(rt, seated);
+    held
+}
+
+impl<'m, J: Naming, B: QueueNaming, D: Device> Session<'m, J, B, D> {
+    /// Holds the key's value where it lies, or none where the key has none.
+    pub(crate) fn take_hold<R: Wait>(&mut self, rt: &R, key: &Text) -> Result<Held<'m, J>, Refusal>
+        ensures answers { Answers J.limits self.old self.new (Get key.now) (held_in (λ s. s.value) result) }
+        ensures counts { Counts self.old self.new (Get key.now) result }
+    {
+        let held = open_and_keep(rt, self.alloc, self.map, &mut self.seated, key);
+        self.stats.count(&Asked::Get(key), &held);
+        held
+    }
+}

@@ -1,0 +1,28 @@
+//! What the sessions of a map share.
+ghost use Rattle.std.specs.Prelude.{◌≡◌, ◌<◌};
+
+use far_device::Device;
+use far_object::Text;
+use hash_table::FarTable;
+use std::sync::Mutex;
+use std::sync::atomic::AtomicBool;
+use std::thread::Parker;
+use swapper::{Evictor, QueueNaming, SpareQueue};
+use version_words::Naming;
+
+/// A table, its queue of spares and its evictor. `J` and `B` are their names in types, which `run` picks.
+#[derive(Drop)]
+pub struct FarMap<J: Naming, B: QueueNaming, D: Device> {
+    pub(crate) table: FarTable<Text, Text, J, D>,
+    pub(crate) queue: SpareQueue<Text, Text, J, B>,
+    // While one thread has the evictor, others wait for it.
+    pub(crate) evictor: Mutex<Evictor<Text, Text, J, B>>,
+    pub(crate) frames: u32,
+    // How many frames the evictor's thread keeps free.
+    pub(crate) reserve: u32,
+    // Where the evictor's thread sleeps while it has nothing to do.
+    pub(crate) bed: Parker,
+    // Whether all workers have ended.
+    pub(crate) ended: AtomicBool,
+    ghost some_frames: { 0 < frames },
+}

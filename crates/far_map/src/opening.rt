@@ -1,0 +1,57 @@
+//! A map over a table and a queue that are open.
+ghost use Rattle.std.specs.Prelude.{◌≡◌, ◌<◌, IfOk, IfErr, vec_len};
+ghost use Rattle.far_map.specs.Faults.{IsOfWorker};
+
+use crate::entering::enter;
+use crate::fault::RunFault;
+use crate::map::FarMap;
+use far_device::Device;
+use far_object::Text;
+use hash_table::{Config, FarTable};
+use std::alloc::Global;
+use std::sync::atomic::AtomicBool;
+use std::sync::{Mutex, Wait};
+use std::thread::Parker;
+use swapper::{Evictor, QueueNaming, QueueOpening, QueueSeat};
+use version_words::Naming;
+
+/// How many frames the evictor's thread keeps free: a quarter of all, and one at least.
+fn reserve_of(frames: u32) -> u32 {
+    (frames / 4).max(1)
+}
+
+/// The map, and a seat at its queue for each worker. The evictor enters first, with the seat that takes.
+pub(crate) fn map_over<J: Naming, B: QueueNaming, D: Device, R: Wait>(
+    rt: &R,
+    alloc: Global,
+    config: Config,
+    table: FarTable<Text, Text, J, D>,
+    queue: QueueOpening<Text, Text, J>,
+    workers: u32,
+) -> Result<(FarMap<J, B, D>, Vec<QueueSeat<Text, Text, J, B>>), RunFault>
+    requires queue { queue.table ≡ B.table }
+    requires frames { 0 < config.frames }
+    ensures limit { IfOk result (λ r. r.0.table.limit ≡ table.limit) }
+    ensures seats { IfOk result (λ r. vec_len r.1 ≡ workers) }
+    ensures fault { IfErr result IsOfWorker }
+{
+    let (queue, taker, seats) = match queue.named::<B>(alloc, workers) {
+        Ok(named) => named,
+        Err(_) => return Err(RunFault::Memory),
+    };
+    let own = enter(rt, &table)?;
+    let evictor = match Evictor::open(alloc, own, taker, config.frames, config.spares) {
+        Ok(evictor) => evictor,
+        Err(_) => return Err(RunFault::Memory),
+    };
+    let map = FarMap {
+        table,
+        queue,
+        evictor: Mutex::new(evictor),
+        frames: config.frames,
+        reserve: reserve_of(config.frames),
+        bed: Parker::new(),
+        ended: AtomicBool::new(false),
+    };
+    Ok((map, seats))
+}

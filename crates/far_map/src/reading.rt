@@ -1,0 +1,115 @@
+//! A value that is read where it lies.
+ghost use Rattle.std.specs.Prelude.{◌≡◌, ℕ, List, Some};
+ghost use Rattle.std.specs.Fn.{FnOnceReturnsAt};
+ghost use Rattle.table_core.specs.declared.operation.Operation.TheVariants.{Get};
+ghost use Rattle.far_map.specs.Answers.{IsReadBy, IsRead, IsFound};
+ghost use Rattle.far_map.specs.Counts.{Counts};
+ghost use Rattle.far_map.specs.Spares.{LosesNone};
+
+use crate::answering::answer;
+use crate::asked::Asked;
+use crate::holding::open_near;
+use crate::keeping::Seated;
+use crate::map::FarMap;
+use crate::refusal::Refusal;
+use crate::session::Session;
+use far_device::Device;
+use far_object::Text;
+use hash_table::TableScope;
+use std::alloc::Global;
+use std::sync::Wait;
+use swapper::QueueNaming;
+use version_words::Naming;
+
+/// What the reader makes of bytes.
+fn read_bytes<T, F: FnOnce(&[u8]) -> T>(bytes: &[u8], read: F) -> T
+    requires { F.IsAlwaysCallable read }
+    ensures { FnOnceReturnsAt F.FnOnce read bytes.now result }
+{
+    read(bytes)
+}
+
+/// What the reader makes of the value of a scope, which is closed then. A text's length stands before its bytes.
+fn read_held<J: Naming, T, F: FnOnce(&[u8]) -> T>(
+    scope: TableScope<'_, Text, Text, J>,
+    read: F,
+) -> T
+    requires { F.IsAlwaysCallable read }
+    ensures { (bytes : List ℕ) × (scope.entry.value ≡ Some bytes) × FnOnceReturnsAt F.FnOnce read bytes result }
+{
+    let made = read(&scope.bytes()[2..]);
+    scope.close();
+    made
+}
+
+/// What the reader makes of the key's value, where it lies in a frame, or where there is none for it of a copy.
+fn read_value<J: Naming, B: QueueNaming, D: Device, T, F: FnOnce(&[u8]) -> T + Drop, R: Wait>(
+    rt: &R,
+    alloc: Global,
+    map: &FarMap<J, B, D>,
+    seated: &mut Seated<J, B>,
+    key: &Text,
+    read: F,
+) -> Result<Option<T>, Refusal>
+    requires { F.IsAlwaysCallable read }
+    ensures read { IsReadBy J.limits map.now.table.limit seated.old.caller.pass seated.new.caller.pass key.now (FnOnceReturnsAt F.FnOnce read) result }
+    ensures none_lost { LosesNone seated.old.caller.limbo seated.old.seat seated.new.caller.limbo seated.new.seat }
+{
+    match open_near(rt, alloc, &map.table, &mut seated.caller, key) {
+        Ok(None) => return Ok(None),
+        Ok(Some(scope)) => return Ok(Some(read_held(scope, read))),
+        Err(_) => {}
+    }
+    match answer(rt, alloc, map, seated, &Asked::Get(key)) {
+        Ok(None) => Ok(None),
+        Ok(Some(text)) => Ok(Some(read_bytes(text.as_bytes(), read))),
+        Err(refusal) => Err(refusal),
+    }
+}
+
+/// The same, and what follows each call.
+fn read_and_keep<J: Naming, B: QueueNaming, D: Device, T, F: FnOnce(&[u8]) -> T + Drop, R: Wait>(
+    rt: &R,
+    alloc: Global,
+    map: &FarMap<J, B, D>,
+    seated: &mut Seated<J, B>,
+    key: &Text,
+    read: F,
+) -> Result<Option<T>, Refusal>
+    requires { F.IsAlwaysCallable read }
+    ensures read { IsReadBy J.limits map.now.table.limit seated.old.caller.pass seated.new.caller.pass key.now (FnOnceReturnsAt F.FnOnce read) result }
+    ensures none_lost { LosesNone seated.old.caller.limbo seated.old.seat seated.new.caller.limbo seated.new.seat }
+{
+    let made = read_value(rt, alloc, map, seated, key, read);
+    map.after_call(rt, seated);
+    made
+}
+
+impl<'m, J: Naming, B: QueueNaming, D: Device> Session<'m, J, B, D> {
+    /// What the reader makes of the key's value, or none where the key has none.
+    pub(crate) fn read<T, F: FnOnce(&[u8]) -> T + Drop, R: Wait>(
+        &mut self,
+        rt: &R,
+        key: &Text,
+        read: F,
+    ) -> Result<Option<T>, Refusal>
+        requires { F.IsAlwaysCallable read }
+        ensures read { IsRead J.limits self.old self.new key.now (FnOnceReturnsAt F.FnOnce read) result }
+        ensures counts { Counts self.old self.new (Get key.now) result }
+    {
+        let made = read_and_keep(rt, self.alloc, self.map, &mut self.seated, key, read);
+        self.stats.count(&Asked::Get(key), &made);
+        made
+    }
+
+    /// Whether the key has a value.
+    pub(crate) fn find<R: Wait>(&mut self, rt: &R, key: &Text) -> Result<bool, Refusal>
+        ensures found { IsFound J.limits self.old self.new key.now result }
+        ensures counts { Counts self.old self.new (Get key.now) result }
+    {
+        match self.read(rt, key, |_| ()) {
+            Ok(found) => Ok(found.is_some()),
+            Err(refusal) => Err(refusal),
+        }
+    }
+}

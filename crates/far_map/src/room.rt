@@ -1,0 +1,59 @@
+//! What is done between two tries of a call.
+ghost use Rattle.std.specs.Prelude.{◌≡◌, ◌⊎◌, IfErr};
+ghost use Rattle.far_map.specs.Refusals.{said, IsOfRoom};
+ghost use Rattle.far_map.specs.Spares.{LosesNone};
+ghost use Rattle.version_words.specs.Views.{Goes};
+
+use crate::keeping::Seated;
+use crate::map::FarMap;
+use crate::refusal::{Refusal, said};
+use far_device::Device;
+use hash_table::Refusal as TableRefusal;
+use std::sync::Wait;
+use swapper::QueueNaming;
+use version_words::Naming;
+
+/// How many further tries a call has.
+pub(crate) const MOST_TRIES: u32 = 1_000;
+
+/// Has a frame emptied. Where that is refused for a reason that stays, so is the call. Spent names are no such reason here: the
+/// call itself says it, or finds its frame by another.
+fn empty_frame<J: Naming, B: QueueNaming, D: Device, R: Wait>(
+    rt: &R,
+    map: &FarMap<J, B, D>,
+    seated: &mut Seated<J, B>,
+) -> Result<(), Refusal>
+    ensures pass { Goes seated.old.caller.pass seated.new.caller.pass }
+    ensures none_lost { LosesNone seated.old.caller.limbo seated.old.seat seated.new.caller.limbo seated.new.seat }
+    ensures why { IfErr result IsOfRoom }
+{
+    match map.empty_frames(rt, seated) {
+        Err(TableRefusal::Memory) => Err(Refusal::Memory),
+        Err(TableRefusal::Device) => Err(Refusal::Device),
+        Err(TableRefusal::NamesSpent) => Err(Refusal::Full),
+        _ => Ok(()),
+    }
+}
+
+/// Makes room after a refusal: a frame where none was free, and spares go where too many wait. Every other refusal is the
+/// call's.
+pub(crate) fn make_room<J: Naming, B: QueueNaming, D: Device, R: Wait>(
+    rt: &R,
+    map: &FarMap<J, B, D>,
+    seated: &mut Seated<J, B>,
+    refusal: TableRefusal,
+) -> Result<(), Refusal>
+    ensures pass { Goes seated.old.caller.pass seated.new.caller.pass }
+    ensures none_lost { LosesNone seated.old.caller.limbo seated.old.seat seated.new.caller.limbo seated.new.seat }
+    ensures why { IfErr result (λ why. (why ≡ said refusal) ⊎ IsOfRoom why) }
+{
+    match refusal {
+        TableRefusal::NoFrame => empty_frame(rt, map, seated),
+        TableRefusal::LimboFull => {
+            map.settle(rt, seated);
+            map.collect(rt);
+            Ok(())
+        }
+        _ => Err(said(refusal)),
+    }
+}

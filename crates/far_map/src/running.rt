@@ -1,0 +1,193 @@
+//! A run: from settings and devices to a map, its workers, and its end. The names in types are picked here.
+ghost use Rattle.std.specs.Prelude.{◌≡◌, ◌<◌, None, IfOk, IfErr, vec_len};
+ghost use Rattle.std.specs.Option.{option_map};
+ghost use Rattle.version_words.specs.Rows.{limits_of};
+ghost use Rattle.hash_table.specs.Configs.{sizes_of};
+ghost use Rattle.far_map.specs.Faults.{IsLater, IsRunFault};
+ghost use Rattle.far_map.specs.Settings.{config_of, first_bad};
+ghost use Rattle.far_map.specs.Runs.{EndsSo, IsRun, IsRunApart};
+
+use crate::fault::{RunFault, of_opening};
+use crate::opening::map_over;
+use crate::settings::{Settings, setting_of};
+use crate::sharing::serve;
+use crate::work::Work;
+use far_device::Device;
+use far_object::Text;
+use hash_table::{Config, FarTable, Opening};
+use std::alloc::Global;
+use std::marker::Brand;
+use std::sync::Wait;
+use std::thread::Threads;
+use swapper::{QueueNaming, QueueOpening};
+use version_words::Naming;
+
+/// All pairs of a map.
+type Pairs = Vec<(Text, Text)>;
+
+/// A run over a table and a queue that were just opened.
+fn over_queue<J, B, D, W, R>(
+    rt: &R,
+    alloc: Global,
+    config: Config,
+    table: FarTable<Text, Text, J, D>,
+    queue: QueueOpening<Text, Text, J>,
+    count: u32,
+    work: &W,
+    collects: bool,
+) -> Result<(Vec<W::Out>, Option<Pairs>), RunFault>
+where
+    J: Naming + Send + Sync,
+    B: QueueNaming + Send + Sync,
+    D: Device + Send,
+    W: Work,
+    R: Threads + Wait + Sync,
+    requires queue { queue.table ≡ B.table }
+    requires frames { 0 < config.frames }
+    ensures ran { IfOk result (λ r. EndsSo (W.done work.now) J.limits table.limit count r.0.items collects (option_map (λ v. v.items) r.1)) }
+    ensures fault { IfErr result (IsLater J.limits.honest) }
+{
+    let (far, seats) = match map_over::<J, B, D, R>(rt, alloc, config, table, queue, count) {
+        Ok(opened) => opened,
+        Err(fault) => return Err(fault),
+    };
+    let (callers, outs) = match serve(rt, alloc, &far, work, seats) {
+        Ok(ended) => ended,
+        Err(fault) => return Err(fault),
+    };
+    if !collects {
+        far.abandon(&callers);
+        return Ok((outs, None));
+    }
+    match far.close(rt, alloc, callers) {
+        Ok(pairs) => Ok((outs, Some(pairs))),
+        Err(fault) => Err(fault),
+    }
+}
+
+/// A run over a row of words that was just opened.
+fn over_row<J, D, W, R>(
+    rt: &R,
+    alloc: Global,
+    config: Config,
+    opening: Opening<Text, Text, D>,
+    count: u32,
+    work: &W,
+    collects: bool,
+) -> Result<(Vec<W::Out>, Option<Pairs>), RunFault>
+where
+    J: Naming + Send + Sync,
+    D: Device + Send,
+    W: Work,
+    R: Threads + Wait + Sync,
+    requires book { opening.row.book ≡ J.book }
+    requires boards { opening.row.names ≡ J.names }
+    requires limits { limits_of (sizes_of opening.config) D.HONEST ≡ J.limits }
+    requires config { opening.config ≡ config }
+    requires frames { 0 < config.frames }
+    requires spares { 0 < config.spares }
+    ensures ran { IfOk result (λ r. EndsSo (W.done work.now) (limits_of (sizes_of config) D.HONEST) config.limit count r.0.items collects (option_map (λ v. v.items) r.1)) }
+    ensures fault { IfErr result (IsLater D.HONEST) }
+{
+    let table = match opening.named::<J>(alloc) {
+        Ok(table) => table,
+        Err(fault) => return Err(of_opening(fault)),
+    };
+    let queue = match QueueOpening::open(alloc, config.spares) {
+        Ok(queue) => queue,
+        Err(_) => return Err(RunFault::Memory),
+    };
+    over_queue::<J, Brand, D, W, R>(rt, alloc, config, table, queue, count, work, collects)
+}
+
+/// A run over these devices, one for each lane.
+fn over_devices<D, W, R>(
+    rt: &R,
+    alloc: Global,
+    settings: Settings,
+    devices: Vec<D>,
+    workers: u32,
+    work: &W,
+    collects: bool,
+) -> Result<(Vec<W::Out>, Option<Pairs>), RunFault>
+where
+    D: Device + Send,
+    W: Work,
+    R: Threads + Wait + Sync,
+    ensures ran { IfOk result (λ r. EndsSo (W.done work.now) (limits_of (sizes_of (config_of settings (vec_len devices))) D.HONEST) settings.limit workers r.0.items collects (option_map (λ v. v.items) r.1)) }
+    ensures within { IfOk result (λ _. first_bad settings (vec_len devices) ≡ None) }
+    ensures fault { IfErr result (IsRunFault D.HONEST (first_bad settings (vec_len devices))) }
+{
+    let config = settings.config(devices.len());
+    if let Some(number) = config.first_bad_with(devices.len()) {
+        return Err(RunFault::BadSetting(setting_of(number)));
+    }
+    if settings.passes <= workers {
+        return Err(RunFault::PassesSpent);
+    }
+    let opening = match Opening::open(alloc, config, devices) {
+        Ok(opening) => opening,
+        Err(fault) => return Err(of_opening(fault)),
+    };
+    over_row::<Brand, D, W, R>(rt, alloc, config, opening, workers, work, collects)
+}
+
+/// Opens a map over these devices, one for each lane, and has so many workers do the work on it, each on a thread of its own as
+/// far as threads can be started, and where they are several beside a thread that keeps frames free; then it closes the map. It
+/// answers what the workers gave back, in their order, and all pairs in key order.
+///
+/// `BadSetting` names the first setting that is outside its limits, before anything else is done, and `PassesSpent` comes next,
+/// where there are not as many passes as workers and one more. `Memory` comes where a growth is refused, `Device` where a device
+/// fails as it is made empty or at the end, `Damaged` where what it gives at the end is no object of its bucket and name, and
+/// `Missed` where a frame or a lane does not give a name then. The map is gone after each.
+pub fn run<D, W, R>(
+    rt: &R,
+    alloc: Global,
+    settings: Settings,
+    devices: Vec<D>,
+    workers: u32,
+    work: &W,
+) -> Result<(Vec<W::Out>, Vec<(Text, Text)>), RunFault>
+where
+    D: Device + Send,
+    W: Work,
+    R: Threads + Wait + Sync,
+    ensures ran { IfOk result (λ r. IsRun (W.done work.now) (limits_of (sizes_of (config_of settings (vec_len devices))) D.HONEST) settings.limit workers r.0.items r.1.items) }
+    ensures within { IfOk result (λ _. first_bad settings (vec_len devices) ≡ None) }
+    ensures fault { IfErr result (IsRunFault D.HONEST (first_bad settings (vec_len devices))) }
+{
+    match over_devices(rt, alloc, settings, devices, workers, work, true) {
+        Ok((outs, pairs)) => match pairs {
+            Some(pairs) => Ok((outs, pairs)),
+            None => unreachable!(),
+        },
+        Err(fault) => Err(fault),
+    }
+}
+
+/// As `run`, but the pairs are not collected at the end, for a map that has more than memory holds: it answers what the workers
+/// gave back, in their order. The map is gone then. Its faults are those of `run` before the end.
+pub fn run_apart<D, W, R>(
+    rt: &R,
+    alloc: Global,
+    settings: Settings,
+    devices: Vec<D>,
+    workers: u32,
+    work: &W,
+) -> Result<Vec<W::Out>, RunFault>
+where
+    D: Device + Send,
+    W: Work,
+    R: Threads + Wait + Sync,
+    ensures ran { IfOk result (λ outs. IsRunApart (W.done work.now) (limits_of (sizes_of (config_of settings (vec_len devices))) D.HONEST) settings.limit workers outs.items) }
+    ensures within { IfOk result (λ _. first_bad settings (vec_len devices) ≡ None) }
+    ensures fault { IfErr result (IsRunFault D.HONEST (first_bad settings (vec_len devices))) }
+{
+    match over_devices(rt, alloc, settings, devices, workers, work, false) {
+        Ok((outs, pairs)) => match pairs {
+            None => Ok(outs),
+            Some(_) => unreachable!(),
+        },
+        Err(fault) => Err(fault),
+    }
+}

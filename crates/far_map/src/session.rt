@@ -1,0 +1,68 @@
+//! One thread's way to the map.
+ghost use Rattle.std.specs.Prelude.{◌≡◌};
+ghost use Rattle.far_map.specs.Asks.{asked};
+ghost use Rattle.far_map.specs.Answers.{Answers};
+ghost use Rattle.far_map.specs.Counts.{Counts};
+
+use crate::answering::answer_and_keep;
+use crate::asked::Asked;
+use crate::keeping::Seated;
+use crate::map::FarMap;
+use crate::refusal::Refusal;
+use crate::stats::Stats;
+use far_device::Device;
+use far_object::Text;
+use hash_table::Caller;
+use std::alloc::Global;
+use std::marker::Model;
+use std::sync::Wait;
+use swapper::QueueNaming;
+use version_words::Naming;
+
+/// A pass of its own, with all that its calls need; workers see it through `Calls`. Contracts see the pass, the most bytes of an
+/// object of the map, and what it has counted.
+#[derive(Drop)]
+pub struct Session<'m, J: Naming, B: QueueNaming, D: Device> {
+    pub(crate) map: &'m FarMap<J, B, D>,
+    pub(crate) alloc: Global,
+    pub(crate) seated: Seated<J, B>,
+    pub(crate) stats: Stats,
+}
+
+impl<'m, J: Naming, B: QueueNaming, D: Device> Model for Session<'m, J, B, D> {
+    ghost use Rattle.far_map.specs.Views.{SessionView};
+
+    ghost Value = { SessionView };
+
+    ghost view = { λ s. record { pass = s.seated.caller.pass; limit = s.map.now.table.limit; stats = s.stats } };
+}
+
+impl<'m, J: Naming, B: QueueNaming, D: Device> Session<'m, J, B, D> {
+    /// One call that takes or gives whole texts.
+    pub(crate) fn ask<R: Wait>(&mut self, rt: &R, ask: &Asked<'_>) -> Result<Option<Text>, Refusal>
+        ensures answers { Answers J.limits self.old self.new (asked ask.now) result }
+        ensures counts { Counts self.old self.new (asked ask.now) result }
+    {
+        let answered = answer_and_keep(rt, self.alloc, self.map, &mut self.seated, ask);
+        self.stats.count(ask, &answered);
+        answered
+    }
+
+    /// Ends the session: its caller is wanted for the end of the map.
+    pub(crate) fn leave(self) -> Caller<Text, Text, J>
+        ensures { result.pass ≡ self.entry.pass }
+    {
+        let Session {
+            map: _,
+            alloc: _,
+            seated,
+            stats: _,
+        } = self;
+        let Seated {
+            caller,
+            seat: _,
+            room: _,
+        } = seated;
+        caller
+    }
+}

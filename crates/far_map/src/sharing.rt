@@ -1,0 +1,156 @@
+//! One worker after another, side by side as far as threads can be started, and beside the evictor.
+ghost use Rattle.std.specs.Prelude.{◌≡◌, ◌<◌, ◌^◌, ◌++◌, ◌∷◌, [], map, vec_len, IfOk, IfErr};
+ghost use Rattle.std.specs.Thread.{IsSync, IsSend};
+ghost use Rattle.far_map.specs.Faults.{IsOfWorker};
+ghost use Rattle.far_map.specs.Runs.{IsServed, Worked};
+ghost use Rattle.far_map.specs.Firsts.{both};
+
+use crate::fault::RunFault;
+use crate::map::FarMap;
+use crate::work::Work;
+use far_device::Device;
+use far_object::Text;
+use hash_table::Caller;
+use std::alloc::Global;
+use std::sync::Wait;
+use std::thread::{Threads, join};
+use swapper::{QueueNaming, QueueSeat};
+use version_words::Naming;
+
+/// The callers of workers that have ended, and what they gave back, in the order of the workers.
+pub(crate) type Ended<J, T> = (Vec<Caller<Text, Text, J>>, Vec<T>);
+
+/// Both, or the fault of the first that has one.
+fn both<A: Drop, B: Drop, E: Drop>(first: Result<A, E>, then: Result<B, E>) -> Result<(A, B), E>
+    ensures { result ≡ both first then }
+{
+    match first {
+        Ok(a) => match then {
+            Ok(b) => Ok((a, b)),
+            Err(fault) => Err(fault),
+        },
+        Err(fault) => Err(fault),
+    }
+}
+
+/// The worker's caller and what it gave back, behind those of the others.
+fn with_last<J: Naming, T: Drop>(
+    others: Ended<J, T>,
+    last: (Caller<Text, Text, J>, T),
+) -> Result<Ended<J, T>, RunFault>
+    ensures callers { IfOk result (λ r. map (λ c. c.pass) r.0.items ≡ map (λ c. c.pass) others.0.items ++ last.0.pass ∷ []) }
+    ensures outs { IfOk result (λ r. r.1.items ≡ others.1.items ++ last.1 ∷ []) }
+    ensures fault { IfErr result IsOfWorker }
+{
+    let (mut callers, mut outs) = others;
+    let (caller, out) = last;
+    let (Ok(()), Ok(())) = (callers.push(caller), outs.push(out)) else {
+        return Err(RunFault::Memory);
+    };
+    Ok((callers, outs))
+}
+
+/// One worker: its session, from its beginning to its end.
+fn one<J, B, D, W, R>(
+    rt: &R,
+    alloc: Global,
+    far: &FarMap<J, B, D>,
+    work: &W,
+    seat: QueueSeat<Text, Text, J, B>,
+    worker: u32,
+) -> Result<(Caller<Text, Text, J>, W::Out), RunFault>
+where
+    J: Naming,
+    B: QueueNaming,
+    D: Device,
+    W: Work,
+    R: Wait,
+    ensures served { IfOk result (λ r. IsServed (λ begun ended out. W.done work.now worker J.limits begun ended out) far.now.table.limit r.0.pass r.1) }
+    ensures fault { IfErr result IsOfWorker }
+{
+    let mut me = far.enter(rt, alloc, seat, worker)?;
+    let out = work.work(rt, alloc, worker, &mut me);
+    Ok((me.leave(), out))
+}
+
+/// A worker for each seat: the last on a thread of its own, and the others on this one and theirs. Of several faults that of the
+/// first worker is answered.
+fn workers<J, B, D, W, R>(
+    rt: &R,
+    alloc: Global,
+    far: &FarMap<J, B, D>,
+    work: &W,
+    mut seats: Vec<QueueSeat<Text, Text, J, B>>,
+) -> Result<Ended<J, W::Out>, RunFault>
+where
+    J: Naming + Send + Sync,
+    B: QueueNaming + Send + Sync,
+    D: Device + Send,
+    W: Work,
+    R: Threads + Wait + Sync,
+    requires few { vec_len seats < 2 ^ 32 }
+    ensures worked { IfOk result (λ r. Worked (λ worker begun ended out. W.done work.now worker J.limits begun ended out) far.now.table.limit (vec_len seats) (map (λ c. c.pass) r.0.items) r.1.items) }
+    ensures fault { IfErr result IsOfWorker }
+{
+    let Some(seat) = seats.pop() else {
+        return Ok((Vec::new(alloc), Vec::new(alloc)));
+    };
+    let last = seats.len() as u32;
+    if last == 0 {
+        let alone = one(rt, alloc, far, work, seat, 0)?;
+        return with_last((Vec::new(alloc), Vec::new(alloc)), alone);
+    }
+    let (own, others) = join(
+        rt,
+        || -> Result<(Caller<Text, Text, J>, W::Out), RunFault>
+            requires { IsSync R.row }
+            ensures served { IfOk result (λ r. IsServed (λ begun ended out. W.done work.entry.now last J.limits begun ended out) far.entry.now.table.limit r.0.pass r.1) }
+            ensures fault { IfErr result IsOfWorker }
+        { one(rt, alloc, far, work, seat, last) },
+        || -> Result<Ended<J, W::Out>, RunFault>
+            requires { IsSync R.row × IsSend J.row × IsSync J.row × IsSend B.row × IsSync B.row × IsSend D.row × IsSync W.row × IsSend W.Out.row × (vec_len seats < 2 ^ 32) }
+            ensures worked { IfOk result (λ r. Worked (λ worker begun ended out. W.done work.entry.now worker J.limits begun ended out) far.entry.now.table.limit (vec_len seats) (map (λ c. c.pass) r.0.items) r.1.items) }
+            ensures fault { IfErr result IsOfWorker }
+        { workers(rt, alloc, far, work, seats) },
+    );
+    let (others, own) = both(others, own)?;
+    with_last(others, own)
+}
+
+/// The workers beside the evictor's thread, where there are several. Where that can't be started its loop begins when all workers
+/// have ended, and ends at once: sessions make room by themselves.
+pub(crate) fn serve<J, B, D, W, R>(
+    rt: &R,
+    alloc: Global,
+    far: &FarMap<J, B, D>,
+    work: &W,
+    seats: Vec<QueueSeat<Text, Text, J, B>>,
+) -> Result<Ended<J, W::Out>, RunFault>
+where
+    J: Naming + Send + Sync,
+    B: QueueNaming + Send + Sync,
+    D: Device + Send,
+    W: Work,
+    R: Threads + Wait + Sync,
+    requires few { vec_len seats < 2 ^ 32 }
+    ensures worked { IfOk result (λ r. Worked (λ worker begun ended out. W.done work.now worker J.limits begun ended out) far.now.table.limit (vec_len seats) (map (λ c. c.pass) r.0.items) r.1.items) }
+    ensures fault { IfErr result IsOfWorker }
+{
+    if seats.len() < 2 {
+        return workers(rt, alloc, far, work, seats);
+    }
+    let (_, done) = join(
+        rt,
+        || far.evict(rt),
+        || -> Result<Ended<J, W::Out>, RunFault>
+            requires { IsSync R.row × IsSend J.row × IsSync J.row × IsSend B.row × IsSync B.row × IsSend D.row × IsSync W.row × IsSend W.Out.row × (vec_len seats < 2 ^ 32) }
+            ensures worked { IfOk result (λ r. Worked (λ worker begun ended out. W.done work.entry.now worker J.limits begun ended out) far.entry.now.table.limit (vec_len seats) (map (λ c. c.pass) r.0.items) r.1.items) }
+            ensures fault { IfErr result IsOfWorker }
+        {
+            let done = workers(rt, alloc, far, work, seats);
+            far.stop_evicting();
+            done
+        },
+    );
+    done
+}

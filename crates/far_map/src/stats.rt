@@ -1,0 +1,84 @@
+//! What a session counts.
+ghost use Rattle.std.specs.Prelude.{◌≡◌};
+ghost use Rattle.far_map.specs.Asks.{asked};
+ghost use Rattle.far_map.specs.Counts.{no_calls, finished_more, refused_more, counted};
+
+use crate::asked::Asked;
+use crate::refusal::Refusal;
+
+/// What a session has counted of its own calls: those that were finished, by kind, and those that were refused, by reason. A
+/// count of 2^64 - 1 stays.
+#[derive(Clone, Copy, Debug, PartialEq, Eq)]
+pub struct Stats {
+    /// Gets that were finished; `with` and `contains` are gets.
+    pub gets: u64,
+    pub puts: u64,
+    pub removes: u64,
+    pub put_ifs: u64,
+    /// Calls that were refused with `TooLong`, and so on.
+    pub too_long: u64,
+    pub full: u64,
+    pub names_spent: u64,
+    pub device: u64,
+    pub damaged: u64,
+    pub memory: u64,
+}
+
+fn more(count: u64) -> u64
+    ensures { result ≡ Rattle.far_map.specs.Counts.more count }
+{
+    count.saturating_add(1)
+}
+
+impl Stats {
+    pub(crate) fn new() -> Stats
+        ensures { result ≡ no_calls }
+    {
+        Stats {
+            gets: 0,
+            puts: 0,
+            removes: 0,
+            put_ifs: 0,
+            too_long: 0,
+            full: 0,
+            names_spent: 0,
+            device: 0,
+            damaged: 0,
+            memory: 0,
+        }
+    }
+
+    fn finish(&mut self, ask: &Asked<'_>)
+        ensures { self.new ≡ finished_more (asked ask.now) self.old }
+    {
+        match ask {
+            Asked::Get(_) => self.gets = more(self.gets),
+            Asked::Put(_, _) => self.puts = more(self.puts),
+            Asked::Remove(_) => self.removes = more(self.removes),
+            Asked::PutIf(_, _, _) => self.put_ifs = more(self.put_ifs),
+        }
+    }
+
+    fn refuse(&mut self, refusal: Refusal)
+        ensures { self.new ≡ refused_more refusal self.old }
+    {
+        match refusal {
+            Refusal::TooLong => self.too_long = more(self.too_long),
+            Refusal::Full => self.full = more(self.full),
+            Refusal::NamesSpent => self.names_spent = more(self.names_spent),
+            Refusal::Device => self.device = more(self.device),
+            Refusal::Damaged => self.damaged = more(self.damaged),
+            Refusal::Memory => self.memory = more(self.memory),
+        }
+    }
+
+    /// Counts a call that was answered so.
+    pub(crate) fn count<T>(&mut self, ask: &Asked<'_>, answered: &Result<T, Refusal>)
+        ensures { self.new ≡ counted (asked ask.now) answered.now self.old }
+    {
+        match answered {
+            Ok(_) => self.finish(ask),
+            Err(refusal) => self.refuse(*refusal),
+        }
+    }
+}

@@ -1,0 +1,9 @@
+//! The map as programs use it: the one that the docs show, a crowd over few frames, and each refusal and fault.
+
+mod crowded;
+mod holds;
+mod moves;
+mod numbers;
+mod planets;
+mod refusals;
+mod updates;
