@@ -8,3 +8,4 @@ pub mod Steps
 pub mod Meeting
 pub mod Settings
 pub mod Ends
+pub mod Takers

@@ -1,5 +1,5 @@
 -- What the end of a table tells.
-use Rattle.std.specs.Prelude.{◌≡◌, ℕ, ◌+◌, ◌<◌, IsTrue, List, [], length, map, slice_index_or, ⊤}
+use Rattle.std.specs.Prelude.{◌≡◌, ℕ, ◌+◌, ◌++◌, ◌<◌, IsTrue, List, [], length, map, slice_index_or, ⊤}
 use Rattle.std.specs.List.Sorted.{IsPermutation, IsSortedBy}
 use Rattle.std.specs.Ordering.{is_lt}
 use mathlib.Core.List.{IsPrefix}
@@ -13,6 +13,12 @@ use Rattle.version_words.specs.Views.{PassView, Goes, IsWhole, AreNone, AreApart
 use Rattle.hash_table.specs.declared.caller.Caller.{Caller}
 use Rattle.hash_table.specs.declared.closing.CloseFault.{CloseFault}
 use Rattle.hash_table.specs.declared.closing.CloseFault.TheVariants.{PassMissing, Memory, Device, Damaged, Missed}
+use Rattle.hash_table.specs.declared.handing.HandFault.{HandFault}
+use Rattle.hash_table.specs.declared.handing.HandFault.TheVariants.{Close, Stopped}
+
+-- a taker has taken some pairs, one bucket behind the other, and this is so of them
+abbrev pub Hands : {K V S : Type 0} → (S → List (K × V) → S → Type 0) → (List (K × V) → Type 0) → S → S → Type 0
+Hands {K} {V} Takes P old new = (pairs : List (K × V)) × Takes old pairs new × P pairs
 
 -- no call was added between the two
 abbrev pub HistoryStays : {K V : Type 0} → List (Event K V) → List (Event K V) → Type 0
@@ -75,3 +81,8 @@ module _ {K V J : Type 0} (ek : K → List ℕ) (ev : V → List ℕ) (l : Limit
   IsCloseFault count Device = ⊤
   IsCloseFault count Damaged = IsTrue l.honest → ⊥
   IsCloseFault count Missed = ⊤
+
+  -- why not all pairs were handed over: the table was not closed, or the taker stopped. It took what was handed over before
+  abbrev pub IsHandFault : {S : Type 0} → (S → List (K × V) → S → Type 0) → (S → S → Type 0) → S → S → ℕ → HandFault K V J → Type 0
+  IsHandFault Takes Stops old new count (Close fault) = IsCloseFault count fault × Hands Takes (λ _. ⊤) old new
+  IsHandFault {S} Takes Stops old new count Stopped = (mid : S) × Hands Takes (λ _. ⊤) old mid × Stops mid new

@@ -15,6 +15,7 @@ use crate::caller::Caller;
 use crate::refusal::Refusal;
 use crate::stages::seen::{Place, split};
 use crate::table::FarTable;
+use crate::traffic::Counted;
 use far_device::Device;
 use far_object::{FarObject, Memory, Object};
 use far_pairs::Bundle;
@@ -104,6 +105,7 @@ impl<K: FarObject, V: FarObject, J: Naming, D: Device> FarTable<K, V, J, D> {
         let object = match split(word) {
             Place::Nothing => {
                 empty_holds::<K, V>();
+                caller.limbo.count(Counted::LocalRead);
                 return Ok(());
             }
             Place::Frame(frame) => {
@@ -112,6 +114,7 @@ impl<K: FarObject, V: FarObject, J: Naming, D: Device> FarTable<K, V, J, D> {
                 };
                 let added = all.add(scope.object());
                 scope.close();
+                caller.limbo.count(Counted::LocalRead);
                 return match added {
                     Ok(()) => Ok(()),
                     Err(_) => Err(Refusal::Memory),
@@ -119,9 +122,13 @@ impl<K: FarObject, V: FarObject, J: Naming, D: Device> FarTable<K, V, J, D> {
             }
             Place::Device => match self.read_device(rt, alloc, &caller.pass, bucket, word) {
                 Ok(object) => object,
-                Err(refusal) => return Err(refusal),
+                Err(refusal) => {
+                    caller.limbo.count(Counted::Refused(refusal));
+                    return Err(refusal);
+                }
             },
         };
+        caller.limbo.count(Counted::FarRead);
         match all.add(&object) {
             Ok(()) => Ok(()),
             Err(_) => Err(Refusal::Memory),

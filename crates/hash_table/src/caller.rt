@@ -4,6 +4,7 @@ ghost use Rattle.table_core.specs.Lawful.{IsLawful};
 ghost use Rattle.hash_table.specs.Calls.{most_spares};
 
 use crate::limbo::Limbo;
+use crate::traffic::Traffic;
 use far_object::FarObject;
 use version_words::{Mark, Naming, Pass, PassHolder, Spare, Words};
 
@@ -29,6 +30,11 @@ impl<K: FarObject, V: FarObject, J: Naming> Caller<K, V, J> {
         ensures few { result ≤ most_spares }
     {
         self.limbo.len()
+    }
+
+    /// What its calls did since it entered. Nothing is claimed of it.
+    pub fn traffic(&self) -> Traffic {
+        self.limbo.traffic()
     }
 
     /// Takes out the oldest spare; none only where none waits.

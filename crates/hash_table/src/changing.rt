@@ -22,6 +22,7 @@ use crate::round::{Round, after};
 use crate::stages::build::{Built, build, build_first};
 use crate::stages::seen::{Place, split};
 use crate::table::FarTable;
+use crate::traffic::Counted;
 use far_device::Device;
 use far_object::FarObject;
 use std::alloc::Global;
@@ -60,10 +61,11 @@ impl<K: FarObject, V: FarObject, J: Naming, D: Device> FarTable<K, V, J, D> {
                 let Ok(scope) = self.enter_frame(pass, b, old, frame) else {
                     return Err(Refusal::Missed);
                 };
+                let replaced = scope.object().as_bytes().len();
                 let built = build(alloc, scope.object(), operation, self.limit);
                 scope.close();
                 match built {
-                    Ok(built) => Ok(built),
+                    Ok(built) => Ok(Built { replaced, ..built }),
                     Err(refusal) => Err(refusal),
                 }
             }
@@ -184,6 +186,7 @@ impl<K: FarObject, V: FarObject, J: Naming, D: Device> FarTable<K, V, J, D> {
         let built = match self.build_anywhere(rt, alloc, &caller.pass, b, word, operation) {
             Ok(built) => built,
             Err(refusal) => {
+                caller.limbo.count(Counted::Refused(refusal));
                 return match after(refusal) {
                     Ok(round) => Ok(round),
                     Err(refusal) => Err(refusal),

@@ -43,7 +43,7 @@ pub enum CloseFault<K: FarObject, V: FarObject, J: Naming> {
 }
 
 impl<K: FarObject, V: FarObject, J: Naming> CloseFault<K, V, J> {
-    fn text(&self) -> &'static str {
+    pub(crate) fn text(&self) -> &'static str {
         match self {
             CloseFault::PassMissing(_) => "pass missing",
             CloseFault::Memory => "memory",
@@ -69,7 +69,7 @@ impl<K: FarObject, V: FarObject, J: Naming> Display for CloseFault<K, V, J> {
 impl<K: FarObject, V: FarObject, J: Naming> error::Error for CloseFault<K, V, J> {}
 
 // The fault of a bucket that was not read.
-fn unread<K: FarObject, V: FarObject, J: Naming>(refusal: Refusal) -> CloseFault<K, V, J>
+pub(crate) fn unread<K: FarObject, V: FarObject, J: Naming>(refusal: Refusal) -> CloseFault<K, V, J>
     requires { IsUnreadFar J.limits.honest refusal }
     ensures { (n : ℕ) → IsCloseFault K.enc V.enc J.limits n result }
 {
@@ -92,7 +92,7 @@ fn sorted<K: FarObject, V: FarObject>(mut pairs: Vec<(K, V)>) -> Vec<(K, V)>
 
 impl<K: FarObject, V: FarObject, J: Naming, D: Device> FarTable<K, V, J, D> {
     // All passes at one front, where the callers are all that there are.
-    fn gather(
+    pub(crate) fn gather(
         &self,
         alloc: Global,
         callers: &mut [Caller<K, V, J>],

@@ -15,6 +15,7 @@ use crate::caller::Caller;
 use crate::refusal::{ReclaimFault, Refusal};
 use crate::stages::seen::{Place, lies_in, split};
 use crate::table::FarTable;
+use crate::traffic::Counted;
 use far_device::Device;
 use far_object::FarObject;
 use lane_store::LaneFault;
@@ -66,8 +67,13 @@ impl<K: FarObject, V: FarObject, J: Naming, D: Device> FarTable<K, V, J, D> {
         }
         let object = match self.read_device(rt, alloc, &caller.pass, b, word) {
             Ok(object) => object,
-            Err(refusal) => return Err(refusal),
+            Err(refusal) => {
+                caller.limbo.count(Counted::Refused(refusal));
+                return Err(refusal);
+            }
         };
+        caller.limbo.count(Counted::FarRead);
+        let length = object.as_bytes().len();
         match self.publish_local(
             &mut caller.pass,
             &mut caller.limbo,
@@ -76,7 +82,10 @@ impl<K: FarObject, V: FarObject, J: Naming, D: Device> FarTable<K, V, J, D> {
             object,
             &Change::Move,
         ) {
-            Ok(()) => Ok(true),
+            Ok(()) => {
+                caller.limbo.count(Counted::SwapIn(length));
+                Ok(true)
+            }
             Err(refusal) => Err(refusal),
         }
     }
@@ -150,7 +159,10 @@ impl<K: FarObject, V: FarObject, J: Naming, D: Device> FarTable<K, V, J, D> {
             FAR_PLACE => match self.lanes.remove(rt, &spare) {
                 Ok(there) => Ok(there),
                 Err(LaneFault::Memory) => Err((spare, ReclaimFault::Memory)),
-                Err(LaneFault::Device) => Err((spare, ReclaimFault::Device)),
+                Err(LaneFault::Device) => {
+                    caller.limbo.count(Counted::Refused(Refusal::Device));
+                    Err((spare, ReclaimFault::Device))
+                }
             },
             _ => match self.reclaim_frame(&mut caller.limbo, spare) {
                 Ok(there) => Ok(there),

@@ -18,6 +18,7 @@ use crate::refusal::Refusal;
 use crate::round::{Round, after};
 use crate::stages::seen::{Place, split};
 use crate::table::FarTable;
+use crate::traffic::Counted;
 use far_device::Device;
 use far_object::FarObject;
 use std::alloc::Global;
@@ -149,6 +150,7 @@ impl<K: FarObject, V: FarObject, J: Naming, D: Device> FarTable<K, V, J, D> {
             Ok(found) => found,
             Err(refusal) => return Err(refusal),
         };
+        caller.limbo.count(Counted::LocalRead);
         match self.answer(&mut caller.pass, b, word, key, found) {
             Ok(answer) => Ok(answer),
             Err(Moved) => Err(Refusal::Moved),
@@ -178,8 +180,12 @@ impl<K: FarObject, V: FarObject, J: Naming, D: Device> FarTable<K, V, J, D> {
         let word = self.words.look(&mut caller.pass, b);
         let found = match self.read_anywhere(rt, alloc, &caller.pass, b, word, key) {
             Ok(found) => found,
-            Err(refusal) => return Err(refusal),
+            Err(refusal) => {
+                caller.limbo.count(Counted::Refused(refusal));
+                return Err(refusal);
+            }
         };
+        caller.limbo.count(Counted::read(word));
         match self.answer(&mut caller.pass, b, word, key, found) {
             Ok(answer) => Ok(answer),
             Err(Moved) => Err(Refusal::Moved),

@@ -21,6 +21,7 @@ use crate::caller::Caller;
 use crate::refusal::Refusal;
 use crate::stages::build::{Built, is_met};
 use crate::table::FarTable;
+use crate::traffic::Counted;
 use far_device::Device;
 use far_object::FarObject;
 use std::alloc::Global;
@@ -79,6 +80,7 @@ impl<K: FarObject, V: FarObject, J: Naming, D: Device> FarTable<K, V, J, D> {
         let built = match self.build_anywhere(rt, alloc, &caller.pass, b, word, &removal) {
             Ok(built) => built,
             Err(refusal) => {
+                caller.limbo.count(Counted::Refused(refusal));
                 return match again(refusal) {
                     Ok(none) => Ok(none),
                     Err(refusal) => Err(refusal),
@@ -99,10 +101,9 @@ impl<K: FarObject, V: FarObject, J: Naming, D: Device> FarTable<K, V, J, D> {
                 },
             };
         }
-        let Built { answer, object: _ } = built;
         let kept = Built {
-            answer,
             object: None,
+            ..built
         };
         match self.settle(pass, limbo, b, word, kept, &Operation::Get(key)) {
             Ok(found) => Ok(Some(Removal {

@@ -14,6 +14,7 @@ use crate::caller::Caller;
 use crate::refusal::Refusal;
 use crate::stages::seen::{Place, split};
 use crate::table::FarTable;
+use crate::traffic::Counted;
 use far_device::Device;
 use far_object::{FarObject, Memory};
 use frame_cache::Scope;
@@ -101,6 +102,7 @@ impl<K: FarObject, V: FarObject, J: Naming, D: Device> FarTable<K, V, J, D> {
         match split(old) {
             Place::Device => Err(Refusal::Far),
             Place::Nothing => {
+                caller.limbo.count(Counted::LocalRead);
                 let Ok(()) = self.words.check(&mut caller.pass, b, old, &Probe::Get(key)) else {
                     return Err(Refusal::Moved);
                 };
@@ -111,6 +113,7 @@ impl<K: FarObject, V: FarObject, J: Naming, D: Device> FarTable<K, V, J, D> {
                     return Err(Refusal::Missed);
                 };
                 self.frames.touch(frame);
+                caller.limbo.count(Counted::LocalRead);
                 let _bytes = scope.object().as_bytes();
                 let found = scope.object().find(key);
                 let Ok(()) = self.words.check(&mut caller.pass, b, old, &Probe::Get(key)) else {

@@ -6,6 +6,7 @@
 //! has made no call, its seat is the one that takes, and both are of this table and this queue. So nothing that it does is
 //! a call of the history, and no answer of the table changes by it.
 ghost use Rattle.std.specs.Prelude.{◌≡◌, ◌+◌, ◌<◌, ◌≤◌, [], true, false, length, replicate, IfOk, IfErr, MatchBool};
+ghost use Rattle.table_core.specs.Lawful.{IsLawful};
 ghost use Rattle.version_words.specs.Views.{Goes, calls};
 ghost use Rattle.hash_table.specs.Refusals.{OfSwapOut};
 ghost use Rattle.swapper.specs.Evictors.{Collecting, Collects, Picks, GivesUp, IsTurn, IsTurnRefused, Turns};
@@ -18,12 +19,12 @@ use crate::naming::QueueNaming;
 use crate::queue::{QueueSeat, SpareQueue};
 use far_device::Device;
 use far_object::{FarObject, Memory};
-use hash_table::{Caller, FarTable, Refusal};
+use hash_table::{Caller, FarTable, Refusal, Traffic};
 use std::alloc::Global;
 use std::collections::VecDeque;
 use std::marker::Model;
 use std::sync::Wait;
-use version_words::{Naming, Spare};
+use version_words::{Mark, Naming, Spare};
 
 /// How many spares a collecting had reclaimed, and how many are kept.
 #[derive(Clone, Copy, Debug, PartialEq, Eq)]
@@ -98,6 +99,19 @@ impl<K: FarObject, V: FarObject, J: Naming, B: QueueNaming> Evictor<K, V, J, B> 
             clock,
             kept,
         })
+    }
+
+    /// A mark of what its caller has seen.
+    pub fn mark(&self) -> Mark<K, V, J>
+        ensures front { result ≡ self.now.pass.front }
+        ensures lawful { IsLawful K.enc V.enc J.limits result }
+    {
+        self.caller.mark()
+    }
+
+    /// What its caller's swap-outs and reclamations did. Nothing is claimed of it.
+    pub fn traffic(&self) -> Traffic {
+        self.caller.traffic()
     }
 
     /// Its caller, who has made no call. The spares that it keeps are dropped: what they name stays taken.

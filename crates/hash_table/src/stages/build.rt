@@ -19,6 +19,8 @@ use table_core::Operation;
 pub struct Built<K: FarObject, V: FarObject> {
     pub(crate) answer: Option<V>,
     pub(crate) object: Option<Object<K, V>>,
+    // The bytes of the object that there is, where it lies in a frame.
+    pub(crate) replaced: usize,
 }
 
 /// Whether the value is the expected one.
@@ -102,24 +104,28 @@ pub(crate) fn build_first<'a, K: FarObject, V: FarObject>(
             Ok(made) => Ok(Built {
                 answer: None,
                 object: Some(made),
+                replaced: 0,
             }),
             Err(refusal) => Err(refusal),
         },
         Operation::Get(_) | Operation::Remove(_) => Ok(Built {
             answer: None,
             object: None,
+            replaced: 0,
         }),
         Operation::PutIf(key, expected, value) => {
             if !is_met(*expected, &None) {
                 return Ok(Built {
                     answer: None,
                     object: None,
+                    replaced: 0,
                 });
             }
             match only(alloc, *key, *value, limit) {
                 Ok(made) => Ok(Built {
                     answer: None,
                     object: Some(made),
+                    replaced: 0,
                 }),
                 Err(refusal) => Err(refusal),
             }
@@ -151,24 +157,28 @@ pub(crate) fn build<'a, K: FarObject, V: FarObject>(
             Ok(made) => Ok(Built {
                 answer,
                 object: Some(made),
+                replaced: 0,
             }),
             Err(refusal) => Err(refusal),
         },
         Operation::Get(_) => Ok(Built {
             answer,
             object: None,
+            replaced: 0,
         }),
         Operation::Remove(_) => {
             if answer.is_none() {
                 return Ok(Built {
                     answer,
                     object: None,
+                    replaced: 0,
                 });
             }
             match entry.without(alloc) {
                 Ok(made) => Ok(Built {
                     answer,
                     object: Some(made),
+                    replaced: 0,
                 }),
                 Err(_) => Err(Refusal::Memory),
             }
@@ -178,12 +188,14 @@ pub(crate) fn build<'a, K: FarObject, V: FarObject>(
                 return Ok(Built {
                     answer,
                     object: None,
+                    replaced: 0,
                 });
             }
             match with(alloc, object, &entry, *value, limit) {
                 Ok(made) => Ok(Built {
                     answer,
                     object: Some(made),
+                    replaced: 0,
                 }),
                 Err(refusal) => Err(refusal),
             }

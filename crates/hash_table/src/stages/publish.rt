@@ -13,6 +13,7 @@ use crate::caller::Caller;
 use crate::limbo::Limbo;
 use crate::refusal::Refusal;
 use crate::table::FarTable;
+use crate::traffic::Counted;
 use far_device::Device;
 use far_object::{FarObject, Object};
 use frame_cache::Version;
@@ -184,6 +185,7 @@ impl<K: FarObject, V: FarObject, J: Naming, D: Device> FarTable<K, V, J, D> {
             }
         };
         let written = self.lanes.write(rt, &name, scope.object(), self.format);
+        let length = scope.object().as_bytes().len();
         scope.close();
         match written {
             Ok(()) => {}
@@ -193,6 +195,7 @@ impl<K: FarObject, V: FarObject, J: Naming, D: Device> FarTable<K, V, J, D> {
             }
             Err(LaneFault::Device) => {
                 caller.limbo.keep(Some(name.give_up(FAR_PLACE)));
+                caller.limbo.count(Counted::Refused(Refusal::Device));
                 return Err(Refusal::Device);
             }
         }
@@ -202,6 +205,7 @@ impl<K: FarObject, V: FarObject, J: Naming, D: Device> FarTable<K, V, J, D> {
         {
             Ok(installed) => {
                 caller.limbo.keep(installed.spare);
+                caller.limbo.count(Counted::SwapOut(length));
                 Ok(())
             }
             Err((Moved, name)) => {

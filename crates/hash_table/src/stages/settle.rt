@@ -16,6 +16,7 @@ use crate::limbo::Limbo;
 use crate::refusal::Refusal;
 use crate::stages::build::Built;
 use crate::table::FarTable;
+use crate::traffic::Counted;
 use far_device::Device;
 use far_object::FarObject;
 use table_core::Operation;
@@ -76,7 +77,12 @@ impl<K: FarObject, V: FarObject, J: Naming, D: Device> FarTable<K, V, J, D> {
         ensures why { IfErr result (λ e. IsUnpublished K.enc J.limits b old pass.old pass.new e) }
     {
         seen_answers::<K, V>();
-        let Built { answer, object } = built;
+        let Built {
+            answer,
+            object,
+            replaced,
+        } = built;
+        limbo.count(Counted::read(old));
         let Some(object) = object else {
             return match self.words.check(pass, b, old, &probe_of(operation)) {
                 Ok(()) => Ok(answer),
@@ -86,12 +92,19 @@ impl<K: FarObject, V: FarObject, J: Naming, D: Device> FarTable<K, V, J, D> {
         let change = change_of(operation);
         if object.count() == 0 {
             return match self.publish_empty(pass, limbo, b, old, &object, &change) {
-                Ok(()) => Ok(answer),
+                Ok(()) => {
+                    limbo.count(Counted::Replaced(replaced, 0));
+                    Ok(answer)
+                }
                 Err(refusal) => Err(refusal),
             };
         }
+        let length = object.as_bytes().len();
         match self.publish_local(pass, limbo, b, old, object, &change) {
-            Ok(()) => Ok(answer),
+            Ok(()) => {
+                limbo.count(Counted::Replaced(replaced, length));
+                Ok(answer)
+            }
             Err(refusal) => Err(refusal),
         }
     }

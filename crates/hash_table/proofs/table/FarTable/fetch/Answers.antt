@@ -1,4 +1,4 @@
-use Rattle.std.proofs.Common.{◌≡◌, ℕ, refl}
+use Rattle.std.proofs.Common.{◌≡◌, ◌∙◌, ℕ, refl}
 use Rattle.far_object.specs.Buckets.{bucket}
 use Rattle.table_core.specs.BucketWords.{far_place}
 use Rattle.hash_table.specs.Steps.{IsInFrame}
@@ -23,7 +23,7 @@ returns-in-Ok-publish_local-clause-fetched g c =
     let f = e.follows in
     let far = c.in-Device.ensures.1 in
     moved_over g.K.FarObject.enc g.J.Naming.limits c.bucket-b.result _ c.look-word.result f.0 (λ (p : ℕ). p ≡ far_place) (IsInFrame c.args.self.now.frames (bucket g.K.FarObject.enc g.J.Naming.limits.buckets c.args.key.now))
-    c.args.caller.now.limbo c.publish_local.new.limbo c.look-word.ensures.pass c.bucket-b.ensures.is far (rw (← c.bucket-b.ensures.is) f.1) f.2 e.left
+    c.args.caller.now.limbo c.count-in-Ok-publish_local.new.self c.look-word.ensures.pass c.bucket-b.ensures.is far (rw (← c.bucket-b.ensures.is) f.1) f.2 (c.count-in-Ok-publish_local.ensures ∙ rw c.count-2.ensures at e.left)
 
 pub returns-clause-refused : goal.returns-clause-refused
 returns-clause-refused g c = unpublished_refused g.K.FarObject.enc g.V.FarObject.enc g.J.Naming.limits c.bucket-b.result _ c.look-word.result c.in-Err-publish_local.refusal c.look-word.ensures.pass c.in-Err-publish_local.ensures.goes c.bucket-b.ensures.is c.look-word.ensures.word c.in-Err-publish_local.ensures.why
@@ -38,4 +38,4 @@ pub returns-clause-goes : goal.returns-clause-goes
 returns-clause-goes g c = goes_trans c.look-word.ensures.pass c.in-Err-publish_local.ensures.goes
 
 pub returns-in-Err-clause-given_up : goal.returns-in-Err-clause-given_up
-returns-in-Err-clause-given_up g c = unread_left g.J.Naming.limits.honest _ _ _ _ c.in-Err.refusal c.in-Err.ensures.why refl
+returns-in-Err-clause-given_up g c = unread_left g.J.Naming.limits.honest _ _ _ _ c.in-Err.refusal c.in-Err.ensures.why c.count.ensures

@@ -1,4 +1,4 @@
-use Rattle.std.proofs.Common.{◌≡◌, ℕ, refl}
+use Rattle.std.proofs.Common.{◌≡◌, ◌∙◌, ℕ, refl}
 use Rattle.hash_table.proofs.Fronts.{goes_self, goes_trans}
 use Rattle.hash_table.proofs.Refused.{undrawn_refused, undrawn_full, undrawn_of_swap_out, moved_seen}
 use Rattle.hash_table.specs.Steps.{IsOnDevice}
@@ -21,8 +21,8 @@ pub returns-in-Ok-install-clause-moved : goal.returns-in-Ok-install-clause-moved
 returns-in-Ok-install-clause-moved g c =
     let e = c.in-Ok-install.ensures in
     let w = c.in-Ok-install.installed.word in
-    moved_over g.K.FarObject.enc g.J.Naming.limits c.args.b c.args.b c.args.old w (λ (p : ℕ). p ≡ c.args.frame) (IsOnDevice c.args.self.now.format c.args.b) c.args.caller.now.limbo c.keep-in-Ok-install.new.self c.draw.ensures.pass refl c.requires.local.1
-    (on_device c.args.self.now.format c.args.b c.in-Ok-draw.name.number w e.word (rw c.in-Ok-draw.ensures.name.0 at c.in-Ok-written.ensures.stored)) e.follows (rw e.spare at c.keep-in-Ok-install.ensures)
+    moved_over g.K.FarObject.enc g.J.Naming.limits c.args.b c.args.b c.args.old w (λ (p : ℕ). p ≡ c.args.frame) (IsOnDevice c.args.self.now.format c.args.b) c.args.caller.now.limbo c.count-in-Ok-install.new.self c.draw.ensures.pass refl c.requires.local.1
+    (on_device c.args.self.now.format c.args.b c.in-Ok-draw.name.number w e.word (rw c.in-Ok-draw.ensures.name.0 at c.in-Ok-written.ensures.stored)) e.follows (c.count-in-Ok-install.ensures ∙ rw e.spare at c.keep-in-Ok-install.ensures)
 
 pub returns-in-Err-install-clause-goes : goal.returns-in-Err-install-clause-goes
 returns-in-Err-install-clause-goes g c = goes_trans c.draw.ensures.pass c.in-Err-install.ensures.pass
