@@ -3,8 +3,8 @@
 LIBRARY is refuse_growth.c, built. The program makes each public call of the libraries that can answer want of memory, and
 prints a line for it. With no growth refused each line is `CALL: ok`. With one refused, one line says something else:
 `memory, then ok`, where the growth was that call's, what should stand stood, and the same call made again did what it
-should; or `not prepared`, where it was a growth of what the call works on. Every call but those that take no memory is
-refused each of its growths.
+should; or `not prepared`, where it was a growth of what the call works on. No line does where a call does without the growth.
+Every call but those that take no memory is refused each of its growths.
 """
 import collections
 import os
@@ -18,12 +18,15 @@ MOST_GROWTHS = 6_000
 # The calls that take no memory. For the devices that wrap another, for lanes and for the table no clause says so.
 WITHOUT_GROWTH = {
     "Machine::enter", "Machine::move_to", "Lane::open", "Lane::remove", "LaneStore::remove", "FarTable::enter",
-    "FarTable::open_scope", "FarTable::reclaim, a frame", "FarTable::reclaim, the device",
+    "FarTable::open_scope", "FarTable::reclaim, a frame", "FarTable::reclaim, the device", "Calls::with, a frame",
+    "Calls::contains, a frame", "Calls::hold, a frame",
 } | {
     f"{device}Device::{call}"
     for device in ("Fake", "Faulty", "Lying", "Canned", "Watched")
     for call in ("remove", "construct")
 }
+# The calls that do without the growth that they are refused: they read a copy of a pair that they can't fetch.
+UNSEEN = {"Calls::with, the device", "Calls::contains, the device"}
 TOLD = ("memory, then ok", "not prepared")
 
 
@@ -39,19 +42,26 @@ def sweep(program, library):
     """Refuses each growth in turn, and gives the growths of each call, those of preparations, and the faulty runs."""
     whole = run_refused(program, library, [], [], "")
     names, growths = told(whole), whole[1]
-    growths_of, preparations, wrong = collections.Counter(), 0, []
+    others_of, growths_of, preparations, wrong = {}, collections.Counter(), 0, []
     if not names or set(names.values()) != {"ok"} or growths >= MOST_GROWTHS:
         return growths_of, 0, [f"none refused: {whole}"]
     for number in range(1, growths + 1):
         ran = run_refused(program, library, [], [], str(number))
         lines = told(ran)
         others = [(call, said) for call, said in lines.items() if said != "ok"]
-        if list(lines) != list(names) or len(others) != 1 or others[0][1] not in TOLD:
+        if list(lines) != list(names) or len(others) > 1 or any(said not in TOLD for _, said in others):
             wrong.append(f"{number}: {others or ran}")
-        elif others[0][1] == "not prepared":
-            preparations += 1
-        else:
-            growths_of[others[0][0]] += 1
+            continue
+        others_of[number] = dict(others)
+        preparations += "not prepared" in others_of[number].values()
+        growths_of.update(call for call, said in others if said == TOLD[0])
+    for number, others in others_of.items():
+        if not others:
+            # It belongs to the call that was told of just before and just behind it.
+            calls = {*others_of.get(number - 1, ()), *others_of.get(number + 1, ())}
+            growths_of.update(calls)
+            if len(calls) != 1 or not calls <= UNSEEN:
+                wrong.append(f"{number}: unseen, near {calls}")
     for call in names:
         if (growths_of[call] == 0) != (call in WITHOUT_GROWTH):
             wrong.append(f"{call} was refused {growths_of[call]} growths")

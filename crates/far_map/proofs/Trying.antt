@@ -17,6 +17,7 @@ use Rattle.hash_table.specs.Steps.{IsInstalledLater}
 use Rattle.hash_table.proofs.Fronts.{goes_self, goes_trans, finished_from}
 use Rattle.far_map.specs.declared.refusal.Refusal.{Refusal}
 use Rattle.far_map.specs.declared.refusal.Refusal.TheVariants as refusal
+use Rattle.far_map.specs.declared.refusal.Lack.TheVariants as lack
 use Rattle.far_map.specs.Refusals.{said, IsOfRoom}
 use Rattle.far_map.specs.Views.{View, Log, Call}
 use Rattle.far_map.specs.Answers.{MayRefuse, IsRefused, IsMade, IsDone, AnswersBy, Tries, IsReadBy, held_in}
@@ -31,13 +32,13 @@ module _ (l : Limits) (limit : ℕ) where
 
   pub change_refused : (old new : View) (o : Call) (e : TableRefusal) → Goes old new → IsUnchanged enc_text enc_text l limit (at o) o old new e → IsRefused l limit old new o (said e)
   change_refused old new o table.Memory goes h = here old new o refusal.Memory tt goes
-  change_refused old new o table.Far goes h = here old new o refusal.Full tt goes
-  change_refused old new o table.Moved goes h = here old new o refusal.Full tt goes
-  change_refused old new o table.Missed goes h = here old new o refusal.Full tt goes
-  change_refused old new o table.NoFrame goes h = here old new o refusal.Full tt goes
+  change_refused old new o table.Far goes h = here old new o (refusal.Full lack.Frame) tt goes
+  change_refused old new o table.Moved goes h = here old new o (refusal.Full lack.Frame) tt goes
+  change_refused old new o table.Missed goes h = here old new o (refusal.Full lack.Frame) tt goes
+  change_refused old new o table.NoFrame goes h = here old new o (refusal.Full lack.Frame) tt goes
   change_refused old new o table.TooLong goes h = record { goes = goes; seen = λ honest. let s = h.1 honest in (s.0, s.1, s.2, (h.0, s.3)) }
   change_refused old new o table.NamesSpent goes h = here old new o refusal.NamesSpent h goes
-  change_refused old new o table.LimboFull goes h = here old new o refusal.Full tt goes
+  change_refused old new o table.LimboFull goes h = here old new o (refusal.Full lack.Spare) tt goes
   change_refused old new o table.Device goes h = here old new o refusal.Device tt goes
   change_refused old new o table.Damaged goes h = record { goes = goes; seen = λ honest. absurd (h honest) }
 
@@ -58,12 +59,12 @@ module _ (l : Limits) (limit : ℕ) where
   pub fetch_refused : (b : ℕ) (old new : View) (o : Call) (e : TableRefusal) → Goes old new → IsRefusedCall enc_text enc_text l b old new e → OfFetch e → IsRefused l limit old new o (said e)
   fetch_refused b old new o table.Memory goes h of = here old new o refusal.Memory tt goes
   fetch_refused b old new o table.Far goes h of = absurd of
-  fetch_refused b old new o table.Moved goes h of = here old new o refusal.Full tt goes
-  fetch_refused b old new o table.Missed goes h of = here old new o refusal.Full tt goes
-  fetch_refused b old new o table.NoFrame goes h of = here old new o refusal.Full tt goes
+  fetch_refused b old new o table.Moved goes h of = here old new o (refusal.Full lack.Frame) tt goes
+  fetch_refused b old new o table.Missed goes h of = here old new o (refusal.Full lack.Frame) tt goes
+  fetch_refused b old new o table.NoFrame goes h of = here old new o (refusal.Full lack.Frame) tt goes
   fetch_refused b old new o table.TooLong goes h of = absurd of
   fetch_refused b old new o table.NamesSpent goes h of = here old new o refusal.NamesSpent h goes
-  fetch_refused b old new o table.LimboFull goes h of = here old new o refusal.Full tt goes
+  fetch_refused b old new o table.LimboFull goes h of = here old new o (refusal.Full lack.Spare) tt goes
   fetch_refused b old new o table.Device goes h of = here old new o refusal.Device tt goes
   fetch_refused b old new o table.Damaged goes h of = record { goes = goes; seen = λ honest. absurd (h honest) }
 
@@ -113,26 +114,26 @@ module _ (l : Limits) (limit : ℕ) where
   read_some old mid new k Makes answer text bytes made is same goes h makes =
       (bytes, done_later old mid new (op.Get k) (Some bytes) goes (subst (λ (a : Option (List ℕ)). IsDone l limit mid new (op.Get k) a) (is ∙ ap Some (sym same)) h), makes)
 
-  of_room : (old new : View) (o : Call) (why : Refusal) → Goes old new → IsOfRoom why → IsRefused l limit old new o why
-  of_room old new o refusal.Memory goes t = here old new o refusal.Memory tt goes
-  of_room old new o refusal.TooLong goes t = absurd t
-  of_room old new o refusal.Full goes t = here old new o refusal.Full tt goes
-  of_room old new o refusal.NamesSpent goes t = absurd t
-  of_room old new o refusal.Device goes t = here old new o refusal.Device tt goes
-  of_room old new o refusal.Damaged goes t = absurd t
-
-  -- what no room helps is the refusal, and so is what was refused to what makes room
-  pub replied_why : (old mid new : View) (o : Call) (e : TableRefusal) (why : Refusal) → Goes old mid → IsRefused l limit mid new o (said e) → (why ≡ said e) ⊎ IsOfRoom why → IsRefused l limit old new o why
-  replied_why old mid new o e why goes h (inl is) = refused_from old mid new o why goes (subst (λ (w : Refusal). IsRefused l limit mid new o w) (sym is) h)
-  replied_why old mid new o e why goes h (inr t) = refused_from old mid new o why goes (of_room mid new o why h.goes t)
-
-  -- ---- a pass that goes on behind a call
-
   pub gone_on : (old mid new : View) (o : Call) (why : Refusal) → IsRefused l limit old mid o why → Goes mid new → IsRefused l limit old new o why
   gone_on old mid new o why h goes = record {
     goes = goes_trans h.goes goes;
     seen = λ honest. let s = h.seen honest in (s.0, s.1, prefix_trans s.0 mid.front new.front s.2 goes.grows, s.3);
   }
+
+  of_room : (old new : View) (o : Call) (why : Refusal) → Goes old new → IsOfRoom l new.front why → IsRefused l limit old new o why
+  of_room old new o refusal.Memory goes t = here old new o refusal.Memory tt goes
+  of_room old new o refusal.TooLong goes t = absurd t
+  of_room old new o (refusal.Full what) goes t = absurd t
+  of_room old new o refusal.NamesSpent goes t = here old new o refusal.NamesSpent t goes
+  of_room old new o refusal.Device goes t = here old new o refusal.Device tt goes
+  of_room old new o refusal.Damaged goes t = absurd t
+
+  -- what no room helps is the refusal, and so is what was refused to what makes room, behind which the pass has gone on
+  pub replied_why : (old mid new later : View) (o : Call) (e : TableRefusal) (why : Refusal) → Goes old mid → IsRefused l limit mid new o (said e) → Goes new later → (why ≡ said e) ⊎ IsOfRoom l later.front why → IsRefused l limit old later o why
+  replied_why old mid new later o e why goes h on (inl is) = gone_on old new later o why (refused_from old mid new o why goes (subst (λ (w : Refusal). IsRefused l limit mid new o w) (sym is) h)) on
+  replied_why old mid new later o e why goes h on (inr t) = of_room old later o why (goes_trans goes (goes_trans h.goes on)) t
+
+  -- ---- a pass that goes on behind a call
 
   done_on : (old mid new : View) (o : Call) (answer : Option (List ℕ)) → IsDone l limit old mid o answer → Goes mid new → IsDone l limit old new o answer
   done_on old mid new o answer h goes = record { front = h.front; made = h.made; goes = goes_trans h.goes goes }

@@ -8,31 +8,19 @@ use Rattle.far_object.specs.Encodings.{enc_text}
 use Rattle.table_core.specs.declared.limits.Limits.{Limits}
 use Rattle.table_core.specs.Logs.{passes_of}
 use Rattle.table_core.specs.Lawful.{IsLawful}
-use Rattle.version_words.specs.Views.{IsWhole, AreNone, AreApart, calls_of}
+use Rattle.version_words.specs.Views.{IsWhole, AreNone, AreApart, calls, calls_of}
 use Rattle.hash_table.specs.declared.caller.Caller.{Caller}
-use Rattle.hash_table.specs.Closes.{IsClosed}
+use Rattle.hash_table.specs.Closes.{IsClosed, ClosesSorted}
 use Rattle.far_map.specs.Views.{View, Log, Pairs, SessionView}
-use Rattle.far_map.specs.Ends.{IsClosedBy}
-use Rattle.far_map.specs.Firsts.{both}
-use Rattle.far_map.specs.Runs.{IsNew, Served, IsServed, AreServed, Worked, IsEnd, AreSeen, IsLeft, IsRun, IsRunApart, EndsSo}
-
-abbrev first_of : {A B E : Type 0} → A → Result (A × B) E → A
-first_of d (Ok p) = p.0
-first_of d (Err e) = d
-
-abbrev second_of : {A B E : Type 0} → B → Result (A × B) E → B
-second_of d (Ok p) = p.1
-second_of d (Err e) = d
-
-both_first : {A B E : Type 0} (x a : A) (y b : B) (r : Result (A × B) E) → r ≡ Ok (x, y) → r ≡ Ok (a, b) → x ≡ a
-both_first {A} {B} {E} x a y b r is made = ap (first_of {A = A} {B = B} {E = E} a) (sym is ∙ made)
-
-both_second : {A B E : Type 0} (x a : A) (y b : B) (r : Result (A × B) E) → r ≡ Ok (x, y) → r ≡ Ok (a, b) → y ≡ b
-both_second {A} {B} {E} x a y b r is made = ap (second_of {A = A} {B = B} {E = E} b) (sym is ∙ made)
-
-not_both : {P E : Type 0} (p : P) (e : E) (r : Result P E) → r ≡ Err e → r ≡ Ok p → ⊥
-not_both p e (Ok q) is made = cc is
-not_both p e (Err f) is made = cc made
+use Rattle.far_map.specs.declared.ending.End.{End}
+use Rattle.far_map.specs.declared.ending.End.TheVariants as asked
+use Rattle.far_map.specs.declared.ending.Given.{Given}
+use Rattle.far_map.specs.declared.fault.RunFault.{RunFault}
+use Rattle.far_map.specs.Ends.{IsClosedBy, IsBundledBy}
+use Rattle.far_map.specs.declared.fault.RunFault.TheVariants as run
+use Rattle.far_map.specs.declared.settings.Setting.{Setting}
+use Rattle.far_map.specs.Faults.{IsLater, IsEarlyFault, IsRunFault}
+use Rattle.far_map.specs.Runs.{IsNew, Served, IsServed, AreServed, Worked, IsEnd, AreSeen, IsLeft, IsWorked, IsRun, IsRunBundled, IsRunApart, EndsSo}
 
 module _ {Out : Type 0} (Done : ℕ → SessionView → SessionView → Out → Type 0) (limit : ℕ) where
   served_more : (n : ℕ) (all : List (Served Out)) (s : Served Out) → AreServed Done limit n all → s.worker ≡ n + length all → IsNew limit s.begun → Done s.worker s.begun s.ended s.out
@@ -63,20 +51,15 @@ module _ {Out : Type 0} (Done : ℕ → SessionView → SessionView → Out → 
   more_ok (Ok r) passes_of outs_of count last passes outs pass out c p o w s = more count last passes (passes_of r) outs (outs_of r) pass out c p o w s
   more_ok (Err e) passes_of outs_of count last passes outs pass out c p o w s = tt
 
-  -- the same where both were answered
-  pub more_both : {R A B E F : Type 0} (result : Result R F) (passes_of : R → List View) (outs_of : R → List Out) (their_passes : A → List View) (their_outs : A → List Out) (own_pass : B → View) (own_out : B → Out)
-      (first : Result A E) (then : Result B E) (r : Result (A × B) E) (a : A) (b : B) (count last others : ℕ)
-      → r ≡ both first then → r ≡ Ok (a, b) → IfOk first (λ x. Worked Done limit others (their_passes x) (their_outs x)) → IfOk then (λ y. IsServed (Done last) limit (own_pass y) (own_out y))
-      → others ≡ last → count ≡ last + 1 → IfOk result (λ z. passes_of z ≡ their_passes a ++ own_pass b ∷ []) → IfOk result (λ z. outs_of z ≡ their_outs a ++ own_out b ∷ [])
+  -- the same behind others, where they were answered
+  pub more_behind : {R A E F : Type 0} (result : Result R F) (passes_of : R → List View) (outs_of : R → List Out) (their_passes : A → List View) (their_outs : A → List Out)
+      (others : Result A E) (a : A) (count last before : ℕ) (pass : View) (out : Out)
+      → others ≡ Ok a → IfOk others (λ x. Worked Done limit before (their_passes x) (their_outs x)) → IsServed (Done last) limit pass out
+      → before ≡ last → count ≡ last + 1 → IfOk result (λ z. passes_of z ≡ their_passes a ++ pass ∷ []) → IfOk result (λ z. outs_of z ≡ their_outs a ++ out ∷ [])
       → IfOk result (λ z. Worked Done limit count (passes_of z) (outs_of z))
-  more_both {R} {A} {B} result passes_of outs_of their_passes their_outs own_pass own_out (Ok x) (Ok y) r a b count last others is made w s alike c p o =
-      let one : x ≡ a = both_first x a y b r is made in
-      let two : y ≡ b = both_second x a y b r is made in
-      more_ok result passes_of outs_of count last (their_passes a) (their_outs a) (own_pass b) (own_out b) c p o
-      (subst (λ (n : ℕ). Worked Done limit n (their_passes a) (their_outs a)) alike (subst (λ (u : A). Worked Done limit others (their_passes u) (their_outs u)) one w))
-      (subst (λ (u : B). IsServed (Done last) limit (own_pass u) (own_out u)) two s)
-  more_both result passes_of outs_of their_passes their_outs own_pass own_out (Ok x) (Err e) r a b count last others is made w s alike c p o = absurd (not_both (a, b) e r is made)
-  more_both result passes_of outs_of their_passes their_outs own_pass own_out (Err e) then r a b count last others is made w s alike c p o = absurd (not_both (a, b) e r is made)
+  more_behind {R} {A} {E} result passes_of outs_of their_passes their_outs others a count last before pass out made w s alike c p o =
+      more_ok result passes_of outs_of count last (their_passes a) (their_outs a) pass out c p o
+      (subst (λ (n : ℕ). Worked Done limit n (their_passes a) (their_outs a)) alike (subst (λ (r : Result A E). IfOk r (λ x. Worked Done limit before (their_passes x) (their_outs x))) made w)) s
 
 -- ---- the end
 
@@ -145,6 +128,15 @@ module _ {J : Type 0} where
           let apart : pass.number ≢ h.own.pass.number = grind (arith, nat_tests) in
           close.no_other pass (subst (λ (ps : List View). AreNone pass ps) (sym passes_are) (none_of pass own_passes h.own.pass none apart))
 
+module _ {J : Type 0} (l : Limits) (callers all : List (Caller (List ℕ) (List ℕ) J)) (own : Caller (List ℕ) (List ℕ) J) (pairs : Pairs) (is : all ≡ callers ++ own ∷ []) (none : calls own.pass ≡ []) where
+  -- a table that these callers and the map's own closed
+  pub closed_by : IsClosed enc_text enc_text l all pairs → IsClosedBy l callers pairs
+  closed_by closed = record { own = own; no_calls = none; closed = subst (λ (cs : List (Caller (List ℕ) (List ℕ) J)). IsClosed enc_text enc_text l cs pairs) is closed }
+
+pub bundled_by : {J : Type 0} (l : Limits) (callers all : List (Caller (List ℕ) (List ℕ) J)) (own : Caller (List ℕ) (List ℕ) J) (pairs : Pairs) → all ≡ callers ++ own ∷ [] → calls own.pass ≡ []
+    → ClosesSorted enc_text enc_text l all pairs → IsBundledBy l callers pairs
+bundled_by l callers all own pairs is none closes sorted permutes rises = closed_by l callers all own sorted is none (closes sorted permutes rises)
+
 -- a front that was told what all have seen
 pub seen_left : (l : Limits) (passes : List View) (log : Log) → IsLawful enc_text enc_text l log → AreSeen log passes → IsLeft l passes
 seen_left l passes log lawful seen = record { log = log; lawful = lawful; seen = seen }
@@ -167,18 +159,48 @@ module _ {Out : Type 0} (Done : ℕ → Limits → SessionView → SessionView �
     ended = ended l callers pairs h;
   }
 
+  pub ran_bundled : {J : Type 0} (limit limit' count count' : ℕ) (callers : List (Caller (List ℕ) (List ℕ) J)) (outs : List Out) (pairs : Pairs)
+      → limit' ≡ limit → count' ≡ count → WorkedBy limit' count' (map (λ c. c.pass) callers) outs → IsBundledBy l callers pairs → IsRunBundled Done l limit count outs pairs
+  ran_bundled limit limit' count count' callers outs pairs same alike w h = record {
+    passes = map (λ c. c.pass) callers;
+    worked = as_limit limit limit' count count' (map (λ c. c.pass) callers) outs same alike w;
+    ended = λ all permutes rises. ended l callers all (h all permutes rises);
+  }
+
   pub ran_apart : (limit limit' count count' : ℕ) (passes : List View) (outs : List Out) → limit' ≡ limit → count' ≡ count → WorkedBy limit' count' passes outs → IsLeft l passes → IsRunApart Done l limit count outs
   ran_apart limit limit' count count' passes outs same alike w h = record { passes = passes; worked = as_limit limit limit' count count' passes outs same alike w; left = h }
 
+  pub ran_badly : (limit limit' count count' : ℕ) (passes : List View) (outs : List Out) → limit' ≡ limit → count' ≡ count → WorkedBy limit' count' passes outs → IsWorked Done l limit count outs
+  ran_badly limit limit' count count' passes outs same alike w = record { passes = passes; worked = as_limit limit limit' count count' passes outs same alike w }
+
 -- the same limits by another name
-pub run_as : {Out R E : Type 0} (r : Result R E) (outs_of : R → List Out) (pairs_of : R → Option Pairs) (Done : ℕ → Limits → SessionView → SessionView → Out → Type 0) (l l' : Limits) (limit limit' count : ℕ) (collects : Bool)
-    → l' ≡ l → limit' ≡ limit → IfOk r (λ x. EndsSo Done l' limit' count (outs_of x) collects (pairs_of x)) → IfOk r (λ x. EndsSo Done l limit count (outs_of x) collects (pairs_of x))
-run_as r outs_of pairs_of Done l l' limit limit' count collects same_l same_limit h =
-    subst (λ (k : Limits). IfOk r (λ x. EndsSo Done k limit count (outs_of x) collects (pairs_of x))) same_l (subst (λ (n : ℕ). IfOk r (λ x. EndsSo Done l' n count (outs_of x) collects (pairs_of x))) same_limit h)
+pub run_as : {Out R E : Type 0} (r : Result R E) (outs_of : R → List Out) (given_of : R → Result Given RunFault) (Done : ℕ → Limits → SessionView → SessionView → Out → Type 0) (l l' : Limits) (limit limit' count : ℕ) (end : End)
+    → l' ≡ l → limit' ≡ limit → IfOk r (λ x. EndsSo Done l' limit' count (outs_of x) end (given_of x)) → IfOk r (λ x. EndsSo Done l limit count (outs_of x) end (given_of x))
+run_as r outs_of given_of Done l l' limit limit' count end same_l same_limit h =
+    subst (λ (k : Limits). IfOk r (λ x. EndsSo Done k limit count (outs_of x) end (given_of x))) same_l (subst (λ (n : ℕ). IfOk r (λ x. EndsSo Done l' n count (outs_of x) end (given_of x))) same_limit h)
 
 module _ {Out : Type 0} (Done : ℕ → Limits → SessionView → SessionView → Out → Type 0) (l : Limits) (limit count : ℕ) (outs : List Out) where
-  pub collected : (collects : Bool) (pairs : Pairs) → collects ≡ true → IsRun Done l limit count outs pairs → EndsSo Done l limit count outs collects (Some pairs)
-  collected collects pairs is h = subst (λ (b : Bool). EndsSo Done l limit count outs b (Some pairs)) (sym is) h
+  abbrev Ends : End → Result Given RunFault → Type 0
+  Ends end given = EndsSo Done l limit count outs end given
 
-  pub not_collected : (collects : Bool) → collects ≡ false → IsRunApart Done l limit count outs → EndsSo Done l limit count outs collects None
-  not_collected collects is h = subst (λ (b : Bool). EndsSo Done l limit count outs b None) (sym is) h
+  -- what is so of the end that was asked for
+  pub as_asked : (end known : End) (given : Result Given RunFault) → end ≡ known → Ends known given → Ends end given
+  as_asked end known given is h = subst (λ (e : End). Ends e given) (sym is) h
+
+-- a fault at the end, where no setting is bad
+pub late_fault : (is_honest : Bool) (first : Option Setting) (fault : RunFault) → first ≡ None → IsLater is_honest fault → IsRunFault is_honest first fault
+late_fault is_honest first (run.BadSetting s) none h = absurd h
+late_fault is_honest first run.PassesSpent none h = none
+late_fault is_honest first run.Memory none h = none
+late_fault is_honest first run.Device none h = none
+late_fault is_honest first run.Damaged none h = (none, h)
+late_fault is_honest first run.Missed none h = none
+
+-- a fault before it
+pub early_fault : (is_honest : Bool) (first : Option Setting) (fault : RunFault) → IsEarlyFault first fault → IsRunFault is_honest first fault
+early_fault is_honest first (run.BadSetting s) h = h
+early_fault is_honest first run.PassesSpent h = h
+early_fault is_honest first run.Memory h = h
+early_fault is_honest first run.Device h = h
+early_fault is_honest first run.Damaged h = absurd h
+early_fault is_honest first run.Missed h = absurd h

@@ -24,7 +24,7 @@ finished_more (op.PutIf k expected v) s = record s { put_ifs = more s.put_ifs }
 -- one more was refused for this reason
 abbrev pub refused_more : Refusal → Stats → Stats
 refused_more refusal.TooLong s = record s { too_long = more s.too_long }
-refused_more refusal.Full s = record s { full = more s.full }
+refused_more (refusal.Full what) s = record s { full = more s.full }
 refused_more refusal.NamesSpent s = record s { names_spent = more s.names_spent }
 refused_more refusal.Device s = record s { device = more s.device }
 refused_more refusal.Damaged s = record s { damaged = more s.damaged }

@@ -1,6 +1,8 @@
 -- The end of a map.
 use Rattle.std.specs.Prelude.{◌≡◌, ℕ, List, [], ◌∷◌, ◌++◌}
+use Rattle.std.specs.List.Sorted.{IsPermutation}
 use Rattle.far_object.specs.Encodings.{enc_text}
+use Rattle.far_pairs.specs.Bundles.{Rises}
 use Rattle.table_core.specs.declared.limits.Limits.{Limits}
 use Rattle.version_words.specs.Views.{calls}
 use Rattle.hash_table.specs.declared.caller.Caller.{Caller}
@@ -12,3 +14,7 @@ pub record IsClosedBy {J : Type 0} (l : Limits) (callers : List (Caller (List �
   pub own : Caller (List ℕ) (List ℕ) J
   pub no_calls : calls own.pass ≡ []
   pub closed : IsClosed enc_text enc_text l (callers ++ own ∷ []) pairs
+
+-- the same with these pairs in their order
+abbrev pub IsBundledBy : {J : Type 0} → Limits → List (Caller (List ℕ) (List ℕ) J) → Pairs → Type 0
+IsBundledBy l callers pairs = (all : Pairs) → IsPermutation pairs all → Rises enc_text enc_text all → IsClosedBy l callers all

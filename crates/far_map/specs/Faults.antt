@@ -19,6 +19,14 @@ IsOfWorker run.Memory = ⊤
 IsOfWorker run.PassesSpent = ⊤
 IsOfWorker _ = ⊥
 
+-- a fault before the end: the first bad setting is named exactly where there is one
+abbrev pub IsEarlyFault : Option Setting → RunFault → Type 0
+IsEarlyFault first (run.BadSetting s) = first ≡ Some s
+IsEarlyFault first run.PassesSpent = first ≡ None
+IsEarlyFault first run.Memory = first ≡ None
+IsEarlyFault first run.Device = first ≡ None
+IsEarlyFault first _ = ⊥
+
 -- a fault that comes where no setting is bad; what is damaged comes over no honest device
 abbrev pub IsLater : Bool → RunFault → Type 0
 IsLater is_honest (run.BadSetting s) = ⊥

@@ -7,6 +7,7 @@ pub mod Answers
 pub mod Counts
 pub mod Spares
 pub mod Updates
+pub mod Removals
+pub mod Visits
 pub mod Ends
-pub mod Firsts
 pub mod Runs

@@ -1,13 +1,22 @@
 -- The workers of a run, and what is so at its end.
-use Rattle.std.specs.Prelude.{◌≡◌, ℕ, ◌+◌, Bool, true, false, IsTrue, List, [], ◌∷◌, length, map, Option, Some, None, ⊤}
+use Rattle.std.specs.Prelude.{◌≡◌, ℕ, ◌+◌, IsTrue, List, [], ◌∷◌, length, map, Result, Ok, Err, ⊤}
+use Rattle.std.specs.Global.{Vec}
 use Rattle.std.specs.List.{AllByRecursion}
+use Rattle.std.specs.List.Sorted.{IsPermutation}
 use mathlib.Core.List.{IsPrefix}
 use Rattle.far_object.specs.Encodings.{enc_text}
+use Rattle.far_pairs.specs.Bundles.{all_of, Rises}
 use Rattle.table_core.specs.declared.limits.Limits.{Limits}
 use Rattle.table_core.specs.Maps.{map_of}
 use Rattle.table_core.specs.Logs.{history, passes_of}
 use Rattle.table_core.specs.Lawful.{IsLawful}
 use Rattle.version_words.specs.Views.{calls, calls_of, IsWhole, AreApart, AreNone}
+use Rattle.far_map.specs.declared.ending.End.{End}
+use Rattle.far_map.specs.declared.ending.End.TheVariants as asked
+use Rattle.far_map.specs.declared.ending.Given.{Given}
+use Rattle.far_map.specs.declared.ending.Given.TheVariants as given
+use Rattle.far_map.specs.declared.fault.RunFault.{RunFault}
+use Rattle.far_map.specs.Faults.{IsLater}
 use Rattle.far_map.specs.Counts.{no_calls}
 use Rattle.far_map.specs.Views.{View, Log, Pairs, SessionView}
 
@@ -67,11 +76,22 @@ pub record IsLeft (l : Limits) (passes : List View) : Type 0 where
   pub seen : AreSeen log passes
 
 module _ {Out : Type 0} (Done : ℕ → Limits → SessionView → SessionView → Out → Type 0) (l : Limits) (limit count : ℕ) (outs : List Out) where
+  -- so many workers did their work
+  pub record IsWorked : Type 0 where
+    pub passes : List View
+    pub worked : Worked (λ worker begun ended out. Done worker l begun ended out) limit count passes outs
+
   -- so many workers did their work, and the pairs are the map of one history with their calls and no others
   pub record IsRun (pairs : Pairs) : Type 0 where
     pub passes : List View
     pub worked : Worked (λ worker begun ended out. Done worker l begun ended out) limit count passes outs
     pub ended : IsEnd l passes pairs
+
+  -- the same with these pairs in key order
+  pub record IsRunBundled (pairs : Pairs) : Type 0 where
+    pub passes : List View
+    pub worked : Worked (λ worker begun ended out. Done worker l begun ended out) limit count passes outs
+    pub ended : (all : Pairs) → IsPermutation pairs all → Rises enc_text enc_text all → IsEnd l passes all
 
   -- so many workers did their work, in one history
   pub record IsRunApart : Type 0 where
@@ -79,8 +99,16 @@ module _ {Out : Type 0} (Done : ℕ → Limits → SessionView → SessionView �
     pub worked : Worked (λ worker begun ended out. Done worker l begun ended out) limit count passes outs
     pub left : IsLeft l passes
 
-  -- the run ends with pairs where they are collected, and else without
-  abbrev pub EndsSo : Bool → Option Pairs → Type 0
-  EndsSo true (Some pairs) = IsRun pairs
-  EndsSo false None = IsRunApart
-  EndsSo _ _ = ⊥
+  -- what a run gives beside what its workers gave back, by the end that was asked for; the workers did their work also where the end failed
+  abbrev pub EndsSo : End → Result Given RunFault → Type 0
+  EndsSo asked.Pairs (Ok (given.Pairs pairs)) = IsRun pairs.items
+  EndsSo asked.Bundles (Ok (given.Bundles bundles)) = IsRunBundled (all_of bundles.items)
+  EndsSo asked.Nothing (Ok given.Nothing) = IsRunApart
+  EndsSo asked.Nothing (Err fault) = ⊥
+  EndsSo end (Err fault) = IsWorked × IsLater l.honest fault
+  EndsSo end (Ok other) = ⊥
+
+  -- the same of bundles that a run answers
+  abbrev pub EndsBundled : Result (Vec Pairs) RunFault → Type 0
+  EndsBundled (Ok bundles) = IsRunBundled (all_of bundles.items)
+  EndsBundled (Err fault) = IsWorked × IsLater l.honest fault

@@ -1,6 +1,7 @@
 //! A session as workers see it, without the names of its map.
-ghost use Rattle.std.specs.Prelude.{◌≡◌, Some};
+ghost use Rattle.std.specs.Prelude.{◌≡◌, Some, IfOk};
 ghost use Rattle.std.specs.Fn.{FnOnceReturnsAt};
+ghost use Rattle.std.specs.List.{FoldsTo};
 ghost use Rattle.table_core.specs.declared.operation.Operation.TheVariants as op;
 ghost use Rattle.table_core.specs.Lent.{lent_value};
 ghost use Rattle.far_object.specs.Encodings.{enc_text};
@@ -10,7 +11,9 @@ ghost use Rattle.version_words.specs.Views.{Goes};
 ghost use Rattle.hash_table.specs.States.{IsState};
 ghost use Rattle.far_map.specs.Answers.{Answers, IsRead, IsFound, held_in};
 ghost use Rattle.far_map.specs.Counts.{Counts};
+ghost use Rattle.far_map.specs.Removals.{call_of, found_in, IsMet};
 ghost use Rattle.far_map.specs.Updates.{IsUpdated};
+ghost use Rattle.far_map.specs.Visits.{IsVisit};
 
 use crate::asked::Asked;
 use crate::refusal::Refusal;
@@ -19,7 +22,7 @@ use crate::stats::Stats;
 use crate::updating::Updated;
 use far_device::Device;
 use far_object::Text;
-use hash_table::{BucketState, TableScope};
+use hash_table::{BucketState, Removal, TableScope, Traffic};
 use std::sync::Wait;
 use swapper::QueueNaming;
 use version_words::Naming;
@@ -90,6 +93,18 @@ pub trait Calls {
         ensures answers { Answers limits (shown self.old) (shown self.new) (op.Remove key.now) result }
         ensures counts { Counts (shown self.old) (shown self.new) (op.Remove key.now) result };
 
+    /// Takes the key out where its value is the expected one, and answers the value that it had. Where that is another one, or
+    /// there is none, it is a get. It is refused as `remove` is.
+    fn remove_if<R: Wait>(
+        &mut self,
+        rt: &R,
+        key: &Text,
+        expected: &Text,
+    ) -> Result<Removal<Text>, Refusal>
+        ensures answers { Answers limits (shown self.old) (shown self.new) (call_of key.now result) (found_in result) }
+        ensures met { IfOk result (IsMet expected.now) }
+        ensures counts { Counts (shown self.old) (shown self.new) (call_of key.now result) result };
+
     /// Sets the key to the value where its value is the expected one, or where it has none and none is expected. It answers the
     /// one before, by which the caller sees whether it was the expected one.
     fn put_if<R: Wait>(
@@ -113,15 +128,40 @@ pub trait Calls {
         requires { F.IsAlwaysCallable make }
         ensures { IsUpdated limits key.now (λ found made. (lent : _) × (lent_value lent ≡ found) × F.post make lent made) (shown self.old) (shown self.new) result };
 
+    /// Hands each pair of the map to the visitor, bucket by bucket, each pair as it stood when its bucket was read: other calls
+    /// may change the buckets meanwhile. No more than one bucket's pairs are copied at a time. It is no call of the map, and is not
+    /// counted. It is refused as a get is, where a bucket can't be read; the visitor has the pairs of the buckets before that one
+    /// then.
+    fn for_each<F: FnMut(Text, Text), R: Wait>(
+        &mut self,
+        rt: &R,
+        visit: &mut F,
+    ) -> Result<(), Refusal>
+        requires { F.IsAlwaysCallable visit.old }
+        ensures visits { IsVisit limits (λ pairs. FoldsTo (λ f pair g. F.step f pair.0 pair.1 tt g) visit.old pairs visit.new) (shown self.old).pass (shown self.new).pass result }
+        ensures goes { Goes (shown self.old).pass (shown self.new).pass }
+        ensures same { ((shown self.new).limit ≡ (shown self.old).limit) × ((shown self.new).stats ≡ (shown self.old).stats) };
+
     /// Where the contents of the key's bucket lie. It is no call of the map, and is not counted.
     fn where_is(&mut self, key: &Text) -> BucketState
         ensures goes { Goes (shown self.old).pass (shown self.new).pass }
         ensures state { IsState (word enc_text limits.buckets (shown self.new).pass.front (bucket enc_text limits.buckets key.now)) result }
         ensures same { ((shown self.new).limit ≡ (shown self.old).limit) × ((shown self.new).stats ≡ (shown self.old).stats) };
 
-    /// Has the evictor empty a frame, and answers whether it did. It is no call of the map, and is not counted. Beside the
-    /// refusals of a call `Full` comes where another thread was faster.
-    fn evict<R: Wait>(&self, rt: &R) -> Result<bool, Refusal>;
+    /// Has the evictor empty a frame, and answers whether it did. It is no call of the map, and is not counted. Of the refusals
+    /// `Device`, `Memory`, `NamesSpent` and `Full` may come, the last where by 1,000 tries too many old versions wait.
+    fn evict<R: Wait>(&mut self, rt: &R) -> Result<bool, Refusal>
+        ensures goes { Goes (shown self.old).pass (shown self.new).pass }
+        ensures same { ((shown self.new).limit ≡ (shown self.old).limit) × ((shown self.new).stats ≡ (shown self.old).stats) };
+
+    /// Sees to the old versions that its calls have left: has them reclaimed where nobody reads them, or hands them over. Each call
+    /// of the map does so at its end; it is for a session that has let a value go, or makes no call for a while.
+    fn settle<R: Wait>(&mut self, rt: &R)
+        ensures goes { Goes (shown self.old).pass (shown self.new).pass }
+        ensures same { ((shown self.new).limit ≡ (shown self.old).limit) × ((shown self.new).stats ≡ (shown self.old).stats) };
+
+    /// What its calls have read and moved, and how many bytes they have brought into frames. Nothing is claimed of it.
+    fn traffic(&self) -> Traffic;
 
     /// What it has counted of its own calls.
     fn stats(&self) -> Stats
@@ -174,6 +214,15 @@ impl<'m, J: Naming, B: QueueNaming, D: Device> Calls for Session<'m, J, B, D> {
         self.ask(rt, &Asked::Remove(key))
     }
 
+    fn remove_if<R: Wait>(
+        &mut self,
+        rt: &R,
+        key: &Text,
+        expected: &Text,
+    ) -> Result<Removal<Text>, Refusal> {
+        self.take_out(rt, key, expected)
+    }
+
     fn put_if<R: Wait>(
         &mut self,
         rt: &R,
@@ -193,12 +242,28 @@ impl<'m, J: Naming, B: QueueNaming, D: Device> Calls for Session<'m, J, B, D> {
         self.make_anew(rt, key, make)
     }
 
+    fn for_each<F: FnMut(Text, Text), R: Wait>(
+        &mut self,
+        rt: &R,
+        visit: &mut F,
+    ) -> Result<(), Refusal> {
+        self.visit_all(rt, visit)
+    }
+
     fn where_is(&mut self, key: &Text) -> BucketState {
         self.place(key)
     }
 
-    fn evict<R: Wait>(&self, rt: &R) -> Result<bool, Refusal> {
-        self.turn(rt)
+    fn evict<R: Wait>(&mut self, rt: &R) -> Result<bool, Refusal> {
+        self.empty_one(rt)
+    }
+
+    fn settle<R: Wait>(&mut self, rt: &R) {
+        self.see_to_spares(rt);
+    }
+
+    fn traffic(&self) -> Traffic {
+        self.seated.caller.traffic()
     }
 
     fn stats(&self) -> Stats {

@@ -1,9 +1,12 @@
 //! The end of a map.
-ghost use Rattle.std.specs.Prelude.{◌≡◌, IfOk, IfErr, map};
+ghost use Rattle.std.specs.Prelude.{◌≡◌, ◌++◌, ◌∷◌, [], ℕ, IfOk, IfErr, map};
 ghost use Rattle.far_object.specs.Encodings.{enc_text};
+ghost use Rattle.far_pairs.specs.Bundles.{all_of};
 ghost use Rattle.table_core.specs.Lawful.{IsLawful};
 ghost use Rattle.version_words.specs.Views.{Goes};
-ghost use Rattle.far_map.specs.Ends.{IsClosedBy};
+ghost use Rattle.hash_table.specs.Closes.{ClosesSorted, IsCloseFault};
+ghost use Rattle.far_map.specs.declared.fault.RunFault.TheVariants.{Memory};
+ghost use Rattle.far_map.specs.Ends.{IsClosedBy, IsBundledBy};
 ghost use Rattle.far_map.specs.Faults.{IsLater};
 ghost use Rattle.far_map.specs.Runs.{AreSeen, IsLeft};
 
@@ -11,11 +14,58 @@ use crate::fault::{RunFault, of_closing};
 use crate::map::FarMap;
 use far_device::Device;
 use far_object::Text;
-use hash_table::{Caller, FarTable};
+use far_pairs::Bundle;
+use hash_table::{Caller, CloseFault, FarTable};
 use std::alloc::Global;
 use std::sync::Wait;
+use std::thread::Threads;
 use swapper::QueueNaming;
 use version_words::Naming;
+
+/// How many times a map is closed before what a frame or a lane does not give is taken for lost: no thread works any more, and
+/// only a device whose bytes come late may give it still.
+const MOST_CLOSES: u32 = 1_000;
+
+/// The callers, and the map's own behind them.
+fn with_own<J: Naming>(
+    mut callers: Vec<Caller<Text, Text, J>>,
+    own: Caller<Text, Text, J>,
+) -> Result<Vec<Caller<Text, Text, J>>, RunFault>
+    ensures all { IfOk result (λ all. all.items ≡ callers.items ++ own ∷ []) }
+    ensures fault { IfErr result (λ fault. fault ≡ Memory) }
+{
+    match callers.push(own) {
+        Ok(()) => Ok(callers),
+        Err(_) => Err(RunFault::Memory),
+    }
+}
+
+/// Closes the table, again where a name was missed.
+fn close_again<J, D, R>(
+    rt: &R,
+    alloc: Global,
+    mut table: FarTable<Text, Text, J, D>,
+    mut callers: Vec<Caller<Text, Text, J>>,
+) -> Result<Vec<Bundle<Text, Text>>, CloseFault<Text, Text, J>>
+where
+    J: Naming + Send + Sync,
+    D: Device + Send,
+    R: Threads + Wait + Sync,
+    ensures closed { IfOk result (λ bundles. ClosesSorted enc_text enc_text J.limits callers.items (all_of bundles.items)) }
+    ensures fault { IfErr result (λ e. (n : ℕ) × IsCloseFault enc_text enc_text J.limits n e) }
+{
+    for _ in 0..MOST_CLOSES {
+        match table.close_on_threads(rt, alloc, callers) {
+            Ok(bundles) => return Ok(bundles),
+            Err((CloseFault::Missed, same, back)) => {
+                table = same;
+                callers = back;
+            }
+            Err((fault, _, _)) => return Err(fault),
+        }
+    }
+    Err(CloseFault::Missed)
+}
 
 /// Afterwards the caller has seen what each of the others has.
 fn tell_all<J: Naming, D: Device>(
@@ -43,16 +93,14 @@ impl<J: Naming, B: QueueNaming, D: Device> FarMap<J, B, D> {
         self,
         rt: &R,
         alloc: Global,
-        mut callers: Vec<Caller<Text, Text, J>>,
+        callers: Vec<Caller<Text, Text, J>>,
     ) -> Result<Vec<(Text, Text)>, RunFault>
         ensures closed { IfOk result (λ v. IsClosedBy J.limits callers.items v.items) }
         ensures fault { IfErr result (IsLater J.limits.honest) }
     {
         let FarMap { table, evictor, .. } = self;
-        let Ok(()) = callers.push(evictor.into_inner().into_caller()) else {
-            return Err(RunFault::Memory);
-        };
-        match table.close(rt, alloc, callers) {
+        let all = with_own(callers, evictor.into_inner().into_caller())?;
+        match table.close(rt, alloc, all) {
             Ok(pairs) => Ok(pairs),
             Err((fault, _table, _callers)) => Err(of_closing(fault)),
         }
@@ -66,5 +114,31 @@ impl<J: Naming, B: QueueNaming, D: Device> FarMap<J, B, D> {
         let FarMap { table, evictor, .. } = self;
         let mut own = evictor.into_inner().into_caller();
         tell_all(&table, &mut own, callers);
+    }
+}
+
+impl<J, B, D> FarMap<J, B, D>
+where
+    J: Naming + Send + Sync,
+    B: QueueNaming,
+    D: Device + Send,
+{
+    /// The same for a map of many pairs: they come as they are written, and the buckets are read side by side. Where a frame or a
+    /// lane does not give a name the map is closed again, 1,000 times in all.
+    pub(crate) fn close_on_threads<R: Threads + Wait + Sync>(
+        self,
+        rt: &R,
+        alloc: Global,
+        callers: Vec<Caller<Text, Text, J>>,
+    ) -> Result<Vec<Bundle<Text, Text>>, RunFault>
+        ensures closed { IfOk result (λ v. IsBundledBy J.limits callers.items (all_of v.items)) }
+        ensures fault { IfErr result (IsLater J.limits.honest) }
+    {
+        let FarMap { table, evictor, .. } = self;
+        let all = with_own(callers, evictor.into_inner().into_caller())?;
+        match close_again(rt, alloc, table, all) {
+            Ok(bundles) => Ok(bundles),
+            Err(fault) => Err(of_closing(fault)),
+        }
     }
 }

@@ -1,5 +1,5 @@
-//! Sessions enter.
-ghost use Rattle.std.specs.Prelude.{◌≡◌, [], IfOk, IfErr};
+//! Sessions enter. Their passes are drawn before any worker begins, so that a run for which there are too few does nothing.
+ghost use Rattle.std.specs.Prelude.{◌≡◌, ◌<◌, ◌^◌, [], vec_len, IfOk, IfErr};
 ghost use Rattle.version_words.specs.Views.{calls};
 ghost use Rattle.far_map.specs.Counts.{no_calls};
 ghost use Rattle.far_map.specs.Faults.{IsOfWorker};
@@ -16,6 +16,13 @@ use std::alloc::Global;
 use std::sync::Wait;
 use swapper::{QueueNaming, QueueSeat, RoomMaker};
 use version_words::{EnterFault, Naming};
+
+/// A session that has not begun.
+#[derive(Drop)]
+pub(crate) struct Newcomer<J: Naming, B: QueueNaming> {
+    seated: Seated<J, B>,
+    ghost new: { calls seated.caller.pass ≡ [] },
+}
 
 /// A new caller, also while others enter. `PassesSpent` comes where the last pass was drawn.
 pub(crate) fn enter<J: Naming, D: Device, R: Wait>(
@@ -35,30 +42,49 @@ pub(crate) fn enter<J: Naming, D: Device, R: Wait>(
     unreachable!()
 }
 
+/// A newcomer for each seat, who enter in the order of the seats. `Memory` comes where a growth is refused.
+pub(crate) fn enter_all<J: Naming, B: QueueNaming, D: Device, R: Wait>(
+    rt: &R,
+    alloc: Global,
+    table: &FarTable<Text, Text, J, D>,
+    frames: u32,
+    mut seats: Vec<QueueSeat<Text, Text, J, B>>,
+) -> Result<Vec<Newcomer<J, B>>, RunFault>
+    requires frames { 0 < frames }
+    requires few { vec_len seats < 2 ^ 32 }
+    ensures each { IfOk result (λ newcomers. vec_len newcomers ≡ vec_len seats) }
+    ensures fault { IfErr result IsOfWorker }
+{
+    let Some(seat) = seats.pop() else {
+        return Ok(Vec::new(alloc));
+    };
+    let number = seats.len() as u32;
+    let mut newcomers = enter_all(rt, alloc, table, frames, seats)?;
+    let caller = enter(rt, table)?;
+    let Ok(room) = RoomMaker::open(alloc, frames, number) else {
+        return Err(RunFault::Memory);
+    };
+    let Ok(()) = newcomers.push(Newcomer {
+        seated: Seated { caller, seat, room },
+    }) else {
+        return Err(RunFault::Memory);
+    };
+    Ok(newcomers)
+}
+
 impl<J: Naming, B: QueueNaming, D: Device> FarMap<J, B, D> {
-    /// A session that has made no call, for the thread of this worker. `Memory` comes where a growth is refused.
-    pub(crate) fn enter<R: Wait>(
-        &self,
-        rt: &R,
-        alloc: Global,
-        seat: QueueSeat<Text, Text, J, B>,
-        worker: u32,
-    ) -> Result<Session<'_, J, B, D>, RunFault>
-        ensures new { IfOk result (λ s. calls s.pass ≡ []) }
-        ensures limit { IfOk result (λ s. s.limit ≡ self.now.table.limit) }
-        ensures stats { IfOk result (λ s. s.stats ≡ no_calls) }
-        ensures fault { IfErr result IsOfWorker }
+    /// A session that has made no call.
+    pub(crate) fn begin(&self, alloc: Global, newcomer: Newcomer<J, B>) -> Session<'_, J, B, D>
+        ensures new { calls result.pass ≡ [] }
+        ensures limit { result.limit ≡ self.now.table.limit }
+        ensures stats { result.stats ≡ no_calls }
     {
-        let frames = self.frames;
-        let Ok(room) = RoomMaker::open(alloc, frames, worker) else {
-            return Err(RunFault::Memory);
-        };
-        let caller = enter(rt, &self.table)?;
-        Ok(Session {
+        let Newcomer { seated } = newcomer;
+        Session {
             map: self,
             alloc,
-            seated: Seated { caller, seat, room },
+            seated,
             stats: Stats::new(),
-        })
+        }
     }
 }

@@ -21,13 +21,14 @@ impl<J: Naming, B: QueueNaming, D: Device> FarMap<J, B, D> {
     /// Has spares reclaimed, and frames emptied while too few are free, until all workers have ended. A nap ends early where
     /// somebody wakes it.
     pub(crate) fn evict<R: Wait>(&self, rt: &R) {
+        self.started.store(true, Ordering::SeqCst);
         let mut nap = SHORTEST_NAP;
         for _ in rt.forever() {
             if self.ended.load(Ordering::SeqCst) {
                 break;
             }
             let worked = if self.table.free() < self.reserve {
-                matches!(self.turns(rt), Ok(true))
+                self.turns_by_thread(rt)
             } else {
                 self.collect(rt)
             };

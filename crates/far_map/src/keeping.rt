@@ -1,6 +1,13 @@
 //! What keeps frames free: spares are reclaimed or handed over, and objects go to the devices.
-ghost use Rattle.std.specs.Prelude.{◌≡◌};
+//!
+//! # With the evictor's thread, and without
+//!
+//! Beside the evictor's thread each session sees to its own: it reclaims the spare of its last call, and gives a frame up where it
+//! found none, side by side with others. Where there is no such thread, since there is one worker or it could not be started, the
+//! evictor does all of it, in the session's thread: so what a single worker meets follows from its calls alone.
+ghost use Rattle.std.specs.Prelude.{◌≡◌, IfErr};
 ghost use Rattle.version_words.specs.Views.{Goes};
+ghost use Rattle.far_map.specs.Refusals.{IsTurnFault};
 ghost use Rattle.far_map.specs.Spares.{LosesNone};
 
 use crate::map::FarMap;
@@ -8,7 +15,8 @@ use far_device::Device;
 use far_object::Text;
 use hash_table::{Caller, Refusal as TableRefusal};
 use std::sync::Wait;
-use swapper::{QueueNaming, QueueSeat, RoomMaker, recycle};
+use std::sync::atomic::Ordering;
+use swapper::{Evictor, QueueNaming, QueueSeat, RoomMaker, recycle};
 use version_words::Naming;
 
 /// How many turns are made at most before the evictor is let go: others may wait for it meanwhile.
@@ -23,25 +31,47 @@ pub struct Seated<J: Naming, B: QueueNaming> {
 }
 
 impl<J: Naming, B: QueueNaming, D: Device> FarMap<J, B, D> {
-    /// A turn of the evictor, and whether it emptied a frame.
-    pub(crate) fn turn<R: Wait>(&self, rt: &R) -> Result<bool, TableRefusal> {
-        match self.evictor.lock(rt).turn(rt, &self.table, &self.queue) {
-            Ok(turn) => Ok(turn.evicted),
-            Err(refusal) => Err(refusal),
+    /// A turn of the evictor, and whether it emptied a frame. Where it is refused the caller has seen afterwards what the evictor
+    /// had.
+    pub(crate) fn turn<R: Wait>(
+        &self,
+        rt: &R,
+        caller: &mut Caller<Text, Text, J>,
+    ) -> Result<bool, TableRefusal>
+        ensures goes { Goes caller.old.pass caller.new.pass }
+        ensures limbo { caller.new.limbo ≡ caller.old.limbo }
+        ensures why { IfErr result (IsTurnFault J.limits caller.new.pass.front) }
+    {
+        let mut evictor = self.evictor.lock(rt);
+        match evictor.turn(rt, &self.table, &self.queue) {
+            Ok(turn) => {
+                self.keeps.store(turn.kept > 0, Ordering::SeqCst);
+                Ok(turn.evicted)
+            }
+            Err(refusal) => {
+                self.keeps.store(true, Ordering::SeqCst);
+                self.table.learn(caller, &evictor.mark());
+                Err(refusal)
+            }
         }
     }
 
-    /// Turns of the evictor while fewer frames are free than its thread keeps so, and whether they emptied one. They are made by
-    /// one hold of the evictor. A refusal is the answer only where no turn before it emptied a frame.
-    pub(crate) fn turns<R: Wait>(&self, rt: &R) -> Result<bool, TableRefusal> {
-        let mut evictor = self.evictor.lock(rt);
+    /// Turns while fewer frames are free than the evictor's thread keeps so, and whether they emptied one. They are made by one
+    /// hold of the evictor. A refusal is the answer only where no turn before it emptied a frame.
+    fn turns<R: Wait>(
+        &self,
+        rt: &R,
+        evictor: &mut Evictor<Text, Text, J, B>,
+    ) -> Result<bool, TableRefusal>
+        ensures why { IfErr result (IsTurnFault J.limits evictor.new.pass.front) }
+    {
         let mut emptied = false;
         for _ in 0..MOST_TURNS {
             match evictor.turn(rt, &self.table, &self.queue) {
                 Ok(turn) if turn.evicted => emptied = true,
                 Ok(_) => break,
-                Err(refusal) if !emptied => return Err(refusal),
-                Err(_) => break,
+                Err(_) if emptied => break,
+                Err(refusal) => return Err(refusal),
             }
             if self.table.free() >= self.reserve {
                 break;
@@ -50,9 +80,36 @@ impl<J: Naming, B: QueueNaming, D: Device> FarMap<J, B, D> {
         Ok(emptied)
     }
 
+    /// Turns by the evictor's thread, and whether they emptied a frame.
+    pub(crate) fn turns_by_thread<R: Wait>(&self, rt: &R) -> bool {
+        let mut evictor = self.evictor.lock(rt);
+        matches!(self.turns(rt, &mut evictor), Ok(true))
+    }
+
+    /// Turns for a caller, who has seen afterwards what the evictor had where it is refused.
+    fn turns_for<R: Wait>(
+        &self,
+        rt: &R,
+        caller: &mut Caller<Text, Text, J>,
+    ) -> Result<bool, TableRefusal>
+        ensures goes { Goes caller.old.pass caller.new.pass }
+        ensures limbo { caller.new.limbo ≡ caller.old.limbo }
+        ensures why { IfErr result (IsTurnFault J.limits caller.new.pass.front) }
+    {
+        let mut evictor = self.evictor.lock(rt);
+        match self.turns(rt, &mut evictor) {
+            Ok(emptied) => Ok(emptied),
+            Err(refusal) => {
+                self.table.learn(caller, &evictor.mark());
+                Err(refusal)
+            }
+        }
+    }
+
     /// Has spares reclaimed, and says whether one was.
     pub(crate) fn collect<R: Wait>(&self, rt: &R) -> bool {
         let collected = self.evictor.lock(rt).collect(rt, &self.table, &self.queue);
+        self.keeps.store(collected.kept > 0, Ordering::SeqCst);
         collected.reclaimed > 0
     }
 
@@ -72,13 +129,13 @@ impl<J: Naming, B: QueueNaming, D: Device> FarMap<J, B, D> {
     ) -> Result<bool, TableRefusal>
         ensures goes { Goes seated.old.caller.pass seated.new.caller.pass }
         ensures none_lost { LosesNone seated.old.caller.limbo seated.old.seat seated.new.caller.limbo seated.new.seat }
+        ensures why { IfErr result (IsTurnFault J.limits seated.new.caller.pass.front) }
     {
         self.settle(rt, seated);
         seated.room.make_room(rt, &self.table, &mut seated.caller)
     }
 
-    /// What makes room for a caller that found no frame: it does so itself, side by side with others, and where it finds none
-    /// that it may, the evictor makes turns.
+    /// What makes room for a caller that found no frame.
     pub(crate) fn empty_frames<R: Wait>(
         &self,
         rt: &R,
@@ -86,9 +143,13 @@ impl<J: Naming, B: QueueNaming, D: Device> FarMap<J, B, D> {
     ) -> Result<bool, TableRefusal>
         ensures goes { Goes seated.old.caller.pass seated.new.caller.pass }
         ensures none_lost { LosesNone seated.old.caller.limbo seated.old.seat seated.new.caller.limbo seated.new.seat }
+        ensures why { IfErr result (IsTurnFault J.limits seated.new.caller.pass.front) }
     {
+        if !self.started.load(Ordering::SeqCst) {
+            return self.turn(rt, &mut seated.caller);
+        }
         match self.make_own_room(rt, seated) {
-            Ok(false) => self.turns(rt),
+            Ok(false) => self.turns_for(rt, &mut seated.caller),
             other => other,
         }
     }
@@ -101,12 +162,30 @@ impl<J: Naming, B: QueueNaming, D: Device> FarMap<J, B, D> {
         seated.room.make_ready(rt, &self.table, &mut seated.caller);
     }
 
-    /// What follows each call: the caller reclaims its oldest spare, and hands over what still waits.
-    pub(crate) fn after_call<R: Wait>(&self, rt: &R, seated: &mut Seated<J, B>)
+    /// The caller reclaims its oldest spare, and hands over what still waits.
+    fn recycle_own<R: Wait>(&self, rt: &R, seated: &mut Seated<J, B>)
         ensures goes { Goes seated.old.caller.pass seated.new.caller.pass }
         ensures none_lost { LosesNone seated.old.caller.limbo seated.old.seat seated.new.caller.limbo seated.new.seat }
     {
         recycle(rt, &self.table, &mut seated.caller);
         self.settle(rt, seated);
+    }
+
+    /// What follows each call that left spares. Without the evictor's thread they are handed over and reclaimed, with those that
+    /// came back before.
+    #[tactic(auto, using(crate::proofs::Losses::loses_self))]
+    pub(crate) fn after_call<R: Wait>(&self, rt: &R, seated: &mut Seated<J, B>)
+        ensures goes { Goes seated.old.caller.pass seated.new.caller.pass }
+        ensures none_lost { LosesNone seated.old.caller.limbo seated.old.seat seated.new.caller.limbo seated.new.seat }
+    {
+        let leaves = seated.caller.limbo_len() > 0;
+        if !self.started.load(Ordering::SeqCst) {
+            if leaves || self.keeps.load(Ordering::SeqCst) {
+                self.settle(rt, seated);
+                self.collect(rt);
+            }
+        } else if leaves {
+            self.recycle_own(rt, seated);
+        }
     }
 }

@@ -1,5 +1,5 @@
 //! What the sessions of a map share.
-ghost use Rattle.std.specs.Prelude.{◌≡◌, ◌<◌};
+ghost use Rattle.std.specs.Prelude.{◌≡◌};
 
 use far_device::Device;
 use far_object::Text;
@@ -17,12 +17,16 @@ pub struct FarMap<J: Naming, B: QueueNaming, D: Device> {
     pub(crate) queue: SpareQueue<Text, Text, J, B>,
     // While one thread has the evictor, others wait for it.
     pub(crate) evictor: Mutex<Evictor<Text, Text, J, B>>,
-    pub(crate) frames: u32,
+    pub(crate) buckets: u32,
     // How many frames the evictor's thread keeps free.
     pub(crate) reserve: u32,
+    // Whether the evictor may keep spares: some came back, or a turn was refused.
+    pub(crate) keeps: AtomicBool,
+    // Whether the evictor's thread has started.
+    pub(crate) started: AtomicBool,
     // Where the evictor's thread sleeps while it has nothing to do.
     pub(crate) bed: Parker,
     // Whether all workers have ended.
     pub(crate) ended: AtomicBool,
-    ghost some_frames: { 0 < frames },
+    ghost all_buckets: { buckets ≡ J.limits.buckets },
 }

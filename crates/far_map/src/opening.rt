@@ -1,8 +1,8 @@
 //! A map over a table and a queue that are open.
-ghost use Rattle.std.specs.Prelude.{◌≡◌, ◌<◌, IfOk, IfErr, vec_len};
+ghost use Rattle.std.specs.Prelude.{◌≡◌, ◌<◌, ◌^◌, IfOk, IfErr, vec_len};
 ghost use Rattle.far_map.specs.Faults.{IsOfWorker};
 
-use crate::entering::enter;
+use crate::entering::{Newcomer, enter, enter_all};
 use crate::fault::RunFault;
 use crate::map::FarMap;
 use far_device::Device;
@@ -12,7 +12,7 @@ use std::alloc::Global;
 use std::sync::atomic::AtomicBool;
 use std::sync::{Mutex, Wait};
 use std::thread::Parker;
-use swapper::{Evictor, QueueNaming, QueueOpening, QueueSeat};
+use swapper::{Evictor, QueueNaming, QueueOpening};
 use version_words::Naming;
 
 /// How many frames the evictor's thread keeps free: a quarter of all, and one at least.
@@ -20,7 +20,7 @@ fn reserve_of(frames: u32) -> u32 {
     (frames / 4).max(1)
 }
 
-/// The map, and a seat at its queue for each worker. The evictor enters first, with the seat that takes.
+/// The map, and a newcomer for each worker. They enter before the evictor does.
 pub(crate) fn map_over<J: Naming, B: QueueNaming, D: Device, R: Wait>(
     rt: &R,
     alloc: Global,
@@ -28,17 +28,19 @@ pub(crate) fn map_over<J: Naming, B: QueueNaming, D: Device, R: Wait>(
     table: FarTable<Text, Text, J, D>,
     queue: QueueOpening<Text, Text, J>,
     workers: u32,
-) -> Result<(FarMap<J, B, D>, Vec<QueueSeat<Text, Text, J, B>>), RunFault>
+) -> Result<(FarMap<J, B, D>, Vec<Newcomer<J, B>>), RunFault>
     requires queue { queue.table ≡ B.table }
+    requires buckets { config.buckets ≡ J.limits.buckets }
     requires frames { 0 < config.frames }
     ensures limit { IfOk result (λ r. r.0.table.limit ≡ table.limit) }
-    ensures seats { IfOk result (λ r. vec_len r.1 ≡ workers) }
+    ensures each { IfOk result (λ r. vec_len r.1 ≡ workers) }
     ensures fault { IfErr result IsOfWorker }
 {
     let (queue, taker, seats) = match queue.named::<B>(alloc, workers) {
         Ok(named) => named,
         Err(_) => return Err(RunFault::Memory),
     };
+    let newcomers = enter_all(rt, alloc, &table, config.frames, seats)?;
     let own = enter(rt, &table)?;
     let evictor = match Evictor::open(alloc, own, taker, config.frames, config.spares) {
         Ok(evictor) => evictor,
@@ -48,10 +50,12 @@ pub(crate) fn map_over<J: Naming, B: QueueNaming, D: Device, R: Wait>(
         table,
         queue,
         evictor: Mutex::new(evictor),
-        frames: config.frames,
+        buckets: config.buckets,
         reserve: reserve_of(config.frames),
+        keeps: AtomicBool::new(false),
+        started: AtomicBool::new(false),
         bed: Parker::new(),
         ended: AtomicBool::new(false),
     };
-    Ok((map, seats))
+    Ok((map, newcomers))
 }

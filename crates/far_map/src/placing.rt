@@ -1,19 +1,65 @@
-//! Where a key's bucket lies, and a frame that is emptied on request. They are no calls of the map.
+//! Where a key's bucket lies, a frame that is emptied on request, and old versions that are seen to. They are no calls of the map.
 ghost use Rattle.std.specs.Prelude.{◌≡◌};
 ghost use Rattle.far_object.specs.Encodings.{enc_text};
 ghost use Rattle.far_object.specs.Buckets.{bucket};
 ghost use Rattle.table_core.specs.Logs.{word};
 ghost use Rattle.version_words.specs.Views.{Goes};
 ghost use Rattle.hash_table.specs.States.{IsState};
+ghost use Rattle.far_map.specs.Spares.{LosesNone};
 
-use crate::refusal::{Refusal, said};
+use crate::keeping::Seated;
+use crate::map::FarMap;
+use crate::refusal::{Lack, Refusal};
+use crate::room::{MOST_TRIES, make_room};
 use crate::session::Session;
 use far_device::Device;
 use far_object::Text;
-use hash_table::BucketState;
+use hash_table::{BucketState, Caller, Refusal as TableRefusal};
 use std::sync::Wait;
 use swapper::QueueNaming;
 use version_words::Naming;
+
+/// A turn of the evictor, and whether it emptied a frame. Where another thread was faster it is made again.
+#[tactic(auto, using(hash_table::proofs::Fronts::goes_trans))]
+fn turn<J: Naming, B: QueueNaming, D: Device, R: Wait>(
+    rt: &R,
+    map: &FarMap<J, B, D>,
+    caller: &mut Caller<Text, Text, J>,
+) -> Result<bool, TableRefusal>
+    ensures goes { Goes caller.old.pass caller.new.pass }
+    ensures limbo { caller.new.limbo ≡ caller.old.limbo }
+{
+    for _ in rt.forever() {
+        match map.turn(rt, caller) {
+            Ok(emptied) => return Ok(emptied),
+            Err(TableRefusal::Moved) => {}
+            Err(TableRefusal::Missed) => {}
+            Err(refusal) => return Err(refusal),
+        }
+    }
+    unreachable!()
+}
+
+/// The same. Where too many spares wait they go first, 1,000 times at most.
+fn give_up<J: Naming, B: QueueNaming, D: Device, R: Wait>(
+    rt: &R,
+    map: &FarMap<J, B, D>,
+    seated: &mut Seated<J, B>,
+) -> Result<bool, Refusal>
+    ensures goes { Goes seated.old.caller.pass seated.new.caller.pass }
+    ensures none_lost { LosesNone seated.old.caller.limbo seated.old.seat seated.new.caller.limbo seated.new.seat }
+{
+    for _ in 0..MOST_TRIES {
+        match turn(rt, map, &mut seated.caller) {
+            Ok(emptied) => return Ok(emptied),
+            Err(refusal) => match make_room(rt, map, seated, refusal) {
+                Ok(()) => {}
+                Err(why) => return Err(why),
+            },
+        }
+    }
+    Err(Refusal::Full(Lack::Spare))
+}
 
 impl<'m, J: Naming, B: QueueNaming, D: Device> Session<'m, J, B, D> {
     /// Where the contents of the key's bucket lie.
@@ -27,11 +73,19 @@ impl<'m, J: Naming, B: QueueNaming, D: Device> Session<'m, J, B, D> {
         table.state_of(&mut self.seated.caller, bucket)
     }
 
-    /// Has the evictor make a turn.
-    pub(crate) fn turn<R: Wait>(&self, rt: &R) -> Result<bool, Refusal> {
-        match self.map.turn(rt) {
-            Ok(emptied) => Ok(emptied),
-            Err(refusal) => Err(said(refusal)),
-        }
+    /// Sees to the spares that its calls have left.
+    pub(crate) fn see_to_spares<R: Wait>(&mut self, rt: &R)
+        ensures goes { Goes self.old.pass self.new.pass }
+        ensures same { (self.new.limit ≡ self.old.limit) × (self.new.stats ≡ self.old.stats) }
+    {
+        self.map.after_call(rt, &mut self.seated);
+    }
+
+    /// Has the evictor empty a frame.
+    pub(crate) fn empty_one<R: Wait>(&mut self, rt: &R) -> Result<bool, Refusal>
+        ensures goes { Goes self.old.pass self.new.pass }
+        ensures same { (self.new.limit ≡ self.old.limit) × (self.new.stats ≡ self.old.stats) }
+    {
+        give_up(rt, self.map, &mut self.seated)
     }
 }

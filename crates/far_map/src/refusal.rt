@@ -11,10 +11,10 @@ pub enum Refusal {
     /// The bucket's new object would be longer than the limit, or a text than 65,535 bytes.
     #[error("too long")]
     TooLong,
-    /// No frame was found or could be emptied: by 1,000 further tries, or since no name is left to empty one.
+    /// There was no room by 1,000 further tries, of the kind that is told.
     #[error("full")]
-    Full,
-    /// The last name was drawn. Gets go on.
+    Full(Lack),
+    /// The last name was drawn: the call needs one, or a frame that was to be emptied for it. Gets go on.
     #[error("names spent")]
     NamesSpent,
     /// A device failed in this call.
@@ -28,6 +28,16 @@ pub enum Refusal {
     Memory,
 }
 
+/// What a call lacked room for.
+#[derive(Clone, Copy, Debug, PartialEq, Eq)]
+pub enum Lack {
+    /// A frame for its object: none was free, and none could be emptied.
+    Frame,
+    /// The version that it would replace: as many old ones wait as may, and none could be removed, since they are read or a
+    /// device fails.
+    Spare,
+}
+
 /// A refusal of the table that is the last word. `Full` stands for those that another try may not meet.
 pub(crate) fn said(refusal: TableRefusal) -> Refusal
     ensures { result ≡ said refusal }
@@ -38,6 +48,7 @@ pub(crate) fn said(refusal: TableRefusal) -> Refusal
         TableRefusal::NamesSpent => Refusal::NamesSpent,
         TableRefusal::Device => Refusal::Device,
         TableRefusal::Damaged => Refusal::Damaged,
-        _ => Refusal::Full,
+        TableRefusal::LimboFull => Refusal::Full(Lack::Spare),
+        _ => Refusal::Full(Lack::Frame),
     }
 }

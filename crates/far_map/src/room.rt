@@ -16,8 +16,7 @@ use version_words::Naming;
 /// How many further tries a call has.
 pub(crate) const MOST_TRIES: u32 = 1_000;
 
-/// Has a frame emptied. Where that is refused for a reason that stays, so is the call. Spent names are no such reason here: the
-/// call itself says it, or finds its frame by another.
+/// Has a frame emptied. Where that is refused for a reason that stays, so is the call.
 fn empty_frame<J: Naming, B: QueueNaming, D: Device, R: Wait>(
     rt: &R,
     map: &FarMap<J, B, D>,
@@ -25,12 +24,12 @@ fn empty_frame<J: Naming, B: QueueNaming, D: Device, R: Wait>(
 ) -> Result<(), Refusal>
     ensures pass { Goes seated.old.caller.pass seated.new.caller.pass }
     ensures none_lost { LosesNone seated.old.caller.limbo seated.old.seat seated.new.caller.limbo seated.new.seat }
-    ensures why { IfErr result IsOfRoom }
+    ensures why { IfErr result (IsOfRoom J.limits seated.new.caller.pass.front) }
 {
     match map.empty_frames(rt, seated) {
         Err(TableRefusal::Memory) => Err(Refusal::Memory),
         Err(TableRefusal::Device) => Err(Refusal::Device),
-        Err(TableRefusal::NamesSpent) => Err(Refusal::Full),
+        Err(TableRefusal::NamesSpent) => Err(Refusal::NamesSpent),
         _ => Ok(()),
     }
 }
@@ -45,7 +44,7 @@ pub(crate) fn make_room<J: Naming, B: QueueNaming, D: Device, R: Wait>(
 ) -> Result<(), Refusal>
     ensures pass { Goes seated.old.caller.pass seated.new.caller.pass }
     ensures none_lost { LosesNone seated.old.caller.limbo seated.old.seat seated.new.caller.limbo seated.new.seat }
-    ensures why { IfErr result (λ why. (why ≡ said refusal) ⊎ IsOfRoom why) }
+    ensures why { IfErr result (λ why. (why ≡ said refusal) ⊎ IsOfRoom J.limits seated.new.caller.pass.front why) }
 {
     match refusal {
         TableRefusal::NoFrame => empty_frame(rt, map, seated),

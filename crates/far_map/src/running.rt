@@ -1,12 +1,13 @@
 //! A run: from settings and devices to a map, its workers, and its end. The names in types are picked here.
 ghost use Rattle.std.specs.Prelude.{◌≡◌, ◌<◌, None, IfOk, IfErr, vec_len};
-ghost use Rattle.std.specs.Option.{option_map};
 ghost use Rattle.version_words.specs.Rows.{limits_of};
 ghost use Rattle.hash_table.specs.Configs.{sizes_of};
-ghost use Rattle.far_map.specs.Faults.{IsLater, IsRunFault};
+ghost use Rattle.hash_table.specs.Openings.{WasOpened};
+ghost use Rattle.far_map.specs.Faults.{IsEarlyFault, IsRunFault};
 ghost use Rattle.far_map.specs.Settings.{config_of, first_bad};
-ghost use Rattle.far_map.specs.Runs.{EndsSo, IsRun, IsRunApart};
+ghost use Rattle.far_map.specs.Runs.{EndsSo, EndsBundled, IsRun, IsRunApart};
 
+use crate::ending::{End, Given};
 use crate::fault::{RunFault, of_opening};
 use crate::opening::map_over;
 use crate::settings::{Settings, setting_of};
@@ -14,6 +15,7 @@ use crate::sharing::serve;
 use crate::work::Work;
 use far_device::Device;
 use far_object::Text;
+use far_pairs::Bundle;
 use hash_table::{Config, FarTable, Opening};
 use std::alloc::Global;
 use std::marker::Brand;
@@ -21,9 +23,6 @@ use std::sync::Wait;
 use std::thread::Threads;
 use swapper::{QueueNaming, QueueOpening};
 use version_words::Naming;
-
-/// All pairs of a map.
-type Pairs = Vec<(Text, Text)>;
 
 /// A run over a table and a queue that were just opened.
 fn over_queue<J, B, D, W, R>(
@@ -34,8 +33,8 @@ fn over_queue<J, B, D, W, R>(
     queue: QueueOpening<Text, Text, J>,
     count: u32,
     work: &W,
-    collects: bool,
-) -> Result<(Vec<W::Out>, Option<Pairs>), RunFault>
+    end: End,
+) -> Result<(Vec<W::Out>, Result<Given, RunFault>), RunFault>
 where
     J: Naming + Send + Sync,
     B: QueueNaming + Send + Sync,
@@ -43,25 +42,32 @@ where
     W: Work,
     R: Threads + Wait + Sync,
     requires queue { queue.table ≡ B.table }
+    requires buckets { config.buckets ≡ J.limits.buckets }
     requires frames { 0 < config.frames }
-    ensures ran { IfOk result (λ r. EndsSo (W.done work.now) J.limits table.limit count r.0.items collects (option_map (λ v. v.items) r.1)) }
-    ensures fault { IfErr result (IsLater J.limits.honest) }
+    ensures ran { IfOk result (λ r. EndsSo (W.done work.now) J.limits table.limit count r.0.items end r.1) }
+    ensures fault { IfErr result (IsEarlyFault None) }
 {
-    let (far, seats) = match map_over::<J, B, D, R>(rt, alloc, config, table, queue, count) {
+    let (far, newcomers) = match map_over::<J, B, D, R>(rt, alloc, config, table, queue, count) {
         Ok(opened) => opened,
         Err(fault) => return Err(fault),
     };
-    let (callers, outs) = match serve(rt, alloc, &far, work, seats) {
+    let (callers, outs) = match serve(rt, alloc, &far, work, newcomers) {
         Ok(ended) => ended,
         Err(fault) => return Err(fault),
     };
-    if !collects {
-        far.abandon(&callers);
-        return Ok((outs, None));
-    }
-    match far.close(rt, alloc, callers) {
-        Ok(pairs) => Ok((outs, Some(pairs))),
-        Err(fault) => Err(fault),
+    match end {
+        End::Pairs => match far.close(rt, alloc, callers) {
+            Ok(pairs) => Ok((outs, Ok(Given::Pairs(pairs)))),
+            Err(fault) => Ok((outs, Err(fault))),
+        },
+        End::Bundles => match far.close_on_threads(rt, alloc, callers) {
+            Ok(bundles) => Ok((outs, Ok(Given::Bundles(bundles)))),
+            Err(fault) => Ok((outs, Err(fault))),
+        },
+        End::Nothing => {
+            far.abandon(&callers);
+            Ok((outs, Ok(Given::Nothing)))
+        }
     }
 }
 
@@ -73,8 +79,8 @@ fn over_row<J, D, W, R>(
     opening: Opening<Text, Text, D>,
     count: u32,
     work: &W,
-    collects: bool,
-) -> Result<(Vec<W::Out>, Option<Pairs>), RunFault>
+    end: End,
+) -> Result<(Vec<W::Out>, Result<Given, RunFault>), RunFault>
 where
     J: Naming + Send + Sync,
     D: Device + Send,
@@ -86,8 +92,9 @@ where
     requires config { opening.config ≡ config }
     requires frames { 0 < config.frames }
     requires spares { 0 < config.spares }
-    ensures ran { IfOk result (λ r. EndsSo (W.done work.now) (limits_of (sizes_of config) D.HONEST) config.limit count r.0.items collects (option_map (λ v. v.items) r.1)) }
-    ensures fault { IfErr result (IsLater D.HONEST) }
+    ensures ran { IfOk result (λ r. EndsSo (W.done work.now) (limits_of (sizes_of config) D.HONEST) config.limit count r.0.items end r.1) }
+    ensures opened { IfOk result (λ _. WasOpened config) }
+    ensures fault { IfErr result (IsEarlyFault None) }
 {
     let table = match opening.named::<J>(alloc) {
         Ok(table) => table,
@@ -97,7 +104,7 @@ where
         Ok(queue) => queue,
         Err(_) => return Err(RunFault::Memory),
     };
-    over_queue::<J, Brand, D, W, R>(rt, alloc, config, table, queue, count, work, collects)
+    over_queue::<J, Brand, D, W, R>(rt, alloc, config, table, queue, count, work, end)
 }
 
 /// A run over these devices, one for each lane.
@@ -108,38 +115,37 @@ fn over_devices<D, W, R>(
     devices: Vec<D>,
     workers: u32,
     work: &W,
-    collects: bool,
-) -> Result<(Vec<W::Out>, Option<Pairs>), RunFault>
+    end: End,
+) -> Result<(Vec<W::Out>, Result<Given, RunFault>), RunFault>
 where
     D: Device + Send,
     W: Work,
     R: Threads + Wait + Sync,
-    ensures ran { IfOk result (λ r. EndsSo (W.done work.now) (limits_of (sizes_of (config_of settings (vec_len devices))) D.HONEST) settings.limit workers r.0.items collects (option_map (λ v. v.items) r.1)) }
+    ensures ran { IfOk result (λ r. EndsSo (W.done work.now) (limits_of (sizes_of (config_of settings (vec_len devices))) D.HONEST) settings.limit workers r.0.items end r.1) }
+    ensures opened { IfOk result (λ _. WasOpened (config_of settings (vec_len devices))) }
     ensures within { IfOk result (λ _. first_bad settings (vec_len devices) ≡ None) }
-    ensures fault { IfErr result (IsRunFault D.HONEST (first_bad settings (vec_len devices))) }
+    ensures fault { IfErr result (IsEarlyFault (first_bad settings (vec_len devices))) }
 {
     let config = settings.config(devices.len());
     if let Some(number) = config.first_bad_with(devices.len()) {
         return Err(RunFault::BadSetting(setting_of(number)));
     }
-    if settings.passes <= workers {
-        return Err(RunFault::PassesSpent);
-    }
     let opening = match Opening::open(alloc, config, devices) {
         Ok(opening) => opening,
         Err(fault) => return Err(of_opening(fault)),
     };
-    over_row::<Brand, D, W, R>(rt, alloc, config, opening, workers, work, collects)
+    over_row::<Brand, D, W, R>(rt, alloc, config, opening, workers, work, end)
 }
 
 /// Opens a map over these devices, one for each lane, and has so many workers do the work on it, each on a thread of its own as
 /// far as threads can be started, and where they are several beside a thread that keeps frames free; then it closes the map. It
 /// answers what the workers gave back, in their order, and all pairs in key order.
 ///
-/// `BadSetting` names the first setting that is outside its limits, before anything else is done, and `PassesSpent` comes next,
-/// where there are not as many passes as workers and one more. `Memory` comes where a growth is refused, `Device` where a device
-/// fails as it is made empty or at the end, `Damaged` where what it gives at the end is no object of its bucket and name, and
-/// `Missed` where a frame or a lane does not give a name then. The map is gone after each.
+/// The faults come in the order of the work. `BadSetting` names the first setting that is outside its limits, before anything else
+/// is done; `Device` comes where a device fails as it is made empty; `PassesSpent` where there are not as many passes as workers
+/// and one more, before any worker begins. At the end `Device` comes where a device fails, `Damaged` where what it gives is no
+/// object of its bucket and name, and `Missed` where a frame or a lane does not give a name. `Memory` comes where a growth is
+/// refused. The map is gone after each.
 pub fn run<D, W, R>(
     rt: &R,
     alloc: Global,
@@ -153,13 +159,45 @@ where
     W: Work,
     R: Threads + Wait + Sync,
     ensures ran { IfOk result (λ r. IsRun (W.done work.now) (limits_of (sizes_of (config_of settings (vec_len devices))) D.HONEST) settings.limit workers r.0.items r.1.items) }
+    ensures opened { IfOk result (λ _. WasOpened (config_of settings (vec_len devices))) }
     ensures within { IfOk result (λ _. first_bad settings (vec_len devices) ≡ None) }
     ensures fault { IfErr result (IsRunFault D.HONEST (first_bad settings (vec_len devices))) }
 {
-    match over_devices(rt, alloc, settings, devices, workers, work, true) {
-        Ok((outs, pairs)) => match pairs {
-            Some(pairs) => Ok((outs, pairs)),
-            None => unreachable!(),
+    match over_devices(rt, alloc, settings, devices, workers, work, End::Pairs) {
+        Ok((outs, given)) => match given {
+            Ok(Given::Pairs(pairs)) => Ok((outs, pairs)),
+            Ok(_) => unreachable!(),
+            Err(fault) => Err(fault),
+        },
+        Err(fault) => Err(fault),
+    }
+}
+
+/// As `run`, for a map of many pairs: they come as they are written, in no order, and the buckets are read side by side;
+/// `far_pairs::in_key_order` lends the pairs in key order. Where a frame or a lane does not give a name at the end it is tried
+/// again, 1,000 times in all. A fault at the end comes beside what the workers gave back.
+pub fn run_bundled<D, W, R>(
+    rt: &R,
+    alloc: Global,
+    settings: Settings,
+    devices: Vec<D>,
+    workers: u32,
+    work: &W,
+) -> Result<(Vec<W::Out>, Result<Vec<Bundle<Text, Text>>, RunFault>), RunFault>
+where
+    D: Device + Send,
+    W: Work,
+    R: Threads + Wait + Sync,
+    ensures ran { IfOk result (λ r. EndsBundled (W.done work.now) (limits_of (sizes_of (config_of settings (vec_len devices))) D.HONEST) settings.limit workers r.0.items r.1) }
+    ensures opened { IfOk result (λ _. WasOpened (config_of settings (vec_len devices))) }
+    ensures within { IfOk result (λ _. first_bad settings (vec_len devices) ≡ None) }
+    ensures fault { IfErr result (IsEarlyFault (first_bad settings (vec_len devices))) }
+{
+    match over_devices(rt, alloc, settings, devices, workers, work, End::Bundles) {
+        Ok((outs, given)) => match given {
+            Ok(Given::Bundles(bundles)) => Ok((outs, Ok(bundles))),
+            Ok(_) => unreachable!(),
+            Err(fault) => Ok((outs, Err(fault))),
         },
         Err(fault) => Err(fault),
     }
@@ -180,13 +218,14 @@ where
     W: Work,
     R: Threads + Wait + Sync,
     ensures ran { IfOk result (λ outs. IsRunApart (W.done work.now) (limits_of (sizes_of (config_of settings (vec_len devices))) D.HONEST) settings.limit workers outs.items) }
+    ensures opened { IfOk result (λ _. WasOpened (config_of settings (vec_len devices))) }
     ensures within { IfOk result (λ _. first_bad settings (vec_len devices) ≡ None) }
-    ensures fault { IfErr result (IsRunFault D.HONEST (first_bad settings (vec_len devices))) }
+    ensures fault { IfErr result (IsEarlyFault (first_bad settings (vec_len devices))) }
 {
-    match over_devices(rt, alloc, settings, devices, workers, work, false) {
-        Ok((outs, pairs)) => match pairs {
-            None => Ok(outs),
-            Some(_) => unreachable!(),
+    match over_devices(rt, alloc, settings, devices, workers, work, End::Nothing) {
+        Ok((outs, given)) => match given {
+            Ok(Given::Nothing) => Ok(outs),
+            _ => unreachable!(),
         },
         Err(fault) => Err(fault),
     }

@@ -3,8 +3,8 @@ ghost use Rattle.std.specs.Prelude.{◌≡◌, ◌<◌, ◌^◌, ◌++◌, ◌�
 ghost use Rattle.std.specs.Thread.{IsSync, IsSend};
 ghost use Rattle.far_map.specs.Faults.{IsOfWorker};
 ghost use Rattle.far_map.specs.Runs.{IsServed, Worked};
-ghost use Rattle.far_map.specs.Firsts.{both};
 
+use crate::entering::Newcomer;
 use crate::fault::RunFault;
 use crate::map::FarMap;
 use crate::work::Work;
@@ -14,24 +14,11 @@ use hash_table::Caller;
 use std::alloc::Global;
 use std::sync::Wait;
 use std::thread::{Threads, join};
-use swapper::{QueueNaming, QueueSeat};
+use swapper::QueueNaming;
 use version_words::Naming;
 
 /// The callers of workers that have ended, and what they gave back, in the order of the workers.
 pub(crate) type Ended<J, T> = (Vec<Caller<Text, Text, J>>, Vec<T>);
-
-/// Both, or the fault of the first that has one.
-fn both<A: Drop, B: Drop, E: Drop>(first: Result<A, E>, then: Result<B, E>) -> Result<(A, B), E>
-    ensures { result ≡ both first then }
-{
-    match first {
-        Ok(a) => match then {
-            Ok(b) => Ok((a, b)),
-            Err(fault) => Err(fault),
-        },
-        Err(fault) => Err(fault),
-    }
-}
 
 /// The worker's caller and what it gave back, behind those of the others.
 fn with_last<J: Naming, T: Drop>(
@@ -56,31 +43,30 @@ fn one<J, B, D, W, R>(
     alloc: Global,
     far: &FarMap<J, B, D>,
     work: &W,
-    seat: QueueSeat<Text, Text, J, B>,
+    newcomer: Newcomer<J, B>,
     worker: u32,
-) -> Result<(Caller<Text, Text, J>, W::Out), RunFault>
+) -> (Caller<Text, Text, J>, W::Out)
 where
     J: Naming,
     B: QueueNaming,
     D: Device,
     W: Work,
     R: Wait,
-    ensures served { IfOk result (λ r. IsServed (λ begun ended out. W.done work.now worker J.limits begun ended out) far.now.table.limit r.0.pass r.1) }
-    ensures fault { IfErr result IsOfWorker }
+    ensures { IsServed (λ begun ended out. W.done work.now worker J.limits begun ended out) far.now.table.limit result.0.pass result.1 }
 {
-    let mut me = far.enter(rt, alloc, seat, worker)?;
+    let mut me = far.begin(alloc, newcomer);
     let out = work.work(rt, alloc, worker, &mut me);
-    Ok((me.leave(), out))
+    (me.leave(), out)
 }
 
-/// A worker for each seat: the last on a thread of its own, and the others on this one and theirs. Of several faults that of the
-/// first worker is answered.
+/// A worker for each newcomer: the last on a thread of its own, and the others on this one and theirs. `Memory` comes where a
+/// growth is refused.
 fn workers<J, B, D, W, R>(
     rt: &R,
     alloc: Global,
     far: &FarMap<J, B, D>,
     work: &W,
-    mut seats: Vec<QueueSeat<Text, Text, J, B>>,
+    mut newcomers: Vec<Newcomer<J, B>>,
 ) -> Result<Ended<J, W::Out>, RunFault>
 where
     J: Naming + Send + Sync,
@@ -88,32 +74,31 @@ where
     D: Device + Send,
     W: Work,
     R: Threads + Wait + Sync,
-    requires few { vec_len seats < 2 ^ 32 }
-    ensures worked { IfOk result (λ r. Worked (λ worker begun ended out. W.done work.now worker J.limits begun ended out) far.now.table.limit (vec_len seats) (map (λ c. c.pass) r.0.items) r.1.items) }
+    requires few { vec_len newcomers < 2 ^ 32 }
+    ensures worked { IfOk result (λ r. Worked (λ worker begun ended out. W.done work.now worker J.limits begun ended out) far.now.table.limit (vec_len newcomers) (map (λ c. c.pass) r.0.items) r.1.items) }
     ensures fault { IfErr result IsOfWorker }
 {
-    let Some(seat) = seats.pop() else {
+    let Some(newcomer) = newcomers.pop() else {
         return Ok((Vec::new(alloc), Vec::new(alloc)));
     };
-    let last = seats.len() as u32;
+    let last = newcomers.len() as u32;
     if last == 0 {
-        let alone = one(rt, alloc, far, work, seat, 0)?;
+        let alone = one(rt, alloc, far, work, newcomer, 0);
         return with_last((Vec::new(alloc), Vec::new(alloc)), alone);
     }
     let (own, others) = join(
         rt,
-        || -> Result<(Caller<Text, Text, J>, W::Out), RunFault>
+        || -> (Caller<Text, Text, J>, W::Out)
             requires { IsSync R.row }
-            ensures served { IfOk result (λ r. IsServed (λ begun ended out. W.done work.entry.now last J.limits begun ended out) far.entry.now.table.limit r.0.pass r.1) }
-            ensures fault { IfErr result IsOfWorker }
-        { one(rt, alloc, far, work, seat, last) },
+            ensures { IsServed (λ begun ended out. W.done work.entry.now last J.limits begun ended out) far.entry.now.table.limit result.0.pass result.1 }
+        { one(rt, alloc, far, work, newcomer, last) },
         || -> Result<Ended<J, W::Out>, RunFault>
-            requires { IsSync R.row × IsSend J.row × IsSync J.row × IsSend B.row × IsSync B.row × IsSend D.row × IsSync W.row × IsSend W.Out.row × (vec_len seats < 2 ^ 32) }
-            ensures worked { IfOk result (λ r. Worked (λ worker begun ended out. W.done work.entry.now worker J.limits begun ended out) far.entry.now.table.limit (vec_len seats) (map (λ c. c.pass) r.0.items) r.1.items) }
+            requires { IsSync R.row × IsSend J.row × IsSync J.row × IsSend B.row × IsSync B.row × IsSend D.row × IsSync W.row × IsSend W.Out.row × (vec_len newcomers < 2 ^ 32) }
+            ensures worked { IfOk result (λ r. Worked (λ worker begun ended out. W.done work.entry.now worker J.limits begun ended out) far.entry.now.table.limit (vec_len newcomers) (map (λ c. c.pass) r.0.items) r.1.items) }
             ensures fault { IfErr result IsOfWorker }
-        { workers(rt, alloc, far, work, seats) },
+        { workers(rt, alloc, far, work, newcomers) },
     );
-    let (others, own) = both(others, own)?;
+    let others = others?;
     with_last(others, own)
 }
 
@@ -124,7 +109,7 @@ pub(crate) fn serve<J, B, D, W, R>(
     alloc: Global,
     far: &FarMap<J, B, D>,
     work: &W,
-    seats: Vec<QueueSeat<Text, Text, J, B>>,
+    newcomers: Vec<Newcomer<J, B>>,
 ) -> Result<Ended<J, W::Out>, RunFault>
 where
     J: Naming + Send + Sync,
@@ -132,22 +117,22 @@ where
     D: Device + Send,
     W: Work,
     R: Threads + Wait + Sync,
-    requires few { vec_len seats < 2 ^ 32 }
-    ensures worked { IfOk result (λ r. Worked (λ worker begun ended out. W.done work.now worker J.limits begun ended out) far.now.table.limit (vec_len seats) (map (λ c. c.pass) r.0.items) r.1.items) }
+    requires few { vec_len newcomers < 2 ^ 32 }
+    ensures worked { IfOk result (λ r. Worked (λ worker begun ended out. W.done work.now worker J.limits begun ended out) far.now.table.limit (vec_len newcomers) (map (λ c. c.pass) r.0.items) r.1.items) }
     ensures fault { IfErr result IsOfWorker }
 {
-    if seats.len() < 2 {
-        return workers(rt, alloc, far, work, seats);
+    if newcomers.len() < 2 {
+        return workers(rt, alloc, far, work, newcomers);
     }
     let (_, done) = join(
         rt,
         || far.evict(rt),
         || -> Result<Ended<J, W::Out>, RunFault>
-            requires { IsSync R.row × IsSend J.row × IsSync J.row × IsSend B.row × IsSync B.row × IsSend D.row × IsSync W.row × IsSend W.Out.row × (vec_len seats < 2 ^ 32) }
-            ensures worked { IfOk result (λ r. Worked (λ worker begun ended out. W.done work.entry.now worker J.limits begun ended out) far.entry.now.table.limit (vec_len seats) (map (λ c. c.pass) r.0.items) r.1.items) }
+            requires { IsSync R.row × IsSend J.row × IsSync J.row × IsSend B.row × IsSync B.row × IsSend D.row × IsSync W.row × IsSend W.Out.row × (vec_len newcomers < 2 ^ 32) }
+            ensures worked { IfOk result (λ r. Worked (λ worker begun ended out. W.done work.entry.now worker J.limits begun ended out) far.entry.now.table.limit (vec_len newcomers) (map (λ c. c.pass) r.0.items) r.1.items) }
             ensures fault { IfErr result IsOfWorker }
         {
-            let done = workers(rt, alloc, far, work, seats);
+            let done = workers(rt, alloc, far, work, newcomers);
             far.stop_evicting();
             done
         },

@@ -10,7 +10,7 @@ use crate::refusal::Refusal;
 /// count of 2^64 - 1 stays.
 #[derive(Clone, Copy, Debug, PartialEq, Eq)]
 pub struct Stats {
-    /// Gets that were finished; `with` and `contains` are gets.
+    /// Gets that were finished; `with`, `hold` and `contains` are gets, and so is a `remove_if` that took nothing out.
     pub gets: u64,
     pub puts: u64,
     pub removes: u64,
@@ -64,7 +64,7 @@ impl Stats {
     {
         match refusal {
             Refusal::TooLong => self.too_long = more(self.too_long),
-            Refusal::Full => self.full = more(self.full),
+            Refusal::Full(_) => self.full = more(self.full),
             Refusal::NamesSpent => self.names_spent = more(self.names_spent),
             Refusal::Device => self.device = more(self.device),
             Refusal::Damaged => self.damaged = more(self.damaged),

@@ -8,6 +8,7 @@ mod devices;
 mod evicting;
 mod lanes;
 mod machine;
+mod maps;
 mod objects;
 mod rows;
 mod tables;
@@ -22,5 +23,6 @@ fn main(rt: HostRuntime) -> io::Result<()> {
     rows::tell_all(&rt)?;
     lanes::tell_all(&rt)?;
     tables::tell_all(&rt)?;
-    evicting::tell_all(&rt)
+    evicting::tell_all(&rt)?;
+    maps::tell_all(&rt)
 }

@@ -10,7 +10,9 @@ use crate::evicting;
 use crate::trials::{Answer, Outcome, Tried, answer, tell, tell_of};
 use far_device::FakeDevice;
 use far_object::{Memory, Text};
-use hash_table::{Caller, CloseFault, Config, FarTable, OpenFault, Opening};
+use hash_table::{
+    Caller, CloseFault, Config, FarTable, HandFault, OpenFault, Opening, Stopped, TakesPairs,
+};
 use std::alloc::Global;
 use std::io;
 use std::marker::Brand;
@@ -55,12 +57,13 @@ pub enum Call {
     Reclaim(Place),
     PairsIn(Place),
     Close,
+    CloseThrough,
     /// A call of what swaps for the table.
     Evicting(evicting::Call),
 }
 
 /// Each call on a table.
-const CALLS: [(&str, Call); 28] = [
+const CALLS: [(&str, Call); 29] = [
     ("enter", Call::Enter),
     ("try_get", Call::Deed(Deed::TryGet, Place::Frame)),
     ("open_scope", Call::OpenScope),
@@ -110,6 +113,7 @@ const CALLS: [(&str, Call); 28] = [
     ("pairs_in, a frame", Call::PairsIn(Place::Frame)),
     ("pairs_in, the device", Call::PairsIn(Place::Device)),
     ("close", Call::Close),
+    ("close_through", Call::CloseThrough),
 ];
 
 /// One device.
@@ -195,11 +199,61 @@ fn close<R: Wait, J: Naming>(rt: &R, alloc: Global, table: Table<J>) -> Tried {
     }
 }
 
+/// Takes pairs, and stops where that is refused memory.
+#[derive(Drop)]
+struct Taker {
+    pairs: Vec<(u64, Text)>,
+}
+
+impl TakesPairs<u64, Text> for Taker {
+    ghost use Rattle.std.specs.Prelude.{◌≡◌, ◌++◌, ⊤, MatchResult};
+    ghost use Rattle.std.proofs.Common.{ap, sym, ◌∙◌};
+    ghost use Rattle.std.proofs.lemmas.List.{append-nil, append_assoc};
+
+    ghost takes = { λ old pairs new. new.pairs.items ≡ old.pairs.items ++ pairs };
+
+    ghost stops = { λ old new. ⊤ };
+
+    ghost takes_none = { λ x. sym (append-nil x.pairs.items) };
+
+    ghost takes_both = { λ x y z first last one other. other ∙ (ap (λ items. items ++ last) one ∙ append_assoc x.pairs.items first last) };
+
+    fn take(&mut self, mut pairs: Vec<(u64, Text)>) -> Result<(), Stopped>
+        ensures { MatchResult result (λ _. self.new.pairs.items ≡ self.old.pairs.items ++ pairs.items) (λ _. ⊤) }
+    {
+        match self.pairs.append(&mut pairs) {
+            Ok(()) => Ok(()),
+            Err(_) => Err(Stopped),
+        }
+    }
+}
+
+/// Hands over the pairs of the table as it ends. After a refusal it is closed, and all callers have come back.
+fn close_through<R: Wait, J: Naming>(rt: &R, alloc: Global, table: Table<J>) -> Tried {
+    let callers = callers(rt, alloc, &table)?;
+    let mut taker = Taker {
+        pairs: Vec::new(alloc),
+    };
+    match table.close_through(rt, alloc, callers, &mut taker) {
+        Ok(()) => Ok(Outcome::at_once(Answer::of(taker.pairs.len() == 2))),
+        Err((HandFault::Close(CloseFault::Memory) | HandFault::Stopped, table, callers)) => {
+            let stands = callers.len() == 1;
+            let is_closed = match table.close(rt, alloc, callers) {
+                Ok(pairs) => pairs.len() == 2,
+                Err(_) => false,
+            };
+            Ok(Outcome::after_memory(stands, Answer::of(is_closed)))
+        }
+        Err(_) => Ok(Outcome::Wrong),
+    }
+}
+
 /// Makes the call on the table.
 fn make<R: Wait, J: Naming>(rt: &R, alloc: Global, table: Table<J>, call: Call) -> Tried {
     let place = match call {
         Call::Enter => return Ok(Outcome::at_once(Answer::of(table.enter().is_ok()))),
         Call::Close => return close(rt, alloc, table),
+        Call::CloseThrough => return close_through(rt, alloc, table),
         Call::Evicting(call) => return evicting::make(rt, alloc, &table, call),
         Call::Deed(_, place) | Call::Reclaim(place) | Call::PairsIn(place) => place,
         Call::OpenScope | Call::Value | Call::SwapOut => Place::Frame,

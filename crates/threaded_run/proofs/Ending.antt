@@ -1,17 +1,13 @@
 -- The end of a run: every worker's record at one log.
 use Rattle.std.proofs.Common.{◌≡◌, ◌≢◌, ℕ, suc, ◌<◌, ◌==◌, Bool, true, false, IsTrue, List, [], ◌∷◌, ◌++◌, Option, Some, None, Result, Ok, Err, OnOk, IfErr, length, map, refl, ap, sym, ◌∙◌, subst, arith}
-use Rattle.std.specs.Prelude.{codes, slice_index_or}
-use Rattle.std.proofs.lemmas.Bool.Decides.{nat_tests}
-use Rattle.std.proofs.lemmas.List.{map-append}
+use Rattle.std.specs.Prelude.{codes}
 use Rattle.std.specs.List.{AllByRecursion}
 use Rattle.far_object.specs.Encodings.{enc_text}
 use Rattle.table_core.specs.declared.limits.Limits.{Limits}
 use Rattle.table_core.specs.Maps.{map_of}
 use Rattle.table_core.specs.Logs.{history}
-use Rattle.hash_table.specs.declared.caller.Caller.{Caller}
-use Rattle.hash_table.specs.Closes.{IsClosed}
 use Rattle.command_file.specs.declared.command.Command.{Command}
-use Rattle.version_words.specs.Views.{IsWhole, AreNone, calls}
+use Rattle.version_words.specs.Views.{IsWhole, AreNone}
 use Rattle.version_words.specs.Views.{AreApart as AreApartViews}
 use Rattle.run_lines.specs.Calls.{Texts, calls_by}
 use Rattle.run_lines.specs.Replies.{RepliedIn}
@@ -22,7 +18,17 @@ use Rattle.run_lines.proofs.Texts.{texts_are_lines}
 use Rattle.threaded_run.specs.Replies.{View, Log, MayReply}
 use Rattle.threaded_run.specs.declared.fault.ThreadedFault.{ThreadedFault}
 use Rattle.threaded_run.specs.declared.fault.ThreadedFault.TheVariants as fault
-use Rattle.threaded_run.specs.Runs.{JobView, Served, IsServed, WorkedAll, AreLines, IsEarly, EndsAt, WritesBefore}
+use Rattle.std.specs.Global.{Vec}
+use Rattle.std.specs.Io.KnownBytes.{Appends}
+use Rattle.far_pairs.specs.Bundles.{all_of}
+use Rattle.version_words.specs.Rows.{limits_of}
+use Rattle.hash_table.specs.Configs.{sizes_of}
+use Rattle.hash_table.specs.declared.config.Config.{Config}
+use Rattle.far_map.specs.declared.fault.RunFault.{RunFault}
+use Rattle.far_map.specs.Runs.{IsEnd, EndsBundled}
+use Rattle.threaded_run.specs.Ends.{Collected, Writes}
+use Rattle.threaded_run.proofs.Working.{Lines, Gives, worked_all}
+use Rattle.threaded_run.specs.Runs.{Served, IsServed, AreGiven, WorkedAll, AreLines, IsEarly, EndsAt, WritesBefore}
 use Rattle.threaded_run.proofs.Stepping.{history_grows}
 
 abbrev worked : Served → Worked
@@ -30,38 +36,29 @@ worked s = record { pass = s.pass.number; commands = s.commands; lines = s.lines
 
 -- ---- numbers that differ
 
-none_front : (pass : View) (all : List Served) (ys : List View) → AreNone pass (map (λ s. s.pass) all ++ ys) → AllByRecursion (λ q. pass.number ≢ q) (map (λ w. w.pass) (map worked all))
-none_front pass [] ys h = tt
-none_front pass (s ∷ all) ys h = (h.0, none_front pass all ys h.1)
+none_here : (pass : View) (all : List Served) → AreNone pass (map (λ s. s.pass) all) → AllByRecursion (λ q. pass.number ≢ q) (map (λ w. w.pass) (map worked all))
+none_here pass [] h = tt
+none_here pass (s ∷ all) h = (h.0, none_here pass all h.1)
 
-apart_front : (all : List Served) (ys : List View) → AreApartViews (map (λ s. s.pass) all ++ ys) → AreApart (map (λ w. w.pass) (map worked all))
-apart_front [] ys h = tt
-apart_front (s ∷ all) ys h = (none_front s.pass all ys h.0, apart_front all ys h.1)
+apart_here : (all : List Served) → AreApartViews (map (λ s. s.pass) all) → AreApart (map (λ w. w.pass) (map worked all))
+apart_here [] h = tt
+apart_here (s ∷ all) h = (none_here s.pass all h.0, apart_here all h.1)
 
--- a number that is none of the files' and not the last one's
-none_of : (p : ℕ) (all : List Served) (e : View) → AllByRecursion (λ w. w.pass ≢ p) (map worked all) → e.number ≢ p → AreNone (record { front = []; number = p }) (map (λ s. s.pass) all ++ e ∷ [])
-none_of p [] e h other = (λ is. other (sym is), tt)
-none_of p (s ∷ all) e h other = (λ is. h.0 (sym is), none_of p all e h.1 other)
+-- a number that is none of the files'
+none_of : (p : ℕ) (all : List Served) → AllByRecursion (λ w. w.pass ≢ p) (map worked all) → AreNone (record { front = []; number = p }) (map (λ s. s.pass) all)
+none_of p [] h = tt
+none_of p (s ∷ all) h = (λ is. h.0 (sym is), none_of p all h.1)
 
 -- ---- all passes at one log
 
-module _ {J : Type 0} where
-  all_whole : (P : View → Type 0) (callers : List (Caller (List ℕ) (List ℕ) J)) → ((k : ℕ) (d : Caller (List ℕ) (List ℕ) J) → k < length callers → P (slice_index_or callers k d).pass) → AllByRecursion P (map (λ c. c.pass) callers)
-  all_whole P [] each = tt
-  all_whole P (c ∷ cs) each = (each 0 c (omega arith), all_whole P cs (λ k d lt. each (suc k) d (omega (arith, lt))))
-
-last_of : {A : Type 0} (P : A → Type 0) (xs : List A) (y : A) → AllByRecursion P (xs ++ y ∷ []) → P y
-last_of P [] y h = h.0
-last_of P (x ∷ xs) y h = last_of P xs y h.1
-
 module _ (l : Limits) (limit : ℕ) (honest : IsTrue l.honest) (log : Log) where
-  here : (all : List Served) (ys : List View) → AllByRecursion (λ (pass : View). IsWhole log pass) (map (λ s. s.pass) all ++ ys) → AllByRecursion (IsServed l limit) all
+  here : (all : List Served) → AllByRecursion (λ (pass : View). IsWhole log pass) (map (λ s. s.pass) all) → AllByRecursion (IsServed l limit) all
       → AllByRecursion (λ w. RepliedIn (MayReply l.buckets limit) (history log) w.pass w.commands w.lines) (map worked all)
-  here [] ys whole r = tt
-  here (s ∷ all) ys whole r =
+  here [] whole r = tt
+  here (s ∷ all) whole r =
       let w = whole.0 in (
         (let own = r.0.replied honest in (own.0, replied_later (MayReply l.buckets limit) (history s.pass.front) (history log) s.pass.number [] None s.commands s.lines own.0 (history_grows s.pass.front log w.seen) w.all own.1)),
-        here all ys whole.1 r.1,
+        here all whole.1 r.1,
       )
 
 -- ---- lists of files
@@ -83,53 +80,76 @@ counts l limit [] h = refl
 counts l limit (s ∷ all) h =
     ap (λ (n : ℕ). n ∷ map (λ ls. length ls) (map (λ s. s.lines) all)) h.0.count ∙ ap (λ (ns : List ℕ). length s.commands ∷ ns) (counts l limit all h.1)
 
-module _ {J : Type 0} where
-  pub ran : (l : Limits) (limit : ℕ) (jobs : List JobView) (files : List (List Command)) (callers : List (Caller (List ℕ) (List ℕ) J)) (e : Caller (List ℕ) (List ℕ) J) (all : List (Caller (List ℕ) (List ℕ) J)) (texts : List (List ℕ)) (pairs : Texts)
-      → map (λ j. j.commands) jobs ≡ files → WorkedAll l limit jobs (map (λ c. c.pass) callers) texts → calls e.pass ≡ [] → all ≡ callers ++ e ∷ [] → IsClosed enc_text enc_text l all pairs → IsTrue l.honest
-      → Ran (MayReply l.buckets limit) files (file_texts 1 texts ++ written (codes "contents" ∷ map pair_line pairs))
-  ran l limit jobs files callers e all texts pairs j w none all_is close honest = record {
-    calls = history close.log;
-    all = map worked w.all;
-    files_are = files_of w.all ∙ (w.files_are ∙ j);
-    apart = apart_front w.all (e.pass ∷ []) (subst AreApartViews passes_are close.apart);
-    replied = here l limit honest close.log w.all (e.pass ∷ []) whole w.served;
-    others = others;
-    text_is =
-        ap (λ (z : List ℕ). z ++ written (codes "contents" ∷ map pair_line pairs))
-        (ap (file_texts 1) (sym w.texts_are ∙ texts_of_all w.all) ∙ (texts_are_lines 1 (map (λ s. s.lines) w.all)))
-        ∙ (ap (λ (m : Texts). written (file_lines 1 (map (λ s. s.lines) w.all)) ++ written (codes "contents" ∷ map pair_line m)) (close.pairs_are honest)
-        ∙ ap (λ (ls : List (List (List ℕ))). output ls (map_of enc_text enc_text (history close.log))) (sym (lines_of_all w.all)));
-  }
-    where
-      passes_are : map (λ c. c.pass) all ≡ map (λ s. s.pass) w.all ++ e.pass ∷ []
-      passes_are = ap (λ (cs : List (Caller (List ℕ) (List ℕ) J)). map (λ c. c.pass) cs) all_is ∙ (map-append (λ (c : Caller (List ℕ) (List ℕ) J). c.pass) callers (e ∷ []) ∙ ap (λ (ps : List View). ps ++ e.pass ∷ []) (sym w.passes_are))
-
-      whole : AllByRecursion (λ (pass : View). IsWhole close.log pass) (map (λ s. s.pass) w.all ++ e.pass ∷ [])
-      whole = subst (λ (ps : List View). AllByRecursion (λ (pass : View). IsWhole close.log pass) ps) passes_are (all_whole (λ (pass : View). IsWhole close.log pass) all close.whole)
-
-      others : (p : ℕ) → AllByRecursion (λ x. x.pass ≢ p) (map worked w.all) → calls_by p (history close.log) ≡ []
-      others p apart = by (e.pass.number == p) refl
-        where
-          own : IsWhole close.log e.pass
-          own = last_of (λ (pass : View). IsWhole close.log pass) (map (λ s. s.pass) w.all) e.pass whole
-
-          by : (c : Bool) → (e.pass.number == p) ≡ c → calls_by p (history close.log) ≡ []
-          by true at =
-              let same : e.pass.number ≡ p = grind (arith, nat_tests) in
-              ap (λ (q : ℕ). calls_by q (history close.log)) (sym same) ∙ (own.all ∙ none)
-          by false at =
-              let other : e.pass.number ≢ p = grind (arith, nat_tests) in
-              close.no_other (record { front = []; number = p }) (subst (λ (ps : List View). AreNone (record { front = []; number = p }) ps) (sym passes_are) (none_of p w.all e.pass apart other))
+pub ran : (l : Limits) (limit : ℕ) (files : List (List Command)) (passes : List View) (texts : List (List ℕ)) (pairs : Texts) → WorkedAll l limit files passes texts → IsEnd l passes pairs → IsTrue l.honest
+    → Ran (MayReply l.buckets limit) files (file_texts 1 texts ++ written (codes "contents" ∷ map pair_line pairs))
+ran l limit files passes texts pairs w end honest = record {
+  calls = history end.log;
+  all = map worked w.all;
+  files_are = files_of w.all ∙ w.files_are;
+  apart = apart_here w.all (subst AreApartViews (sym w.passes_are) end.apart);
+  replied = here l limit honest end.log w.all (subst (λ (ps : List View). AllByRecursion (λ (pass : View). IsWhole end.log pass) ps) (sym w.passes_are) end.whole) w.served;
+  others = λ p apart. end.no_other (record { front = []; number = p }) (subst (λ (ps : List View). AreNone (record { front = []; number = p }) ps) w.passes_are (none_of p w.all apart));
+  text_is =
+      ap (λ (z : List ℕ). z ++ written (codes "contents" ∷ map pair_line pairs))
+      (ap (file_texts 1) (sym w.texts_are ∙ texts_of_all w.all) ∙ (texts_are_lines 1 (map (λ s. s.lines) w.all)))
+      ∙ (ap (λ (m : Texts). written (file_lines 1 (map (λ s. s.lines) w.all)) ++ written (codes "contents" ∷ map pair_line m)) (end.pairs_are honest)
+      ∙ ap (λ (ls : List (List (List ℕ))). output ls (map_of enc_text enc_text (history end.log))) (sym (lines_of_all w.all)));
+}
 
 -- the texts before the contents are the files' lines
-pub lines_before : (l : Limits) (limit : ℕ) (jobs : List JobView) (files : List (List Command)) (passes : List View) (texts : List (List ℕ)) → map (λ j. j.commands) jobs ≡ files → WorkedAll l limit jobs passes texts → AreLines files (file_texts 1 texts)
-lines_before l limit jobs files passes texts j w = record {
+pub lines_before : (l : Limits) (limit : ℕ) (files : List (List Command)) (passes : List View) (texts : List (List ℕ)) → WorkedAll l limit files passes texts → AreLines files (file_texts 1 texts)
+lines_before l limit files passes texts w = record {
   lines = map (λ s. s.lines) w.all;
-  count = counts l limit w.all w.served ∙ ap (λ (cs : List (List Command)). map (λ c. length c) cs) (w.files_are ∙ j);
+  count = counts l limit w.all w.served ∙ ap (λ (cs : List (List Command)). map (λ c. length c) cs) w.files_are;
   is = ap (file_texts 1) (sym w.texts_are ∙ texts_of_all w.all) ∙ texts_are_lines 1 (map (λ s. s.lines) w.all);
 }
 
+-- ---- a run of a map whose workers give lines
+
+module _ (honest : Bool) (config back : Config) (limit count : ℕ) (files scripts : List (List Command)) (outs : List Lines) (texts : List (List ℕ)) (end : Result (Vec Texts) RunFault)
+    (same : back ≡ config) (same_limit : limit ≡ config.limit) (same_count : count ≡ length files) (same_files : scripts ≡ files) (given : AreGiven outs texts) where
+  abbrev l : Limits
+  l = limits_of (sizes_of config) honest
+
+  abbrev Ends : Type 0
+  Ends = EndsBundled (λ worker l begun ended (out : Lines). Gives scripts worker l begun ended out) (limits_of (sizes_of back) honest) limit count outs end
+
+  abbrev EndsHere : Result (Vec Texts) RunFault → Type 0
+  EndsHere e = EndsBundled (λ worker l begun ended (out : Lines). Gives files worker l begun ended out) l config.limit (length files) outs e
+
+  ends_here : Ends → EndsHere end
+  ends_here h =
+      subst (λ (fs : List (List Command)). EndsBundled (λ worker l begun ended (out : Lines). Gives fs worker l begun ended out) l config.limit (length files) outs end) same_files
+      (subst (λ (n : ℕ). EndsBundled (λ worker l begun ended (out : Lines). Gives scripts worker l begun ended out) l config.limit n outs end) same_count
+      (subst (λ (n : ℕ). EndsBundled (λ worker l begun ended (out : Lines). Gives scripts worker l begun ended out) l n count outs end) same_limit
+      (subst (λ (k : Config). EndsBundled (λ worker l begun ended (out : Lines). Gives scripts worker l begun ended out) (limits_of (sizes_of k) honest) limit count outs end) same h)))
+
+  lines_here : (e : Result (Vec Texts) RunFault) → EndsHere e → AreLines files (file_texts 1 texts)
+  lines_here (Ok bundles) h = lines_before l config.limit files h.passes texts (worked_all l config.limit files h.passes outs texts h.worked given)
+  lines_here (Err fault) h = let w = h.0 in lines_before l config.limit files w.passes texts (worked_all l config.limit files w.passes outs texts w.worked given)
+
+  pub lines_of_files : Ends → AreLines files (file_texts 1 texts)
+  lines_of_files h = lines_here end (ends_here h)
+
+  ran_here : (e : Result (Vec Texts) RunFault) (old new : Option (List ℕ)) → EndsHere e → IsTrue honest → Collected e (λ bundles. Writes (all_of bundles.items) old new (file_texts 1 texts))
+      → (text : List ℕ) × Ran (MayReply config.buckets config.limit) files text × Appends old new text
+  ran_here (Ok bundles) old new h is_honest w =
+      let are = w.are in (
+        file_texts 1 texts ++ written (codes "contents" ∷ map pair_line are.all),
+        ran l config.limit files h.passes texts are.all (worked_all l config.limit files h.passes outs texts h.worked given) (h.ended are.all are.same are.rising) is_honest,
+        subst (λ (z : List ℕ). Appends old new (file_texts 1 texts ++ (codes "contents" ++ 10 ∷ z))) are.are w.wrote,
+      )
+  ran_here (Err fault) old new h is_honest w = absurd w
+
+  pub ran_files : (old new : Option (List ℕ)) → Ends → IsTrue honest → Collected end (λ bundles. Writes (all_of bundles.items) old new (file_texts 1 texts))
+      → (text : List ℕ) × Ran (MayReply config.buckets config.limit) files text × Appends old new text
+  ran_files old new h is_honest w = ran_here end old new (ends_here h) is_honest w
+
 -- ---- the answer of a run by that of its end
+
+pub always : {T E : Type 0} (r : Result T E) (P : Type 0) → P → OnOk r P
+always (Ok done) P p = p
+always (Err e) P p = tt
 
 pub ended : {T E : Type 0} (r : Result T E) (P Q : Type 0) → (P → Q) → OnOk r P → OnOk r Q
 ended (Ok done) P Q f h = f h

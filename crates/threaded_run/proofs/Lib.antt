@@ -4,6 +4,5 @@ pub mod Stepping
 pub mod Working
 pub mod Ending
 pub mod Adding
-pub mod Settings
 mod Contents
-pub mod Closing
+mod Lanes

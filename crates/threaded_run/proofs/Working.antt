@@ -1,8 +1,9 @@
--- A worker, one command after another, and workers that have ended.
-use Rattle.std.proofs.Common.{◌≡◌, ℕ, ◌+◌, ◌<◌, ◌≤◌, IsTrue, Option, None, Result, Ok, Err, IfOk, List, [], ◌∷◌, ◌++◌, length, take, get_or, map, refl, ap, sym, ◌∙◌, subst, arith, add-one, length-append}
+-- A worker, one command after another, and all workers of a run.
+use Rattle.std.proofs.Common.{◌≡◌, ℕ, zero, suc, ◌+◌, ◌<◌, ◌≤◌, IsTrue, Option, None, Result, Ok, Err, IfOk, List, [], ◌∷◌, ◌++◌, length, take, get_or, map, refl, ap, sym, ◌∙◌, subst, arith, add-one, length-append, inl, inr, ◌⊎◌}
+use Rattle.std.specs.Prelude.{slice_index_or}
+use Rattle.std.specs.Global.{Vec}
 use Rattle.std.proofs.lemmas.List.{take_all, map-append}
 use Rattle.std.proofs.Math.Seq.{take-suc}
-use Rattle.std.specs.List.{AllByRecursion}
 use Rattle.table_core.specs.declared.limits.Limits.{Limits}
 use Rattle.table_core.specs.Logs.{history}
 use Rattle.version_words.specs.Views.{calls, calls_of, Goes}
@@ -11,16 +12,17 @@ use Rattle.run_lines.specs.Replies.{RepliedFrom}
 use Rattle.run_lines.specs.Output.{written}
 use Rattle.run_lines.proofs.Replying.{replied_later, replied_more}
 use Rattle.run_lines.proofs.Written.{written-more}
-use Rattle.threaded_run.specs.Replies.{View, MayReply, RunsTo}
-use Rattle.threaded_run.specs.Runs.{JobView, EndedView, Served, IsServed, EndedIs, WorkedAll, BothSo}
+use Rattle.far_map.specs.Views.{SessionView}
+use Rattle.far_map.specs.Runs.{Served, AreServed, Worked}
+use Rattle.threaded_run.specs.declared.fault.WorkFault.{WorkFault}
+use Rattle.threaded_run.specs.declared.fault.WorkFault.TheVariants as work
+use Rattle.threaded_run.specs.Replies.{View, MayReply, RunsTo, RunsOn}
+use Rattle.threaded_run.specs.Runs.{Served as FileRun}
+use Rattle.threaded_run.specs.Runs.{EndedView, IsServed, EndedIs, AreGiven, IsFirstFault, WorkedAll}
 use Rattle.threaded_run.proofs.Stepping.{history_grows, stays, step}
 
 taken : {A : Type 0} (xs : List A) (i : ℕ) (x : A) → i < length xs → x ≡ get_or xs i x → take (i + 1) xs ≡ take i xs ++ x ∷ []
 taken xs i x lt at = rw add-one (take-suc xs i x lt) ∙ ap (λ y. take i xs ++ y ∷ []) (sym at)
-
-pub all-push : {A : Type 0} (P : A → Type 0) (xs : List A) (x : A) → AllByRecursion P xs → P x → AllByRecursion P (xs ++ x ∷ [])
-all-push P [] x all p = (p, tt)
-all-push P (y ∷ xs) x all p = (all.0, all-push P xs x all.1 p)
 
 module _ (l : Limits) (limit : ℕ) where
   -- i commands have been run, and behind them this value is held
@@ -70,47 +72,105 @@ module _ (l : Limits) (limit : ℕ) where
         served = record { count = w.count; replied = λ honest. (held, w.replied honest) };
       })
 
-  -- ---- the workers
+  -- a command that was run, and behind which the pass went on
+  pub next_on : (old now new : View) (held later : Option (List ℕ)) (commands : List Command) (i : ℕ) (text more : List ℕ) (c : Command) (line : List ℕ)
+      → Working old now held commands i text → i < length commands → c ≡ get_or commands i c → RunsOn l limit now new held later c line → more ≡ text ++ (line ++ 10 ∷ []) → Working old new later commands (i + 1) more
+  next_on old now new held later commands i text more c line w lt at ran is =
+      seen_more old ran.front new later commands (i + 1) more (next old now ran.front held later commands i text more c line w lt at ran.runs is) ran.goes
 
-  pub nothing : (jobs : List JobView) (passes : List View) (texts : List (List ℕ)) → jobs ≡ [] → passes ≡ [] → texts ≡ [] → WorkedAll l limit jobs passes texts
-  nothing jobs passes texts j p t = record {
-    all = [];
-    files_are = ap (λ (js : List JobView). map (λ j. j.commands) js) (sym j);
-    passes_are = sym p;
-    texts_are = sym t;
-    served = tt;
-  }
+  -- no command was run
+  pub idle : (old : View) (text : List ℕ) → text ≡ [] → calls old ≡ [] → EndedIs l limit old [] (record { pass = old; text = text })
+  idle old text none new = finish old old None [] 0 text (start old None [] text none new refl) (omega arith)
 
-  pub more : (jobs rest : List JobView) (job : JobView) (e : EndedView) (passes new_passes : List View) (texts new_texts : List (List ℕ))
-      → jobs ≡ rest ++ job ∷ [] → new_passes ≡ passes ++ e.pass ∷ [] → new_texts ≡ texts ++ e.text ∷ []
-      → WorkedAll l limit rest passes texts → EndedIs l limit job.pass job.commands e → WorkedAll l limit jobs new_passes new_texts
-  more jobs rest job e passes new_passes texts new_texts j p t w ended =
-      let one : Served = record { pass = e.pass; commands = job.commands; lines = ended.lines } in
-      record {
-        all = w.all ++ one ∷ [];
-        files_are =
-            map-append (λ (s : Served). s.commands) w.all (one ∷ [])
-            ∙ (ap (λ (x : List (List Command)). x ++ job.commands ∷ []) w.files_are
-            ∙ (sym (map-append (λ (j : JobView). j.commands) rest (job ∷ [])) ∙ ap (λ (js : List JobView). map (λ j. j.commands) js) (sym j)));
-        passes_are = map-append (λ (s : Served). s.pass) w.all (one ∷ []) ∙ (ap (λ (x : List View). x ++ e.pass ∷ []) w.passes_are ∙ sym p);
-        texts_are =
-            map-append (λ (s : Served). written s.lines) w.all (one ∷ [])
-            ∙ (ap (λ (x : List (List ℕ)). x ++ written ended.lines ∷ []) w.texts_are ∙ (ap (λ (x : List ℕ). texts ++ x ∷ []) (sym ended.text_is) ∙ sym t));
-        served = all-push (IsServed l limit) w.all one w.served ended.served;
-      }
+-- past the last file there is none
+pub past_end : (files : List (List Command)) (i : ℕ) → length files ≤ i → slice_index_or files i [] ≡ []
+past_end [] i past = refl
+past_end (c ∷ files) zero past = absurd (omega (arith, past))
+past_end (c ∷ files) (suc i) past = past_end files i (omega (arith, past))
 
-  -- the same of what was answered, where all were
-  pub more_both : {R A B E : Type 0} (result : Result R E) (others : Result A E) (last : Result B E) (passes_of : R → List View) (texts_of : R → List (List ℕ)) (passes : A → List View) (texts : A → List (List ℕ)) (ended_of : B → EndedView)
-      → (jobs rest : List JobView) (job : JobView) → jobs ≡ rest ++ job ∷ [] → IfOk result (λ r. BothSo others last (λ o e. passes_of r ≡ passes o ++ (ended_of e).pass ∷ [])) → IfOk result (λ r. BothSo others last (λ o e. texts_of r ≡ texts o ++ (ended_of e).text ∷ []))
-      → IfOk others (λ o. WorkedAll l limit rest (passes o) (texts o)) → IfOk last (λ e. EndedIs l limit job.pass job.commands (ended_of e)) → IfOk result (λ r. WorkedAll l limit jobs (passes_of r) (texts_of r))
-  more_both (Err e) others last passes_of texts_of passes texts ended_of jobs rest job j p t w ended = tt
-  more_both (Ok r) (Ok o) (Ok e) passes_of texts_of passes texts ended_of jobs rest job j p t w ended = more jobs rest job (ended_of e) (passes o) (passes_of r) (texts o) (texts_of r) j p t w ended
-  more_both (Ok r) (Ok o) (Err e) passes_of texts_of passes texts ended_of jobs rest job j p t w ended = absurd p
-  more_both (Ok r) (Err e) last passes_of texts_of passes texts ended_of jobs rest job j p t w ended = absurd p
+-- ---- the workers
 
-  -- the same of what was answered, where it was
-  pub more_ok : {R E : Type 0} (result : Result R E) (passes_of : R → List View) (texts_of : R → List (List ℕ)) (jobs rest : List JobView) (job : JobView) (e : EndedView) (passes : List View) (texts : List (List ℕ))
-      → jobs ≡ rest ++ job ∷ [] → IfOk result (λ r. passes_of r ≡ passes ++ e.pass ∷ []) → IfOk result (λ r. texts_of r ≡ texts ++ e.text ∷ [])
-      → WorkedAll l limit rest passes texts → EndedIs l limit job.pass job.commands e → IfOk result (λ r. WorkedAll l limit jobs (passes_of r) (texts_of r))
-  more_ok (Ok r) passes_of texts_of jobs rest job e passes texts j p t w ended = more jobs rest job e passes (passes_of r) texts (texts_of r) j p t w ended
-  more_ok (Err e) passes_of texts_of jobs rest job ended_e passes texts j p t w ended = tt
+abbrev pub Lines : Type 0
+Lines = Result (Vec ℕ) WorkFault
+
+-- the worker's lines, where there are some, are its file's
+abbrev pub Gives : List (List Command) → ℕ → Limits → SessionView → SessionView → Lines → Type 0
+Gives files worker l begun ended out = IfOk out (λ lines. EndedIs l begun.limit begun.pass (slice_index_or files worker []) (record { pass = ended.pass; text = lines.items }))
+
+front : (outs : List Lines) (last : Lines) (fault : WorkFault) → IsFirstFault outs fault → IsFirstFault (outs ++ last ∷ []) fault
+front [] last fault h = absurd h
+front (Ok lines ∷ outs) last fault h = front outs last fault h
+front (Err e ∷ outs) last fault h = h
+
+pub fault_front : (outs all : List Lines) (last : Lines) (fault : WorkFault) → all ≡ outs ++ last ∷ [] → IsFirstFault outs fault ⊎ (fault ≡ work.Memory) → IsFirstFault all fault ⊎ (fault ≡ work.Memory)
+fault_front outs all last fault is (inl h) = inl (subst (λ (os : List Lines). IsFirstFault os fault) (sym is) (front outs last fault h))
+fault_front outs all last fault is (inr h) = inr h
+
+behind : (outs : List Lines) (texts : List (List ℕ)) (fault : WorkFault) → AreGiven outs texts → IsFirstFault (outs ++ Err fault ∷ []) fault
+behind [] texts fault h = refl
+behind (Ok lines ∷ outs) texts fault h = behind outs h.0 fault h.2
+behind (Err e ∷ outs) texts fault h = absurd h
+
+pub fault_here : (outs all : List Lines) (texts : List (List ℕ)) (fault : WorkFault) → all ≡ outs ++ Err fault ∷ [] → AreGiven outs texts → IsFirstFault all fault
+fault_here outs all texts fault is h = subst (λ (os : List Lines). IsFirstFault os fault) (sym is) (behind outs texts fault h)
+
+more : (outs : List Lines) (texts : List (List ℕ)) (lines : Vec ℕ) → AreGiven outs texts → AreGiven (outs ++ Ok lines ∷ []) (texts ++ lines.items ∷ [])
+more [] texts lines h = ([], ap (λ (ts : List (List ℕ)). ts ++ lines.items ∷ []) h, refl)
+more (Ok first ∷ outs) texts lines h = (h.0 ++ lines.items ∷ [], ap (λ (ts : List (List ℕ)). ts ++ lines.items ∷ []) h.1, more outs h.0 lines h.2)
+more (Err e ∷ outs) texts lines h = absurd h
+
+pub mapped : (new old : List (Vec ℕ)) (lines : Vec ℕ) → new ≡ old ++ lines ∷ [] → map (λ t. t.items) new ≡ map (λ t. t.items) old ++ lines.items ∷ []
+mapped new old lines is = ap (λ (ts : List (Vec ℕ)). map (λ t. t.items) ts) is ∙ map-append (λ (t : Vec ℕ). t.items) old (lines ∷ [])
+
+pub given_here : (outs all : List Lines) (texts given : List (List ℕ)) (lines : Vec ℕ) → all ≡ outs ++ Ok lines ∷ [] → given ≡ texts ++ lines.items ∷ [] → AreGiven outs texts → AreGiven all given
+given_here outs all texts given lines is made h =
+    subst (λ (os : List Lines). AreGiven os given) (sym is) (subst (λ (ts : List (List ℕ)). AreGiven (outs ++ Ok lines ∷ []) ts) (sym made) (more outs texts lines h))
+
+module _ (l : Limits) (limit : ℕ) (files : List (List Command)) where
+  -- the files from this one on
+  abbrev Here : ℕ → List (List Command) → Type 0
+  Here n rest = (k : ℕ) → k < length rest → slice_index_or files (n + k) [] ≡ slice_index_or rest k []
+
+  here_tail : (n : ℕ) (c : List Command) (rest : List (List Command)) → Here n (c ∷ rest) → Here (n + 1) rest
+  here_tail n c rest h k lt =
+      let same : n + suc k ≡ n + 1 + k = omega arith in
+      subst (λ (m : ℕ). slice_index_or files m [] ≡ slice_index_or rest k []) same (h (suc k) (omega (arith, lt)))
+
+  all_given : (n : ℕ) (rest : List (List Command)) (served : List (Served Lines)) (texts : List (List ℕ)) → Here n rest → length served ≡ length rest
+      → AreServed (λ worker begun ended out. Gives files worker l begun ended out) limit n served → AreGiven (map (λ s. s.out) served) texts → WorkedAll l limit rest (map (λ s. s.ended.pass) served) texts
+  all_given n [] [] texts here count all given = record { all = []; files_are = refl; passes_are = refl; texts_are = sym given; served = tt }
+  all_given n [] (s ∷ served) texts here count all given = absurd (omega (arith, count))
+  all_given n (c ∷ rest) [] texts here count all given = absurd (omega (arith, count))
+  all_given n (c ∷ rest) (s ∷ served) texts here count all given = by (λ ts g. all_given (n + 1) rest served ts (here_tail n c rest here) (omega (arith, count)) all.3 g) s.out refl
+    where
+      by : ((ts : List (List ℕ)) → AreGiven (map (λ s. s.out) served) ts → WorkedAll l limit rest (map (λ s. s.ended.pass) served) ts) → (out : Lines) → s.out ≡ out
+          → WorkedAll l limit (c ∷ rest) (map (λ s. s.ended.pass) (s ∷ served)) texts
+      by behind (Ok lines) is =
+          let g = subst (λ (o : Lines). AreGiven (o ∷ map (λ s. s.out) served) texts) is given in
+          let e = subst (λ (o : Lines). Gives files s.worker l s.begun s.ended o) is all.2 in
+          let place : s.worker ≡ n + 0 = omega (arith, all.0) in
+          let new = all.1 in
+          let own : EndedIs l limit s.begun.pass c (record { pass = s.ended.pass; text = lines.items }) =
+          subst (λ (cs : List Command). EndedIs l limit s.begun.pass cs (record { pass = s.ended.pass; text = lines.items }))
+          (ap (λ (m : ℕ). slice_index_or files m []) place ∙ here 0 (omega arith))
+          (subst (λ (m : ℕ). EndedIs l m s.begun.pass (slice_index_or files s.worker []) (record { pass = s.ended.pass; text = lines.items })) new.limit_is e) in
+          let others = behind g.0 g.2 in
+          let one : FileRun = record { pass = s.ended.pass; commands = c; lines = own.lines } in
+          record {
+            all = one ∷ others.all;
+            files_are = ap (λ (cs : List (List Command)). c ∷ cs) others.files_are;
+            passes_are = ap (λ (ps : List View). s.ended.pass ∷ ps) others.passes_are;
+            texts_are = ap (λ (ts : List (List ℕ)). written own.lines ∷ ts) others.texts_are ∙ (ap (λ (t : List ℕ). t ∷ g.0) (sym own.text_is) ∙ sym g.1);
+            served = (own.served, others.served);
+          }
+      by behind (Err e) is = absurd (subst (λ (o : Lines). AreGiven (o ∷ map (λ s. s.out) served) texts) is given)
+
+  first_here : (k : ℕ) → slice_index_or files (0 + k) [] ≡ slice_index_or files k []
+  first_here k = let same : 0 + k ≡ k = omega arith in ap (λ (m : ℕ). slice_index_or files m []) same
+
+  -- all files were run, where all workers gave lines
+  pub worked_all : (passes : List View) (outs : List Lines) (texts : List (List ℕ)) → Worked (λ worker begun ended out. Gives files worker l begun ended out) limit (length files) passes outs → AreGiven outs texts
+      → WorkedAll l limit files passes texts
+  worked_all passes outs texts w given =
+      subst (λ (ps : List View). WorkedAll l limit files ps texts) w.passes_are
+      (all_given 0 files w.all texts (λ k lt. first_here k) w.count_is w.served (subst (λ (os : List Lines). AreGiven os texts) (sym w.outs_are) given))

@@ -1,4 +1,4 @@
--- The end of a run's table.
+-- The end of a run.
 use Rattle.std.specs.Prelude.{ℕ, List, ◌∷◌, ◌++◌, Option, Result, Ok, Err, map, codes, ◌≡◌}
 use Rattle.std.specs.Io.KnownBytes.{Appends}
 use Rattle.std.specs.List.Sorted.{IsPermutation}
@@ -24,3 +24,8 @@ pub record Writes (pairs : Texts) (old new : Option (List ℕ)) (text : List ℕ
   pub lines : List ℕ
   pub are : AreLinesOf pairs lines
   pub wrote : Appends old new (text ++ (codes "contents" ++ 10 ∷ lines))
+
+-- there are pairs, and of them this is so
+abbrev pub Collected : {A E : Type 0} → Result A E → (A → Type 0) → Type 0
+Collected (Ok given) P = P given
+Collected (Err fault) P = ⊥

@@ -1,4 +1,4 @@
+pub mod Settings
 pub mod Replies
 pub mod Runs
 pub mod Ends
-pub mod Spares

@@ -1,15 +1,15 @@
 -- What a table that threads share replies to a command, and why it may refuse one.
-use Rattle.std.specs.Prelude.{◌≡◌, ℕ, IsTrue, List, [], ◌∷◌, ◌++◌, Option, Result, Ok, Err, ⊤}
+use Rattle.std.specs.Prelude.{◌≡◌, ℕ, IsTrue, List, [], ◌∷◌, ◌++◌, Option, Some, None, Result, Ok, Err, ⊤}
 use Rattle.far_object.specs.Encodings.{enc_text}
 use Rattle.table_core.specs.declared.event.Event.{Event}
 use Rattle.table_core.specs.declared.limits.Limits.{Limits}
 use Rattle.table_core.specs.Maps.{map_of}
 use Rattle.table_core.specs.Logs.{history}
 use Rattle.version_words.specs.Views.{PassView, Goes}
-use Rattle.hash_table.specs.declared.refusal.Refusal.{Refusal as TableRefusal}
-use Rattle.hash_table.specs.declared.refusal.Refusal.TheVariants as table
 use Rattle.hash_table.specs.Calls.{SeenInCall, IsFinished}
-use Rattle.hash_table.specs.Scopes.{ScopeView, shown}
+use Rattle.far_map.specs.declared.refusal.Refusal.{Refusal as MapRefusal}
+use Rattle.far_map.specs.declared.refusal.Refusal.TheVariants as map
+use Rattle.far_map.specs.declared.refusal.Lack.TheVariants as lack
 use Rattle.command_file.specs.declared.command.Command.{Command}
 use Rattle.command_file.specs.declared.command.Command.TheVariants.{Map, Table}
 use Rattle.command_file.specs.declared.command.MapCommand.{MapCommand}
@@ -37,32 +37,25 @@ MayReply buckets limit before c (Err refusal.HeldAlready) = IsHold c
 MayReply buckets limit before c (Err refusal.Damaged) = ⊥
 MayReply buckets limit before c (Err _) = ⊤
 
--- the reply for a refusal of the table; another try meets those that have no text
-abbrev pub said : TableRefusal → Refusal
-said table.Memory = refusal.Memory
-said table.TooLong = refusal.TooLong
-said table.NamesSpent = refusal.NamesSpent
-said table.LimboFull = refusal.LimboFull
-said table.Device = refusal.Device
-said table.Damaged = refusal.Damaged
-said _ = refusal.Full
+-- the reply for a refusal of the map
+abbrev pub said : MapRefusal → Refusal
+said map.Memory = refusal.Memory
+said map.TooLong = refusal.TooLong
+said map.NamesSpent = refusal.NamesSpent
+said map.Device = refusal.Device
+said map.Damaged = refusal.Damaged
+said (map.Full lack.Spare) = refusal.LimboFull
+said (map.Full lack.Frame) = refusal.Full
 
--- a refusal of the evictor's turn that is the command's reply
-abbrev pub IsOfTurn : Refusal → Type 0
-IsOfTurn refusal.Memory = ⊤
-IsOfTurn refusal.NamesSpent = ⊤
-IsOfTurn refusal.Device = ⊤
-IsOfTurn _ = ⊥
+-- the bytes of a value that is held, by what this shows of one
+abbrev pub shown : {H : Type 0} → (H → Option (List ℕ)) → Option H → Option (List ℕ)
+shown shows None = None
+shown shows (Some h) = shows h
 
 -- what is held behind a command on the map, whatever it was replied
 abbrev pub held_behind : MapCommand → Result (Option (List ℕ)) Refusal → Option (List ℕ) → Option (List ℕ)
 held_behind c (Ok answer) held = held_by c answer held
 held_behind c (Err why) held = held
-
--- the same result, where a scope that is open shows its value
-abbrev pub shown_in : {E : Type 0} → Result (Option (ScopeView (List ℕ))) E → Result (Option (List ℕ)) E
-shown_in (Ok s) = Ok (shown s)
-shown_in (Err e) = Err e
 
 module _ (l : Limits) (limit : ℕ) where
   -- the pass made the command's call, and behind those that stand before it the command may be answered so
@@ -80,12 +73,13 @@ module _ (l : Limits) (limit : ℕ) where
   AnswersWith old new c (Ok answer) = IsDone old new c answer
   AnswersWith old new c (Err why) = IsRefused old new c why
 
-  -- the same of one try, whose refusal is the table's
-  abbrev pub Tries : View → View → MapCommand → Result (Option (List ℕ)) TableRefusal → Type 0
-  Tries old new c (Ok answer) = IsDone old new c answer
-  Tries old new c (Err e) = IsRefused old new c (said e)
-
   -- a command was run where the first value was held, and the second behind it, and this is its line: one that asks the map was answered or refused, and one that asks the table made no call
   abbrev pub RunsTo : View → View → Option (List ℕ) → Option (List ℕ) → Command → List ℕ → Type 0
   RunsTo old new held later (Map c) line = (r : Result (Option (List ℕ)) Refusal) × (line ≡ line_of r) × AnswersWith old new c r × (later ≡ held_behind c r held)
   RunsTo old new held later (Table c) line = Goes old new × IsTableLine c held line later
+
+  -- the same, and then the pass went on and made no call
+  pub record RunsOn (old new : View) (held later : Option (List ℕ)) (c : Command) (line : List ℕ) : Type 0 where
+    pub front : View
+    pub runs : RunsTo old front held later c line
+    pub goes : Goes front new

@@ -1,5 +1,6 @@
 -- The workers of a run, and its faults.
-use Rattle.std.specs.Prelude.{◌≡◌, ℕ, IsTrue, List, length, map, Option, Result, Ok, Err, ⊤}
+use Rattle.std.specs.Prelude.{◌≡◌, ℕ, IsTrue, List, [], ◌∷◌, length, map, Option, Result, Ok, Err, ⊤}
+use Rattle.std.specs.Global.{Vec}
 use Rattle.std.specs.List.{AllByRecursion}
 use Rattle.std.specs.Io.KnownBytes.{Keeps, Appends}
 use Rattle.table_core.specs.declared.limits.Limits.{Limits}
@@ -10,13 +11,7 @@ use Rattle.run_lines.specs.Output.{written, file_lines}
 use Rattle.threaded_run.specs.declared.fault.ThreadedFault.{ThreadedFault}
 use Rattle.threaded_run.specs.declared.fault.ThreadedFault.TheVariants as fault
 use Rattle.threaded_run.specs.declared.fault.WorkFault.{WorkFault}
-use Rattle.threaded_run.specs.declared.fault.WorkFault.TheVariants as work
 use Rattle.threaded_run.specs.Replies.{View, MayReply}
-
--- a file that is to be run: its pass, and its commands
-pub record JobView : Type 0 where
-  pub pass : View
-  pub commands : List Command
 
 -- a worker that has ended: its pass, and the text of its lines
 pub record EndedView : Type 0 where
@@ -42,24 +37,25 @@ module _ (l : Limits) (limit : ℕ) where
     pub text_is : e.text ≡ written lines
     pub served : IsServed (record { pass = e.pass; commands = commands; lines = lines })
 
-  -- each job was done by its own pass, and these are the passes at their fronts, and the texts of the lines
-  pub record WorkedAll (jobs : List JobView) (passes : List View) (texts : List (List ℕ)) : Type 0 where
+  -- the files were run by these passes, which are at their fronts, and these are the texts of the lines
+  pub record WorkedAll (files : List (List Command)) (passes : List View) (texts : List (List ℕ)) : Type 0 where
     pub all : List Served
-    pub files_are : map (λ s. s.commands) all ≡ map (λ j. j.commands) jobs
+    pub files_are : map (λ s. s.commands) all ≡ files
     pub passes_are : map (λ s. s.pass) all ≡ passes
     pub texts_are : map (λ s. written s.lines) all ≡ texts
     pub served : AllByRecursion IsServed all
 
--- of both answers this is so
-abbrev pub BothSo : {A B E : Type 0} → Result A E → Result B E → (A → B → Type 0) → Type 0
-BothSo (Ok a) (Ok b) P = P a b
-BothSo _ _ P = ⊥
+-- all workers gave lines, and these are they
+abbrev pub AreGiven : {E : Type 0} → List (Result (Vec ℕ) E) → List (List ℕ) → Type 0
+AreGiven [] texts = texts ≡ []
+AreGiven (Ok lines ∷ outs) texts = (more : List (List ℕ)) × (texts ≡ lines.items ∷ more) × AreGiven outs more
+AreGiven (Err e ∷ outs) texts = ⊥
 
--- the fault of the first answer, else that of the second, else want of memory
-abbrev pub IsFirstFault : {A B : Type 0} → Result A WorkFault → Result B WorkFault → WorkFault → Type 0
-IsFirstFault (Err e) second fault = fault ≡ e
-IsFirstFault (Ok a) (Err e) fault = fault ≡ e
-IsFirstFault (Ok a) (Ok b) fault = fault ≡ work.Memory
+-- the fault of the first worker that has one
+abbrev pub IsFirstFault : List (Result (Vec ℕ) WorkFault) → WorkFault → Type 0
+IsFirstFault [] fault = ⊥
+IsFirstFault (Ok lines ∷ outs) fault = IsFirstFault outs fault
+IsFirstFault (Err e ∷ outs) fault = fault ≡ e
 
 -- the text is the lines of the files, a line for each command
 pub record AreLines (files : List (List Command)) (text : List ℕ) : Type 0 where

@@ -1,8 +1,10 @@
 //! Why a run ends early.
-ghost use Rattle.std.specs.Prelude.{◌≡◌};
+ghost use Rattle.std.specs.Prelude.{◌≡◌, None};
 ghost use Rattle.threaded_run.specs.declared.fault.WorkFault.TheVariants.{Memory as work_memory};
+ghost use Rattle.far_map.specs.Faults.{IsEarlyFault};
 ghost use Rattle.threaded_run.specs.Runs.{IsEarly};
 
+use far_map::RunFault;
 use far_object::Memory;
 use run_lines::Refusal;
 use thiserror::Error;
@@ -30,11 +32,10 @@ pub enum ThreadedFault {
     Contents(Refusal),
 }
 
-/// Why no workers were made, or one gave up.
+/// Why a worker gave up.
 #[derive(Clone, Copy, Debug, PartialEq, Eq)]
 pub(crate) enum WorkFault {
     Memory,
-    Passes,
     Gate,
 }
 
@@ -46,13 +47,25 @@ impl From<Memory> for WorkFault {
     }
 }
 
-/// The fault of the run.
+/// The fault of the run, for a worker's.
 pub(crate) fn of_work(fault: WorkFault) -> ThreadedFault
     ensures { IsEarly result }
 {
     match fault {
         WorkFault::Memory => ThreadedFault::Memory,
-        WorkFault::Passes => ThreadedFault::Passes,
         WorkFault::Gate => ThreadedFault::Gate,
+    }
+}
+
+/// The same, where the map's run ended before its workers did.
+pub(crate) fn of_run(fault: RunFault) -> ThreadedFault
+    requires { IsEarlyFault None fault }
+    ensures { IsEarly result }
+{
+    match fault {
+        RunFault::PassesSpent => ThreadedFault::Passes,
+        RunFault::Device => ThreadedFault::Device,
+        RunFault::Memory => ThreadedFault::Memory,
+        _ => unreachable!(),
     }
 }

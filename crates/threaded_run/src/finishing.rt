@@ -1,37 +1,27 @@
-//! The end of a run: the table is closed, and the lines and the contents are written.
+//! The end of a run: the lines and the contents are written.
 ghost use Rattle.std.specs.Prelude.{◌≡◌, ◌++◌, ◌∷◌, ℕ, List, Option, map, codes, IfOk, OnOk, IfErr};
 ghost use Rattle.std.specs.Io.KnownBytes.{Appends};
-ghost use Rattle.far_object.specs.Encodings.{enc_text};
 ghost use Rattle.far_pairs.specs.Bundles.{all_of};
-ghost use Rattle.run_lines.specs.Calls.{Texts};
-ghost use Rattle.run_lines.specs.Output.{written, pair_line, file_texts};
-ghost use Rattle.hash_table.specs.Closes.{IsClosed, ClosesSorted};
+ghost use Rattle.run_lines.specs.Output.{file_texts};
 ghost use Rattle.std.specs.Thread.{IsSync};
 ghost use Rattle.threaded_run.specs.Runs.{EndsAt};
-ghost use Rattle.threaded_run.specs.Ends.{AreLinesOf, Holds, Writes};
+ghost use Rattle.threaded_run.specs.Ends.{AreLinesOf, Collected, Holds, Writes};
 
 use crate::fault::ThreadedFault;
-use far_device::Device;
+use far_map::RunFault;
 use far_object::{Memory, Text};
 use far_pairs::{Bundle, in_key_order};
-use hash_table::{Caller, CloseFault, FarTable};
 use run_lines::{PairLines, Refusal, write_files};
 use std::alloc::Global;
 use std::io;
 use std::io::Write;
-use std::sync::Wait;
 use std::thread::{Threads, join_mut};
-use version_words::Naming;
 
-/// How many times a table is closed before what a frame or a lane does not give is taken for lost: no thread works any more,
-/// and only a device whose bytes come late may give it still.
-const MOST_CLOSES: u32 = 1_000;
-
-/// The reply's text for the fault of the last close.
-fn refusal_of<J: Naming>(fault: CloseFault<Text, Text, J>) -> Refusal {
+/// The reply's text for the fault of the end.
+fn refusal_of(fault: RunFault) -> Refusal {
     match fault {
-        CloseFault::Memory => Refusal::Memory,
-        CloseFault::Device => Refusal::Device,
+        RunFault::Memory => Refusal::Memory,
+        RunFault::Device => Refusal::Device,
         _ => Refusal::Damaged,
     }
 }
@@ -120,59 +110,27 @@ fn write_lines<W: Write>(refusal: Refusal, texts: &[Vec<u8>], out: &mut W) -> Th
     }
 }
 
-/// Closes the table. Where a frame or a lane did not give a name it is closed again, 1,000 times in all.
-fn close<J, D, R>(
+/// Writes the lines of the files and what the map held. Where that can't be read the lines are written all the same, and where a
+/// pass is missing nothing is.
+pub(crate) fn finish<R, W>(
     rt: &R,
     alloc: Global,
-    table: FarTable<Text, Text, J, D>,
-    callers: Vec<Caller<Text, Text, J>>,
-) -> Result<Vec<Bundle<Text, Text>>, CloseFault<Text, Text, J>>
-where
-    J: Naming + Send + Sync,
-    D: Device + Send,
-    R: Threads + Wait + Sync,
-    ensures { IfOk result (λ bundles. ClosesSorted enc_text enc_text J.limits callers.items (all_of bundles.items)) }
-{
-    let mut table = table;
-    let mut callers = callers;
-    for _ in 0..MOST_CLOSES {
-        match table.close_on_threads(rt, alloc, callers) {
-            Ok(bundles) => return Ok(bundles),
-            Err((CloseFault::Missed, same, back)) => {
-                table = same;
-                callers = back;
-            }
-            Err((fault, _, _)) => return Err(fault),
-        }
-    }
-    Err(CloseFault::Missed)
-}
-
-/// Closes the table, and writes the lines of the files and what the table held. Where that can't be read the lines are written
-/// all the same, and where a pass is missing nothing is.
-pub(crate) fn finish<J, D, R, W>(
-    rt: &R,
-    alloc: Global,
-    table: FarTable<Text, Text, J, D>,
-    callers: Vec<Caller<Text, Text, J>>,
+    end: Result<Vec<Bundle<Text, Text>>, RunFault>,
     texts: &[Vec<u8>],
     out: &mut W,
 ) -> Result<(), ThreadedFault>
 where
-    J: Naming + Send + Sync,
-    D: Device + Send,
-    R: Threads + Wait + Sync,
+    R: Threads + Sync,
     W: Write,
-    ensures written { OnOk result ((pairs : Texts) × IsClosed enc_text enc_text J.limits callers.items pairs
-        × Appends (W.contents out.old) (W.contents out.new) (file_texts 1 (map (λ t. t.items) texts.now) ++ written (codes "contents" ∷ map pair_line pairs))) }
+    ensures written { OnOk result (Collected end (λ bundles. Writes (all_of bundles.items) (W.contents out.old) (W.contents out.new) (file_texts 1 (map (λ t. t.items) texts.now)))) }
     ensures fault { IfErr result (EndsAt (W.contents out.old) (W.contents out.new) (file_texts 1 (map (λ t. t.items) texts.now))) }
 {
-    match close(rt, alloc, table, callers) {
+    match end {
         Ok(bundles) => match write_all(rt, alloc, bundles.as_slice(), texts, out) {
             Ok(()) => Ok(()),
             Err(fault) => Err(fault),
         },
-        Err(CloseFault::PassMissing(_)) => Err(ThreadedFault::Passes),
+        Err(RunFault::PassesSpent) => Err(ThreadedFault::Passes),
         Err(fault) => Err(write_lines(refusal_of(fault), texts, out)),
     }
 }

@@ -20,3 +20,21 @@ impl Gate for OpenGate {
 
     fn after(&self, _worker: u32, _command: u32) {}
 }
+
+/// A gate as a worker meets it. A worker starts no thread, and the functions that its session's calls stand in may ask for no
+/// `Sync`, which `Gate` does.
+pub(crate) trait GateKeeper {
+    fn lets_begin(&self, worker: u32, command: u32) -> bool;
+
+    fn sees_end(&self, worker: u32, command: u32);
+}
+
+impl<G: Gate> GateKeeper for G {
+    fn lets_begin(&self, worker: u32, command: u32) -> bool {
+        self.before(worker, command)
+    }
+
+    fn sees_end(&self, worker: u32, command: u32) {
+        self.after(worker, command);
+    }
+}

@@ -1,113 +1,121 @@
 //! One command to one line.
-ghost use Rattle.std.specs.Prelude.{◌≡◌, ◌<◌, ◌++◌, ◌∷◌, [], ℕ, List, Result, Option, None, length, decimal, slice_index_or, OnOk};
+ghost use Rattle.std.specs.Prelude.{◌≡◌, ◌<◌, ◌++◌, ◌∷◌, [], ℕ, List, length, decimal, slice_index_or, OnOk};
 ghost use Rattle.command_file.specs.declared.command.Command.{Command as command};
 ghost use Rattle.command_file.specs.declared.command.Command.TheVariants.{Map, Table};
-ghost use Rattle.run_lines.specs.declared.refusal.Refusal.{Refusal as refusal};
-ghost use Rattle.run_lines.specs.Replies.{line_of, shown_text, released_text, held_past, IsEvictLine, IsPlaceLine, TellsTable};
-ghost use Rattle.version_words.specs.Views.{Goes};
 ghost use Rattle.command_file.specs.declared.command.MapCommand.TheVariants.{Hold};
-ghost use Rattle.hash_table.specs.Scopes.{shown};
-ghost use Rattle.threaded_run.specs.Replies.{AnswersWith, RunsTo};
+ghost use Rattle.run_lines.specs.Calls.{operation_of};
+ghost use Rattle.run_lines.specs.Replies.{shown_text, released_text, held_past, IsEvictLine, IsPlaceLine, TellsTable};
+ghost use Rattle.version_words.specs.Views.{Goes};
+ghost use Rattle.far_map.specs.Answers.{Answers};
+ghost use Rattle.threaded_run.specs.Replies.{said, shown, RunsOn};
 
-use crate::answering::answer;
-use crate::holding::{Held, held_value, open};
-use crate::room::{MOST_TRIES, make_room, said};
-use crate::shared::{Seated, Shared};
 use command_file::{Command, MapCommand, Script, TableCommand};
-use far_device::Device;
+use far_map::{BucketState, Calls, Lack, Refusal};
 use far_object::{Memory, Text};
-use hash_table::{BucketState, Refusal as TableRefusal};
 use itoa::Buffer;
-use run_lines::{Refusal, push_line, reply_text};
+use run_lines::{Refusal as Reply, push_line, reply_text};
 use std::alloc::Global;
 use std::sync::Wait;
-use swapper::QueueNaming;
-use version_words::Naming;
+
+/// The reply for a refusal.
+fn said(refusal: Refusal) -> Reply
+    ensures { result ≡ said refusal }
+{
+    match refusal {
+        Refusal::Memory => Reply::Memory,
+        Refusal::TooLong => Reply::TooLong,
+        Refusal::NamesSpent => Reply::NamesSpent,
+        Refusal::Device => Reply::Device,
+        Refusal::Damaged => Reply::Damaged,
+        Refusal::Full(Lack::Spare) => Reply::LimboFull,
+        Refusal::Full(Lack::Frame) => Reply::Full,
+    }
+}
+
+/// The session's call for a command; a hold is a get here.
+fn call<S: Calls, R: Wait>(
+    rt: &R,
+    me: &mut S,
+    command: &MapCommand,
+) -> Result<Option<Text>, Refusal>
+    ensures answers { Answers S.limits (S.shown me.old) (S.shown me.new) (operation_of command.now) result }
+    ensures limit { (S.shown me.new).limit ≡ (S.shown me.old).limit }
+{
+    match command {
+        MapCommand::Put { key, value } => me.put(rt, key, value),
+        MapCommand::Delete { key } => me.remove(rt, key),
+        MapCommand::PutIf {
+            key,
+            expected,
+            value,
+        } => me.put_if(rt, key, Some(expected), value),
+        MapCommand::PutNew { key, value } => me.put_if(rt, key, None, value),
+        MapCommand::Get { key } => me.get(rt, key),
+        MapCommand::Hold { key } => me.get(rt, key),
+    }
+}
 
 /// Holds a key's value, where none is held, and adds the line.
-fn hold<'a, J: Naming, B: QueueNaming, D: Device, R: Wait>(
+fn hold<S: Calls, R: Wait>(
     rt: &R,
-    alloc: Global,
-    shared: &'a Shared<J, B, D>,
-    seated: &mut Seated<J, B>,
-    held: &mut Held<'a, J>,
+    me: &mut S,
+    held: &mut Option<S::Held>,
     lines: &mut Vec<u8>,
     key: &Text,
 ) -> Result<(), Memory>
-    ensures { OnOk result ((line : List ℕ) × (lines.new.items ≡ lines.old.items ++ (line ++ 10 ∷ []))
-        × RunsTo J.limits shared.now.table.limit seated.old.caller.pass seated.new.caller.pass (shown held.old) (shown held.new) (Map (Hold key.now)) line) }
+    ensures line { OnOk result ((line : List ℕ) × (lines.new.items ≡ lines.old.items ++ (line ++ 10 ∷ []))
+        × RunsOn S.limits (S.shown me.old).limit (S.shown me.old).pass (S.shown me.new).pass (shown S.held held.old) (shown S.held held.new) (Map (Hold key.now)) line) }
+    ensures limit { (S.shown me.new).limit ≡ (S.shown me.old).limit }
 {
     if held.is_some() {
-        return push_line(lines, Refusal::HeldAlready.text());
+        me.settle(rt);
+        return push_line(lines, Reply::HeldAlready.text());
     }
-    match open(rt, alloc, shared, seated, key) {
+    match me.hold(rt, key) {
         Ok(None) => push_line(lines, b"none"),
-        Ok(Some(scope)) => {
-            let pushed = push_line(lines, held_value(&scope));
-            if let Some(other) = held.replace(scope) {
-                other.close();
+        Ok(Some(value)) => {
+            let pushed = push_line(lines, me.bytes_of(&value));
+            if let Some(other) = held.replace(value) {
+                me.let_go(other);
             }
             pushed
         }
-        Err(refusal) => push_line(lines, refusal.text()),
+        Err(refusal) => push_line(lines, said(refusal).text()),
     }
 }
 
 /// Runs a command that asks the map, and adds its line.
-fn run_map<'a, J: Naming, B: QueueNaming, D: Device, R: Wait>(
+fn run_map<S: Calls, R: Wait>(
     rt: &R,
-    alloc: Global,
-    shared: &'a Shared<J, B, D>,
-    seated: &mut Seated<J, B>,
-    held: &mut Held<'a, J>,
+    me: &mut S,
+    held: &mut Option<S::Held>,
     lines: &mut Vec<u8>,
     command: &MapCommand,
 ) -> Result<(), Memory>
-    ensures { OnOk result ((line : List ℕ) × (lines.new.items ≡ lines.old.items ++ (line ++ 10 ∷ []))
-        × RunsTo J.limits shared.now.table.limit seated.old.caller.pass seated.new.caller.pass (shown held.old) (shown held.new) (Map command.now) line) }
+    ensures line { OnOk result ((line : List ℕ) × (lines.new.items ≡ lines.old.items ++ (line ++ 10 ∷ []))
+        × RunsOn S.limits (S.shown me.old).limit (S.shown me.old).pass (S.shown me.new).pass (shown S.held held.old) (shown S.held held.new) (Map command.now) line) }
+    ensures limit { (S.shown me.new).limit ≡ (S.shown me.old).limit }
 {
     if let MapCommand::Hold { key } = command {
-        return hold(rt, alloc, shared, seated, held, lines, key);
+        return hold(rt, me, held, lines, key);
     }
-    let reply = answer(rt, alloc, shared, seated, command);
-    push_line(lines, reply_text(&reply))
-}
-
-/// Gives a frame up, and says whether one was emptied. Where another thread was faster the turn is made again.
-fn evict_one<J: Naming, B: QueueNaming, D: Device, R: Wait>(
-    rt: &R,
-    shared: &Shared<J, B, D>,
-) -> Result<bool, TableRefusal> {
-    for _ in rt.forever() {
-        match shared.turn(rt) {
-            Err(TableRefusal::Moved) => {}
-            Err(TableRefusal::Missed) => {}
-            other => return other,
-        }
+    match call(rt, me, command) {
+        Ok(answer) => push_line(lines, reply_text(&Ok(answer))),
+        Err(refusal) => push_line(lines, said(refusal).text()),
     }
-    unreachable!()
 }
 
 /// The line of `evict`.
-fn evict<J: Naming, B: QueueNaming, D: Device, R: Wait>(
-    rt: &R,
-    shared: &Shared<J, B, D>,
-    seated: &mut Seated<J, B>,
-) -> &'static [u8]
-    ensures pass { Goes seated.old.caller.pass seated.new.caller.pass }
+fn evict<S: Calls, R: Wait>(rt: &R, me: &mut S) -> &'static [u8]
+    ensures goes { Goes (S.shown me.old).pass (S.shown me.new).pass }
+    ensures limit { (S.shown me.new).limit ≡ (S.shown me.old).limit }
     ensures line { IsEvictLine result.now }
 {
-    for _ in 0..MOST_TRIES {
-        match evict_one(rt, shared) {
-            Ok(true) => return b"evicted",
-            Ok(false) => return b"nothing",
-            Err(refusal) => match make_room(rt, shared, seated, refusal) {
-                Ok(()) => {}
-                Err(why) => return why.text(),
-            },
-        }
+    match me.evict(rt) {
+        Ok(true) => b"evicted",
+        Ok(false) => b"nothing",
+        Err(refusal) => said(refusal).text(),
     }
-    Refusal::LimboFull.text()
 }
 
 /// Adds a line of a place and a name.
@@ -131,13 +139,15 @@ fn push_state(lines: &mut Vec<u8>, state: BucketState) -> Result<(), Memory>
 }
 
 /// Ends the hold, and gives its line.
-fn release<J: Naming>(held: &mut Held<'_, J>) -> &'static [u8]
-    ensures line { result.now ≡ released_text (shown held.old) }
-    ensures held { shown held.new ≡ None }
+fn release<S: Calls>(me: &S, held: &mut Option<S::Held>) -> &'static [u8]
+    ensures line { result.now ≡ released_text (shown S.held held.old) }
+    ensures held { shown S.held held.new ≡ shown S.held None }
 {
     match held.take() {
-        Some(scope) => {
-            scope.close();
+        Some(value) => {
+            // What is held has bytes.
+            let _bytes = me.bytes_of(&value);
+            me.let_go(value);
             b"released"
         }
         None => b"nothing held",
@@ -145,77 +155,80 @@ fn release<J: Naming>(held: &mut Held<'_, J>) -> &'static [u8]
 }
 
 /// Adds the line of `show`.
-fn show<J: Naming>(held: &Held<'_, J>, lines: &mut Vec<u8>) -> Result<(), Memory>
-    ensures { OnOk result (lines.new.items ≡ lines.old.items ++ (shown_text (shown held.now) ++ 10 ∷ [])) }
+fn show<S: Calls>(me: &S, held: &Option<S::Held>, lines: &mut Vec<u8>) -> Result<(), Memory>
+    ensures { OnOk result (lines.new.items ≡ lines.old.items ++ (shown_text (shown S.held held.now) ++ 10 ∷ [])) }
 {
     match held {
-        Some(scope) => push_line(lines, held_value(scope)),
+        Some(value) => push_line(lines, me.bytes_of(value)),
         None => push_line(lines, b"nothing held"),
     }
 }
 
 /// Runs a command that asks the table, and adds its line.
-fn run_table<J: Naming, B: QueueNaming, D: Device, R: Wait>(
+fn run_table<S: Calls, R: Wait>(
     rt: &R,
-    shared: &Shared<J, B, D>,
-    seated: &mut Seated<J, B>,
-    held: &mut Held<'_, J>,
+    me: &mut S,
+    held: &mut Option<S::Held>,
     lines: &mut Vec<u8>,
     command: &TableCommand,
 ) -> Result<(), Memory>
-    ensures line { OnOk result ((line : List ℕ) × (lines.new.items ≡ lines.old.items ++ (line ++ 10 ∷ [])) × TellsTable command.now (shown held.old) line) }
-    ensures held { shown held.new ≡ held_past command.now (shown held.old) }
-    ensures pass { Goes seated.old.caller.pass seated.new.caller.pass }
+    ensures line { OnOk result ((line : List ℕ) × (lines.new.items ≡ lines.old.items ++ (line ++ 10 ∷ [])) × TellsTable command.now (shown S.held held.old) line) }
+    ensures held { shown S.held held.new ≡ held_past command.now (shown S.held held.old) }
+    ensures goes { Goes (S.shown me.old).pass (S.shown me.new).pass }
+    ensures limit { (S.shown me.new).limit ≡ (S.shown me.old).limit }
 {
     match command {
-        TableCommand::Show => show(held, lines),
-        TableCommand::Release => push_line(lines, release(held)),
-        TableCommand::Evict => push_line(lines, evict(rt, shared, seated)),
-        TableCommand::Where { key } => {
-            let bucket = shared.table.bucket(key);
-            let state = shared.table.state_of(&mut seated.caller, bucket);
-            push_state(lines, state)
-        }
+        TableCommand::Show => show(me, held, lines),
+        TableCommand::Release => push_line(lines, release(me, held)),
+        TableCommand::Evict => push_line(lines, evict(rt, me)),
+        TableCommand::Where { key } => push_state(lines, me.where_is(key)),
     }
 }
 
-/// Runs a command, and adds its line and an LF. `Memory` comes where the line can't be stored; a part of it may stand then.
-fn run_command<'a, J: Naming, B: QueueNaming, D: Device, R: Wait>(
+/// Runs a command, and adds its line and an LF. Behind one that made no call of the map, which would do so, the session sees to
+/// what its calls have left. `Memory` comes where the line can't be stored; a part of it may stand then.
+fn run_command<S: Calls, R: Wait>(
     rt: &R,
-    alloc: Global,
-    shared: &'a Shared<J, B, D>,
-    seated: &mut Seated<J, B>,
-    held: &mut Held<'a, J>,
+    me: &mut S,
+    held: &mut Option<S::Held>,
     lines: &mut Vec<u8>,
     command: &Command,
 ) -> Result<(), Memory>
-    ensures { OnOk result ((line : List ℕ) × (lines.new.items ≡ lines.old.items ++ (line ++ 10 ∷ []))
-        × RunsTo J.limits shared.now.table.limit seated.old.caller.pass seated.new.caller.pass (shown held.old) (shown held.new) command.now line) }
+    ensures line { OnOk result ((line : List ℕ) × (lines.new.items ≡ lines.old.items ++ (line ++ 10 ∷ []))
+        × RunsOn S.limits (S.shown me.old).limit (S.shown me.old).pass (S.shown me.new).pass (shown S.held held.old) (shown S.held held.new) command.now line) }
+    ensures limit { (S.shown me.new).limit ≡ (S.shown me.old).limit }
 {
     match command {
-        Command::Map(command) => run_map(rt, alloc, shared, seated, held, lines, command),
-        Command::Table(command) => run_table(rt, shared, seated, held, lines, command),
+        Command::Map(command) => run_map(rt, me, held, lines, command),
+        Command::Table(command) => {
+            let pushed = run_table(rt, me, held, lines, command);
+            me.settle(rt);
+            pushed
+        }
     }
 }
 
 /// Runs the script's command at this place, and adds its line and an LF. Where there is no memory for its texts it is refused.
 /// `Memory` comes where the line can't be stored; a part of it may stand then.
-pub(crate) fn run_at<'a, J: Naming, B: QueueNaming, D: Device, R: Wait>(
+pub(crate) fn run_at<S: Calls, R: Wait>(
     rt: &R,
     alloc: Global,
-    shared: &'a Shared<J, B, D>,
-    seated: &mut Seated<J, B>,
-    held: &mut Held<'a, J>,
+    me: &mut S,
+    held: &mut Option<S::Held>,
     lines: &mut Vec<u8>,
     script: &Script,
     at: usize,
 ) -> Result<(), Memory>
     requires { at < length script.now }
-    ensures { OnOk result ((command : command) × (line : List ℕ) × (command ≡ slice_index_or script.now at command) × (lines.new.items ≡ lines.old.items ++ (line ++ 10 ∷ []))
-        × RunsTo J.limits shared.now.table.limit seated.old.caller.pass seated.new.caller.pass (shown held.old) (shown held.new) command line) }
+    ensures line { OnOk result ((command : command) × (line : List ℕ) × (command ≡ slice_index_or script.now at command) × (lines.new.items ≡ lines.old.items ++ (line ++ 10 ∷ []))
+        × RunsOn S.limits (S.shown me.old).limit (S.shown me.old).pass (S.shown me.new).pass (shown S.held held.old) (shown S.held held.new) command line) }
+    ensures limit { (S.shown me.new).limit ≡ (S.shown me.old).limit }
 {
     match script.command(alloc, at) {
-        Ok(command) => run_command(rt, alloc, shared, seated, held, lines, &command),
-        Err(Memory) => push_line(lines, Refusal::Memory.text()),
+        Ok(command) => run_command(rt, me, held, lines, &command),
+        Err(Memory) => {
+            me.settle(rt);
+            push_line(lines, Reply::Memory.text())
+        }
     }
 }

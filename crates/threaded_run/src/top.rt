@@ -1,98 +1,65 @@
-//! From settings, devices and commands to a run: the table and the queue are opened, and their names in types are picked.
-ghost use Rattle.std.specs.Prelude.{◌≡◌, ◌<◌, ◌≤◌, IsTrue, None, ℕ, List, vec_len, map, IfOk, OnOk, IfErr};
+//! From settings, devices and commands to a run: a map's workers run the files, and then all is written.
+ghost use Rattle.std.specs.Prelude.{◌≡◌, ◌<◌, ◌≤◌, ◌⊎◌, IsTrue, None, ℕ, List, vec_len, map, IfOk, OnOk, IfErr};
 ghost use Rattle.std.specs.Io.KnownBytes.{Appends};
-ghost use Rattle.version_words.specs.Rows.{limits_of};
-ghost use Rattle.hash_table.specs.Configs.{first_bad_with, sizes_of};
+ghost use Rattle.hash_table.specs.Configs.{first_bad_with};
 ghost use Rattle.hash_table.specs.Openings.{WasOpened};
 ghost use Rattle.run_lines.specs.Runs.{Ran};
+ghost use Rattle.threaded_run.specs.declared.fault.WorkFault.TheVariants.{Memory};
 ghost use Rattle.threaded_run.specs.Replies.{MayReply};
-ghost use Rattle.threaded_run.specs.Runs.{WritesBefore};
+ghost use Rattle.threaded_run.specs.Settings.{settings_of};
+ghost use Rattle.threaded_run.specs.Runs.{AreGiven, IsFirstFault, WritesBefore};
 
-use crate::fault::ThreadedFault;
+use crate::fault::{ThreadedFault, WorkFault, of_run, of_work};
+use crate::finishing::finish;
 use crate::gate::Gate;
-use crate::run::run;
+use crate::worker::Files;
 use command_file::Script;
 use far_device::Device;
-use far_object::Text;
-use hash_table::{Config, FarTable, OpenFault, Opening};
+use far_map::{Settings, run_bundled};
+use hash_table::Config;
 use std::alloc::Global;
 use std::io::Write;
-use std::marker::Brand;
 use std::sync::Wait;
 use std::thread::Threads;
-use swapper::{QueueNaming, QueueOpening};
-use version_words::Naming;
 
-/// Runs the files over a queue that was just opened.
-fn over_queue<J, B, D, G, R, W>(
-    rt: &R,
-    alloc: Global,
-    config: Config,
-    table: FarTable<Text, Text, J, D>,
-    queue: QueueOpening<Text, Text, J>,
-    files: Vec<Script>,
-    gate: &G,
-    out: &mut W,
-) -> Result<(), ThreadedFault>
-where
-    J: Naming + Send + Sync,
-    B: QueueNaming + Send + Sync,
-    D: Device + Send,
-    G: Gate,
-    R: Threads + Wait + Sync,
-    W: Write,
-    requires queue { queue.table ≡ B.table }
-    requires frames { 0 < config.frames }
-    requires few { vec_len files ≤ 64 }
-    ensures ran { OnOk result (IsTrue J.limits.honest → (text : List ℕ) × Ran (MayReply J.limits.buckets table.limit) files.items text × Appends (W.contents out.old) (W.contents out.new) text) }
-    ensures before { IfErr result (WritesBefore files.items (W.contents out.old) (W.contents out.new)) }
+/// The settings of the map. It has a lane for each device.
+fn settings_of(config: &Config) -> Settings
+    ensures { result ≡ settings_of config.now }
 {
-    let (queue, taker, seats) = match queue.named::<B>(alloc, files.len() as u32) {
-        Ok(named) => named,
-        Err(_) => return Err(ThreadedFault::Memory),
-    };
-    run(
-        rt, alloc, config, table, queue, taker, seats, files, gate, out,
-    )
+    Settings {
+        buckets: config.buckets,
+        frames: config.frames,
+        limit: config.limit,
+        names: config.names,
+        passes: config.passes,
+        spares: config.spares,
+        format: config.format,
+    }
 }
 
-/// Runs the files over a table that gets its name now.
-fn over_table<J, D, G, R, W>(
-    rt: &R,
+/// The lines of all workers. The fault is that of the first worker that has one, or `Memory` where a growth is refused.
+fn lines_of(
     alloc: Global,
-    opening: Opening<Text, Text, D>,
-    config: Config,
-    files: Vec<Script>,
-    gate: &G,
-    out: &mut W,
-) -> Result<(), ThreadedFault>
-where
-    J: Naming + Send + Sync,
-    D: Device + Send,
-    G: Gate,
-    R: Threads + Wait + Sync,
-    W: Write,
-    requires book { opening.row.book ≡ J.book }
-    requires boards { opening.row.names ≡ J.names }
-    requires limits { limits_of (sizes_of opening.config) D.HONEST ≡ J.limits }
-    requires config { opening.config ≡ config }
-    requires frames { 0 < config.frames }
-    requires spares { 0 < config.spares }
-    requires few { vec_len files ≤ 64 }
-    ensures ran { OnOk result (IsTrue D.HONEST → (text : List ℕ) × Ran (MayReply config.buckets config.limit) files.items text × Appends (W.contents out.old) (W.contents out.new) text) }
-    ensures opened { OnOk result (WasOpened config) }
-    ensures before { IfErr result (WritesBefore files.items (W.contents out.old) (W.contents out.new)) }
+    mut outs: Vec<Result<Vec<u8>, WorkFault>>,
+) -> Result<Vec<Vec<u8>>, WorkFault>
+    ensures given { IfOk result (λ texts. AreGiven outs.items (map (λ t. t.items) texts.items)) }
+    ensures fault { IfErr result (λ fault. IsFirstFault outs.items fault ⊎ (fault ≡ Memory)) }
 {
-    let table = match opening.named::<J>(alloc) {
-        Ok(table) => table,
-        Err(OpenFault::Device) => return Err(ThreadedFault::Device),
-        Err(_) => return Err(ThreadedFault::Memory),
+    let Some(last) = outs.pop() else {
+        return Ok(Vec::new(alloc));
     };
-    let queue = match QueueOpening::open(alloc, config.spares) {
-        Ok(queue) => queue,
-        Err(_) => return Err(ThreadedFault::Memory),
+    let mut texts = match lines_of(alloc, outs) {
+        Ok(texts) => texts,
+        Err(first) => return Err(first),
     };
-    over_queue::<J, Brand, D, G, R, W>(rt, alloc, config, table, queue, files, gate, out)
+    let lines = match last {
+        Ok(lines) => lines,
+        Err(fault) => return Err(fault),
+    };
+    match texts.push(lines) {
+        Ok(()) => Ok(texts),
+        Err(_) => Err(WorkFault::Memory),
+    }
 }
 
 /// Runs each file's commands by a worker of its own, on a table that they share over these devices, one for each lane; then
@@ -128,9 +95,16 @@ where
     ensures opened { OnOk result (WasOpened config) }
     ensures before { IfErr result (WritesBefore files.items (W.contents out.old) (W.contents out.new)) }
 {
-    let opening = match Opening::open(alloc, config, devices) {
-        Ok(opening) => opening,
-        Err(_) => return Err(ThreadedFault::Memory),
+    let settings = settings_of(&config);
+    let count = files.len() as u32;
+    let work = Files::new(files.as_slice(), gate);
+    let (outs, end) = match run_bundled(rt, alloc, settings, devices, count, &work) {
+        Ok(ran) => ran,
+        Err(fault) => return Err(of_run(fault)),
     };
-    over_table::<Brand, D, G, R, W>(rt, alloc, opening, config, files, gate, out)
+    let texts = match lines_of(alloc, outs) {
+        Ok(texts) => texts,
+        Err(fault) => return Err(of_work(fault)),
+    };
+    finish(rt, alloc, end, texts.as_slice(), out)
 }

@@ -201,7 +201,9 @@ impl<'t, J: Naming> User<'t, J> {
             Call::SwapOut => Ok(self.swap_out(rt)),
             Call::Reclaim(_) => self.reclaim(rt),
             Call::PairsIn(_) => Ok(self.pairs_in(rt)),
-            Call::Enter | Call::Close | Call::Evicting(_) => Ok(Outcome::Wrong),
+            Call::Enter | Call::Close | Call::CloseThrough | Call::Evicting(_) => Ok(
+                Outcome::Wrong,
+            ),
         }
     }
 

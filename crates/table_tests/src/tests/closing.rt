@@ -1,26 +1,27 @@
-//! The end of a table, by one thread and by several: with all callers, with one held back, with none; and over devices that fail
+//! The end of a table, by one thread and by several, and bucket by bucket: with all callers, with one held back, with none; and over devices that fail
 //! or give other bytes.
 
 use super::expect::{equal, made};
 use super::failing::failing_at;
+use super::handing::Taker;
 use super::scene::{Scene, plays};
 use super::users::{User, number_of, opened, settings, user_of};
 use far_device::Device;
 use far_object::Text;
 use far_pairs::{Bundle, in_key_order};
-use hash_table::{Caller, CloseFault, Config, FarTable, Refusal};
+use hash_table::{Caller, CloseFault, Config, FarTable, HandFault, Refusal};
 use std::alloc::Global;
 use std::process::Abort;
 use std::sync::Wait;
 use std::thread::Threads;
 use version_words::Naming;
 
-type Table<J, D> = FarTable<Text, Text, J, D>;
+pub type Table<J, D> = FarTable<Text, Text, J, D>;
 
-type Callers<J> = Vec<Caller<Text, Text, J>>;
+pub type Callers<J> = Vec<Caller<Text, Text, J>>;
 
 /// The keys that a caller puts, each at the number of puts before it in all, and whether each is swapped out then.
-type Puts = &'static [(&'static [u8], bool)];
+pub type Puts = &'static [(&'static [u8], bool)];
 
 /// A table that is closed by these callers.
 #[derive(Clone, Copy)]
@@ -31,7 +32,7 @@ pub struct Closing {
 }
 
 /// The keys and the values, in key order.
-type Pairs = &'static [(&'static [u8], u32)];
+pub type Pairs = &'static [(&'static [u8], u32)];
 
 const NONE: Pairs = &[];
 
@@ -40,6 +41,7 @@ const NONE: Pairs = &[];
 enum By {
     One,
     Threads,
+    Through,
 }
 
 /// How a close ended: with the pairs that were wanted, or others; or with a fault.
@@ -49,7 +51,7 @@ enum Closed<J: Naming, D: Device> {
 }
 
 /// Whether these are the pairs.
-fn are(pairs: &[(Text, Text)], wanted: Pairs) -> bool {
+pub fn are(pairs: &[(Text, Text)], wanted: Pairs) -> bool {
     let mut right = pairs.len() == wanted.len();
     for (pair, (key, value)) in pairs.iter().zip(wanted) {
         right = right && pair.0.as_bytes() == *key && number_of(&pair.1) == *value;
@@ -109,11 +111,21 @@ where
             Ok(bundles) => Closed::Right(are_lent(rt, alloc, bundles.as_slice(), wanted)),
             Err((fault, table, callers)) => Closed::Not(fault, table, callers),
         },
+        By::Through => {
+            let mut taker = Taker::new(alloc, u32::MAX);
+            match table.close_through(rt, alloc, callers, &mut taker) {
+                Ok(()) => Closed::Right(taker.has_taken(wanted)),
+                Err((why, table, callers)) => match why {
+                    HandFault::Close(fault) => Closed::Not(fault, table, callers),
+                    HandFault::Stopped => Closed::Right(false),
+                },
+            }
+        }
     }
 }
 
 /// Callers who have put these keys. No frame becomes free meanwhile.
-fn all_callers<J: Naming, D: Device, R: Wait + Abort>(
+pub fn all_callers<J: Naming, D: Device, R: Wait + Abort>(
     rt: &R,
     alloc: Global,
     table: &Table<J, D>,
@@ -238,7 +250,7 @@ fn wide() -> Config {
 
 #[test]
 fn each_caller_is_missed_in_turn(rt: HostRuntime) {
-    for by in [By::One, By::Threads] {
+    for by in [By::One, By::Threads, By::Through] {
         for (puts, pairs) in FEW {
             let end = Ok(pairs);
             let scene = Scene::Closes(Closing { by, puts, end });
@@ -287,7 +299,7 @@ const BAD: [(u32, usize, &[Puts], Refusal); 8] = [
 /// A failed read and other bytes leave the table open.
 #[test]
 fn the_first_bad_bucket_is_told(rt: HostRuntime) {
-    for by in [By::One, By::Threads] {
+    for by in [By::One, By::Threads, By::Through] {
         for (buckets, lane, puts, fault) in BAD {
             let config = Config { buckets, ..wide() };
             let end = Err(fault);

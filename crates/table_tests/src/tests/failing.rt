@@ -13,7 +13,7 @@ use std::process::Abort;
 type Canned = CannedDevice<FakeDevice>;
 
 /// A table over one device whose k-th write, read or removal fails.
-fn failing<R>(rt: &R, k: u64) -> Opening<Text, Text, FaultyDevice<FakeDevice>>
+pub fn failing<R>(rt: &R, k: u64) -> Opening<Text, Text, FaultyDevice<FakeDevice>>
 where
     R: Alloc<A = Global> + Abort,
 {

@@ -6,7 +6,9 @@ use super::scene::{Scene, plays};
 use super::users::{MANY, entered, settings, table_over};
 use far_device::{Device, FakeDevice};
 use far_object::Text;
-use hash_table::{CloseFault, Config, FarTable, OpenFault, Opening, ReclaimFault, Refusal};
+use hash_table::{
+    CloseFault, Config, FarTable, HandFault, OpenFault, Opening, ReclaimFault, Refusal,
+};
 use std::alloc::Global;
 use std::marker::Brand;
 use std::process::Abort;
@@ -159,4 +161,5 @@ fn refusals_and_faults_have_texts(rt: HostRuntime) {
     prints(&rt, &CloseFault::<Text, Text, Brand>::Device, "device");
     prints(&rt, &CloseFault::<Text, Text, Brand>::Damaged, "damaged");
     prints(&rt, &CloseFault::<Text, Text, Brand>::Missed, "missed");
+    prints(&rt, &HandFault::<Text, Text, Brand>::Stopped, "stopped");
 }

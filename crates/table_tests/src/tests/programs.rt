@@ -6,4 +6,6 @@ mod moves;
 mod numbers;
 mod planets;
 mod refusals;
+mod removals;
 mod updates;
+mod visits;

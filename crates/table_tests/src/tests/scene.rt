@@ -5,6 +5,7 @@ ghost use Rattle.hash_table.specs.Configs.{sizes_of};
 
 use super::closing::{Closing, closes};
 use super::expect::{equal, made};
+use super::handing::closes_again;
 use super::marks::{learned, learned_before};
 use super::opening::enters;
 use super::script::{Said, Step, play_on};
@@ -32,6 +33,7 @@ pub enum Scene<'a> {
     Learned,
     LearnedBefore,
     Closes(Closing),
+    ClosesAgain,
     TwoThreads,
     FiveThreads,
 }
@@ -84,6 +86,7 @@ fn on_table<J: Naming + Send + Sync, D: Device + Send, R: Threads + Wait + Abort
         Scene::Learned => learned(rt, alloc, &table),
         Scene::LearnedBefore => learned_before(rt, alloc, &table),
         Scene::Closes(closing) => closes(rt, alloc, table, closing),
+        Scene::ClosesAgain => closes_again(rt, alloc, table),
         Scene::TwoThreads => two_share(rt, alloc, &table),
         Scene::FiveThreads => five_share(rt, alloc, &table),
     }

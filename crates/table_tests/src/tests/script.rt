@@ -6,7 +6,7 @@ use super::recycling::{put_and_reclaim, put_by_a_recycler, put_by_another};
 use super::users::{Answer, Pairs, User, user_of};
 use far_device::Device;
 use far_object::Text;
-use hash_table::{BucketState, FarTable, ReclaimFault, Refusal};
+use hash_table::{BucketState, FarTable, ReclaimFault, Refusal, Traffic};
 use std::alloc::Global;
 use std::process::Abort;
 use std::sync::Wait;
@@ -63,6 +63,8 @@ pub enum Step {
     Free,
     Seen(u32),
     Touched(u32),
+    /// What the caller's calls did.
+    Traffic,
 }
 
 /// What a step answers.
@@ -85,6 +87,8 @@ pub enum Said {
     Name(u64),
     Count(u32),
     Has(Pairs),
+    /// Reads in frames and from devices, swap-ins, swap-outs, failures of devices, and bytes.
+    Counted(u64, u64, u64, u64, u64, i64),
     Wrong,
 }
 
@@ -155,6 +159,17 @@ impl Said {
             Some(name) => Said::Name(name),
             None => Said::Nothing,
         }
+    }
+
+    fn counted(traffic: Traffic) -> Said {
+        Said::Counted(
+            traffic.local_reads,
+            traffic.far_reads,
+            traffic.swap_ins,
+            traffic.swap_outs,
+            traffic.device_failures,
+            traffic.bytes,
+        )
     }
 
     fn frame(seen: Option<(u32, u64)>) -> Said {
@@ -230,6 +245,7 @@ impl Step {
             Step::Free => Said::Count(user.table.free()),
             Step::Seen(frame) => Said::frame(user.table.frame_seen(frame)),
             Step::Touched(frame) => Said::Is(user.table.touched(frame)),
+            Step::Traffic => Said::counted(user.caller.traffic()),
         }
     }
 }

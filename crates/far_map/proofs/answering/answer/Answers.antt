@@ -1,4 +1,4 @@
-use Rattle.far_map.proofs.Trying.{replied_why, gone_on, done_from}
+use Rattle.far_map.proofs.Trying.{replied_why, done_from}
 use Rattle.hash_table.proofs.Fronts.{goes_trans}
 use Rattle.far_map.proofs.Losses.{loses_trans, came}
 use Rattle.far_map.specs.Asks.{asked}
@@ -11,9 +11,8 @@ returns-in-Err-make_room-clause-answers g c =
     let limit = c.args.map.now.table.limit in
     let old = c.args.seated.now.caller.pass in
     let o = asked c.args.ask.now in
-    gone_on l limit old c.call.new.caller.pass c.make_room.new.seated.caller.pass o c.in-Err-make_room.why
-    (replied_why l limit old c.loop.seated.caller.pass c.call.new.caller.pass o c.in-Err.refusal c.in-Err-make_room.why c.loop.invariant.0 c.in-Err.ensures.tries c.in-Err-make_room.ensures.why)
-    c.in-Err-make_room.ensures.pass
+    replied_why l limit old c.loop.seated.caller.pass c.call.new.caller.pass c.make_room.new.seated.caller.pass o c.in-Err.refusal c.in-Err-make_room.why c.loop.invariant.0 c.in-Err.ensures.tries
+    c.in-Err-make_room.ensures.pass c.in-Err-make_room.ensures.why
 
 pub returns-in-Ok-clause-answers : goal.returns-in-Ok-clause-answers
 returns-in-Ok-clause-answers g c =

@@ -1,6 +1,6 @@
-use Rattle.far_map.proofs.Trying.{replied_why, gone_on, held_answers}
+use Rattle.far_map.proofs.Trying.{replied_why, held_answers}
 use Rattle.std.proofs.Common.{inl}
-use Rattle.hash_table.proofs.Fronts.{goes_trans}
+use Rattle.hash_table.proofs.Fronts.{goes_self, goes_trans}
 use Rattle.far_map.proofs.Losses.{loses_trans, came}
 use Rattle.table_core.specs.declared.operation.Operation.TheVariants.{Get}
 use Rattle.far_map.proofs.holding.open.Goals as goal
@@ -12,9 +12,8 @@ returns-in-Err-make_room-clause-answers g c =
     let limit = c.args.map.now.table.limit in
     let old = c.args.seated.now.caller.pass in
     let o = Get c.args.key.now in
-    gone_on l limit old c.open_near.new.caller.pass c.make_room.new.seated.caller.pass o c.in-Err-make_room.why
-    (replied_why l limit old c.loop.seated.caller.pass c.open_near.new.caller.pass o c.in-Err.refusal c.in-Err-make_room.why c.loop.invariant.0 c.in-Err.ensures.tries c.in-Err-make_room.ensures.why)
-    c.in-Err-make_room.ensures.pass
+    replied_why l limit old c.loop.seated.caller.pass c.open_near.new.caller.pass c.make_room.new.seated.caller.pass o c.in-Err.refusal c.in-Err-make_room.why c.loop.invariant.0 c.in-Err.ensures.tries
+    c.in-Err-make_room.ensures.pass c.in-Err-make_room.ensures.why
 
 pub returns-in-Ok-clause-answers : goal.returns-in-Ok-clause-answers
 returns-in-Ok-clause-answers g c =
@@ -44,5 +43,5 @@ loop-preserved g c = (
 
 pub returns-in-Err-open_near-clause-answers : goal.returns-in-Err-open_near-clause-answers
 returns-in-Err-open_near-clause-answers g c =
-    replied_why g.J.Naming.limits c.args.map.now.table.limit c.args.seated.now.caller.pass c.loop.seated.caller.pass c.open_near-2.new.caller.pass (Get c.args.key.now) c.in-Err-open_near.refusal c.said.result
-    c.loop.invariant.0 c.in-Err-open_near.ensures.tries (inl c.said.ensures)
+    replied_why g.J.Naming.limits c.args.map.now.table.limit c.args.seated.now.caller.pass c.loop.seated.caller.pass c.open_near-2.new.caller.pass c.open_near-2.new.caller.pass (Get c.args.key.now) c.in-Err-open_near.refusal c.said.result
+    c.loop.invariant.0 c.in-Err-open_near.ensures.tries (goes_self c.open_near-2.new.caller.pass) (inl c.said.ensures)

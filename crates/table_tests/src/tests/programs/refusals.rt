@@ -103,7 +103,7 @@ fn too_long_full_and_names_spent(rt: HostRuntime) {
         ..settings
     };
     let told = alone(&rt, alloc, few, FakeDevice::new(alloc), &short);
-    equal(&rt, told.ended, Err(Refusal::Full));
+    equal(&rt, told.ended, Err(Refusal::NamesSpent));
     let few = Settings {
         frames: 3,
         names: 2,

@@ -1,6 +1,9 @@
-use Rattle.hash_table.specs.Scopes.{shown}
+use Rattle.std.proofs.Common.{◌≡◌}
+use Rattle.threaded_run.specs.Replies.{shown}
 use Rattle.threaded_run.proofs.Working.{Working}
 use Rattle.threaded_run.proofs.worker.work.Given as goal
 
 abbrev pub invariant-loop-at : goal.invariant-loop-at
-invariant-loop-at g l = Working g.J.Naming.limits l.shared.table.limit l.fn.seated.caller.pass l.seated.caller.pass (shown l.held) l.script l.at l.lines.items
+invariant-loop-at g l =
+    Working g.S.Calls.limits (g.S.Calls.shown l.fn.me).limit (g.S.Calls.shown l.fn.me).pass (g.S.Calls.shown l.me).pass (shown g.S.Calls.held l.held) l.script l.at l.lines.items
+    × ((g.S.Calls.shown l.me).limit ≡ (g.S.Calls.shown l.fn.me).limit)

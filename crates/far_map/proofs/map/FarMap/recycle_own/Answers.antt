@@ -1,0 +1,5 @@
+use Rattle.far_map.proofs.Losses.{loses_trans, recycled}
+use Rattle.far_map.proofs.map.FarMap.recycle_own.Goals as goal
+
+pub returns-clause-none_lost : goal.returns-clause-none_lost
+returns-clause-none_lost g c = loses_trans _ _ _ _ _ _ (recycled _ _ _ c.recycle.ensures.limbo) c.settle.ensures.none_lost

@@ -1,0 +1,20 @@
+-- What a removal on a condition tells.
+use Rattle.std.specs.Prelude.{◌≡◌, ◌≢◌, ℕ, List, Option, Some, Result, Ok, Err, MatchBool}
+use Rattle.table_core.specs.declared.operation.Operation.TheVariants as op
+use Rattle.hash_table.specs.declared.removing.Removal.{Removal}
+use Rattle.hash_table.specs.Changes.{removal_of}
+use Rattle.far_map.specs.Views.{Call}
+
+-- the call that it was: a removal where the value was the expected one, else a get; where it was refused, a removal
+abbrev pub call_of : {E : Type 0} → List ℕ → Result (Removal (List ℕ)) E → Call
+call_of k (Ok removal) = removal_of k removal.removed
+call_of k (Err why) = op.Remove k
+
+-- the value that it found
+abbrev pub found_in : {E : Type 0} → Result (Removal (List ℕ)) E → Result (Option (List ℕ)) E
+found_in (Ok removal) = Ok removal.found
+found_in (Err why) = Err why
+
+-- it took the key out just where the value that it found was the expected one
+abbrev pub IsMet : List ℕ → Removal (List ℕ) → Type 0
+IsMet expected removal = MatchBool removal.removed (removal.found ≡ Some expected) (removal.found ≢ Some expected)

@@ -1,0 +1,32 @@
+-- What is read of all buckets, one after the other.
+use Rattle.std.specs.Prelude.{◌≡◌, ℕ, zero, suc, ◌<◌, Bool, IsTrue, List, [], ◌++◌, Result, Ok, Err, ⊤}
+use Rattle.far_object.specs.Encodings.{enc_text}
+use Rattle.table_core.specs.declared.limits.Limits.{Limits}
+use Rattle.table_core.specs.Maps.{at_bucket, map_of}
+use Rattle.table_core.specs.Logs.{history}
+use Rattle.version_words.specs.Views.{Goes}
+use Rattle.far_map.specs.declared.refusal.Refusal.{Refusal}
+use Rattle.far_map.specs.declared.refusal.Refusal.TheVariants as refusal
+use Rattle.far_map.specs.Views.{View, Pairs}
+
+-- why a bucket is not read; what is damaged comes over no honest device
+abbrev pub IsUnread : Bool → Refusal → Type 0
+IsUnread is_honest refusal.Memory = ⊤
+IsUnread is_honest refusal.Device = ⊤
+IsUnread is_honest refusal.Damaged = IsTrue is_honest → ⊥
+IsUnread is_honest _ = ⊥
+
+module _ (l : Limits) where
+  -- the pairs of a bucket, as they stand at the pass's front
+  abbrev pub AreOfBucket : ℕ → View → Pairs → Type 0
+  AreOfBucket b pass pairs = IsTrue l.honest → pairs ≡ at_bucket enc_text l.buckets b (map_of enc_text enc_text (history pass.front))
+
+  -- the pairs of the first so many buckets, one bucket behind the other; the pass went on from each to the next, to the front at which that one was read
+  abbrev pub AreRead : ℕ → View → View → Pairs → Type 0
+  AreRead zero old new pairs = (new ≡ old) × (pairs ≡ [])
+  AreRead (suc b) old new pairs = (mid : View) × (before here : Pairs) × AreRead b old mid before × Goes mid new × AreOfBucket b new here × (pairs ≡ before ++ here)
+
+  -- the pairs of all buckets were handed over, or those of the buckets before one that was not read
+  abbrev pub IsVisit : (Pairs → Type 0) → View → View → Result (Unit {0}) Refusal → Type 0
+  IsVisit AreHanded old new (Ok _) = (pairs : Pairs) × AreRead l.buckets old new pairs × AreHanded pairs
+  IsVisit AreHanded old new (Err why) = (b : ℕ) × (mid : View) × (pairs : Pairs) × (b < l.buckets) × AreRead b old mid pairs × Goes mid new × AreHanded pairs × IsUnread l.honest why

@@ -1,0 +1,116 @@
+//! A removal on a condition.
+ghost use Rattle.std.specs.Prelude.{◌≡◌, IfOk};
+ghost use mathlib.Core.List.{IsPrefix};
+ghost use Rattle.far_map.specs.Answers.{Tries, AnswersBy, Answers};
+ghost use Rattle.far_map.specs.Asks.{asked};
+ghost use Rattle.far_map.specs.Counts.{Counts};
+ghost use Rattle.far_map.specs.Removals.{call_of, found_in, IsMet};
+ghost use Rattle.far_map.specs.Spares.{LosesNone};
+
+use crate::asked::Asked;
+use crate::keeping::Seated;
+use crate::map::FarMap;
+use crate::refusal::{Refusal, said};
+use crate::room::{MOST_TRIES, make_room};
+use crate::session::Session;
+use far_device::Device;
+use far_object::Text;
+use hash_table::{Caller, FarTable, Refusal as TableRefusal, Removal};
+use std::alloc::Global;
+use std::sync::Wait;
+use swapper::QueueNaming;
+use version_words::Naming;
+
+/// One removal of the table.
+fn remove_now<J: Naming, D: Device, R: Wait>(
+    rt: &R,
+    alloc: Global,
+    table: &FarTable<Text, Text, J, D>,
+    caller: &mut Caller<Text, Text, J>,
+    key: &Text,
+    expected: &Text,
+) -> Result<Removal<Text>, TableRefusal>
+    ensures tries { Tries J.limits table.now.limit caller.old.pass caller.new.pass (call_of key.now result) (found_in result) }
+    ensures met { IfOk result (IsMet expected.now) }
+    ensures limbo { IsPrefix caller.old.limbo caller.new.limbo }
+{
+    match table.remove_if(rt, alloc, caller, key, expected) {
+        Ok(removal) => Ok(removal),
+        Err(refusal) => Err(refusal),
+    }
+}
+
+/// The removal. After each refusal that room may help, room is made and it is tried again, 1,000 times at most.
+fn remove_in_room<J: Naming, B: QueueNaming, D: Device, R: Wait>(
+    rt: &R,
+    alloc: Global,
+    map: &FarMap<J, B, D>,
+    seated: &mut Seated<J, B>,
+    key: &Text,
+    expected: &Text,
+) -> Result<Removal<Text>, Refusal>
+    ensures answers { AnswersBy J.limits map.now.table.limit seated.old.caller.pass seated.new.caller.pass (call_of key.now result) (found_in result) }
+    ensures met { IfOk result (IsMet expected.now) }
+    ensures none_lost { LosesNone seated.old.caller.limbo seated.old.seat seated.new.caller.limbo seated.new.seat }
+{
+    map.before_change(rt, seated);
+    for _ in 0..MOST_TRIES {
+        match remove_now(rt, alloc, &map.table, &mut seated.caller, key, expected) {
+            Ok(removal) => return Ok(removal),
+            Err(refusal) => match make_room(rt, map, seated, refusal) {
+                Ok(()) => {}
+                Err(why) => return Err(why),
+            },
+        }
+    }
+    match remove_now(rt, alloc, &map.table, &mut seated.caller, key, expected) {
+        Ok(removal) => Ok(removal),
+        Err(refusal) => Err(said(refusal)),
+    }
+}
+
+/// The same, and what follows each call.
+fn remove_and_keep<J: Naming, B: QueueNaming, D: Device, R: Wait>(
+    rt: &R,
+    alloc: Global,
+    map: &FarMap<J, B, D>,
+    seated: &mut Seated<J, B>,
+    key: &Text,
+    expected: &Text,
+) -> Result<Removal<Text>, Refusal>
+    ensures answers { AnswersBy J.limits map.now.table.limit seated.old.caller.pass seated.new.caller.pass (call_of key.now result) (found_in result) }
+    ensures met { IfOk result (IsMet expected.now) }
+    ensures none_lost { LosesNone seated.old.caller.limbo seated.old.seat seated.new.caller.limbo seated.new.seat }
+{
+    let removal = remove_in_room(rt, alloc, map, seated, key, expected);
+    map.after_call(rt, seated);
+    removal
+}
+
+/// What is counted: a removal on a condition that took nothing out was a get.
+fn counted_as<'a>(key: &'a Text, removal: &Result<Removal<Text>, Refusal>) -> Asked<'a>
+    ensures { asked result ≡ call_of key.entry.now removal.now }
+{
+    match removal {
+        Ok(removal) if !removal.removed => Asked::Get(key),
+        _ => Asked::Remove(key),
+    }
+}
+
+impl<'m, J: Naming, B: QueueNaming, D: Device> Session<'m, J, B, D> {
+    /// Takes the key out where its value is the expected one.
+    pub(crate) fn take_out<R: Wait>(
+        &mut self,
+        rt: &R,
+        key: &Text,
+        expected: &Text,
+    ) -> Result<Removal<Text>, Refusal>
+        ensures answers { Answers J.limits self.old self.new (call_of key.now result) (found_in result) }
+        ensures met { IfOk result (IsMet expected.now) }
+        ensures counts { Counts self.old self.new (call_of key.now result) result }
+    {
+        let removal = remove_and_keep(rt, self.alloc, self.map, &mut self.seated, key, expected);
+        self.stats.count(&counted_as(key, &removal), &removal);
+        removal
+    }
+}

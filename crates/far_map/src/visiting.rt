@@ -1,0 +1,114 @@
+//! All pairs, bucket by bucket.
+ghost use Rattle.std.specs.Prelude.{◌≡◌, ◌<◌, IfOk, IfErr};
+ghost use Rattle.std.specs.List.{FoldsTo};
+ghost use Rattle.version_words.specs.Views.{Goes};
+ghost use Rattle.far_map.specs.Visits.{AreOfBucket, IsUnread, IsVisit};
+
+use crate::keeping::Seated;
+use crate::map::FarMap;
+use crate::refusal::{Refusal, said};
+use crate::session::Session;
+use far_device::Device;
+use far_object::Text;
+use hash_table::{Caller, FarTable, Refusal as TableRefusal};
+use std::alloc::Global;
+use std::sync::Wait;
+use swapper::QueueNaming;
+use version_words::Naming;
+
+/// The pairs of a bucket, copied. Where its object moved meanwhile it is read again.
+fn copy_bucket<J: Naming, D: Device, R: Wait>(
+    rt: &R,
+    alloc: Global,
+    table: &FarTable<Text, Text, J, D>,
+    caller: &mut Caller<Text, Text, J>,
+    bucket: u32,
+) -> Result<Vec<(Text, Text)>, Refusal>
+    requires bucket { bucket < J.limits.buckets }
+    ensures goes { Goes caller.old.pass caller.new.pass }
+    ensures limbo { caller.new.limbo ≡ caller.old.limbo }
+    ensures pairs { IfOk result (λ v. AreOfBucket J.limits bucket caller.new.pass v.items) }
+    ensures why { IfErr result (IsUnread J.limits.honest) }
+{
+    for _ in rt.forever() {
+        match table.pairs_in(rt, alloc, caller, bucket) {
+            Ok(pairs) => return Ok(pairs),
+            Err(TableRefusal::Missed) => {}
+            Err(refusal) => return Err(said(refusal)),
+        }
+    }
+    unreachable!()
+}
+
+/// Hands each pair to the visitor.
+fn hand_over<F: FnMut(Text, Text)>(pairs: Vec<(Text, Text)>, visit: &mut F)
+    requires { F.IsAlwaysCallable visit.old }
+    ensures handed { FoldsTo (λ f pair g. F.step f pair.0 pair.1 tt g) visit.old pairs.items visit.new }
+    ensures again { F.IsAlwaysCallable visit.new }
+{
+    for (key, value) in pairs {
+        visit(key, value);
+    }
+}
+
+/// Hands each pair of the table to the visitor, those of one bucket behind those of another.
+fn visit_buckets<J: Naming, D: Device, F: FnMut(Text, Text), R: Wait>(
+    rt: &R,
+    alloc: Global,
+    table: &FarTable<Text, Text, J, D>,
+    caller: &mut Caller<Text, Text, J>,
+    buckets: u32,
+    visit: &mut F,
+) -> Result<(), Refusal>
+    requires all { buckets ≡ J.limits.buckets }
+    requires callable { F.IsAlwaysCallable visit.old }
+    ensures visits { IsVisit J.limits (λ pairs. FoldsTo (λ f pair g. F.step f pair.0 pair.1 tt g) visit.old pairs visit.new) caller.old.pass caller.new.pass result }
+    ensures goes { Goes caller.old.pass caller.new.pass }
+    ensures limbo { caller.new.limbo ≡ caller.old.limbo }
+{
+    for bucket in 0..buckets {
+        match copy_bucket(rt, alloc, table, caller, bucket) {
+            Ok(pairs) => hand_over(pairs, visit),
+            Err(refusal) => return Err(refusal),
+        }
+    }
+    Ok(())
+}
+
+/// The same of a map.
+fn visit_map<J: Naming, B: QueueNaming, D: Device, F: FnMut(Text, Text), R: Wait>(
+    rt: &R,
+    alloc: Global,
+    map: &FarMap<J, B, D>,
+    seated: &mut Seated<J, B>,
+    visit: &mut F,
+) -> Result<(), Refusal>
+    requires { F.IsAlwaysCallable visit.old }
+    ensures visits { IsVisit J.limits (λ pairs. FoldsTo (λ f pair g. F.step f pair.0 pair.1 tt g) visit.old pairs visit.new) seated.old.caller.pass seated.new.caller.pass result }
+    ensures goes { Goes seated.old.caller.pass seated.new.caller.pass }
+{
+    visit_buckets(
+        rt,
+        alloc,
+        &map.table,
+        &mut seated.caller,
+        map.buckets,
+        visit,
+    )
+}
+
+impl<'m, J: Naming, B: QueueNaming, D: Device> Session<'m, J, B, D> {
+    /// Hands each pair of the map to the visitor.
+    pub(crate) fn visit_all<F: FnMut(Text, Text), R: Wait>(
+        &mut self,
+        rt: &R,
+        visit: &mut F,
+    ) -> Result<(), Refusal>
+        requires { F.IsAlwaysCallable visit.old }
+        ensures visits { IsVisit J.limits (λ pairs. FoldsTo (λ f pair g. F.step f pair.0 pair.1 tt g) visit.old pairs visit.new) self.old.pass self.new.pass result }
+        ensures goes { Goes self.old.pass self.new.pass }
+        ensures same { (self.new.limit ≡ self.old.limit) × (self.new.stats ≡ self.old.stats) }
+    {
+        visit_map(rt, self.alloc, self.map, &mut self.seated, visit)
+    }
+}
