@@ -22,8 +22,12 @@ WITHOUT_GROWTH = {
     "Calls::contains, a frame", "Calls::hold, a frame",
 } | {
     f"{device}Device::{call}"
-    for device in ("Fake", "Faulty", "Lying", "Canned", "Watched")
+    for device in ("Fake", "Faulty", "Lying", "Canned", "Watched", "File")
     for call in ("remove", "construct")
+} | {
+    # One write has the room of the one before.
+    f"FileDevice::open, then {call}"
+    for call in ("write, a known id", "write, a new id", "remove", "construct")
 }
 # The calls that do without the growth that they are refused: they read a copy of a pair that they can't fetch.
 UNSEEN = {"Calls::with, the device", "Calls::contains, the device"}

@@ -1,10 +1,15 @@
-//! Encodings and objects, many pairs in the order of their keys, devices, and the machine of lawful logs.
+//! Encodings and objects, many pairs in the order of their keys, devices in the process and in files, and the machine of
+//! lawful logs.
 mod common;
 mod devices;
 mod encodings;
+mod file_devices;
+mod file_disks;
+mod file_runs;
 mod logs;
 mod many;
 mod objects;
 mod orders;
 mod pairs;
+mod sendable;
 mod tampered;

@@ -12,7 +12,7 @@ use std::sync::{Arc, Mutex};
 
 /// A call.
 #[derive(Clone, Copy)]
-enum Call<'b> {
+pub(super) enum Call<'b> {
     Construct,
     Write(u64, &'b [u8]),
     /// Reads into a list that is not empty, behind which just these bytes are to stand.
@@ -21,7 +21,7 @@ enum Call<'b> {
 }
 
 /// A call, what it answers, where true stands for done, and how many failures are counted then.
-type Row<'b> = (Call<'b>, Result<bool, DeviceFault>, u64);
+pub(super) type Row<'b> = (Call<'b>, Result<bool, DeviceFault>, u64);
 
 /// What the call answers.
 fn answer<D: Device>(
@@ -48,35 +48,37 @@ fn answer<D: Device>(
 }
 
 /// Makes the calls, one after another.
-fn play<D: Device>(rt: &impl Abort, alloc: Global, device: &mut D, rows: &[Row<'_>]) {
+pub(super) fn play<D: Device>(rt: &impl Abort, alloc: Global, device: &mut D, rows: &[Row<'_>]) {
     for (at, (call, wanted, failures)) in rows.iter().enumerate() {
         let found = answer(rt, alloc, device, *call);
         equal(rt, (at, found, device.failures()), (at, *wanted, *failures));
     }
 }
 
-const FAILED: Result<bool, DeviceFault> = Err(DeviceFault::Failed);
+pub(super) const FAILED: Result<bool, DeviceFault> = Err(DeviceFault::Failed);
+
+/// What each device answers that keeps what it is given.
+pub(super) const MAP: [Row<'static>; 14] = [
+    (Call::Construct, Ok(true), 0),
+    (Call::Write(7, &[1, 2]), Ok(true), 0),
+    (Call::Read(7, &[1, 2]), Ok(true), 0),
+    (Call::Read(8, &[]), Ok(false), 0),
+    (Call::Remove(7), Ok(true), 0),
+    (Call::Remove(7), Ok(false), 0),
+    (Call::Read(7, &[]), Ok(false), 0),
+    // A write replaces the bytes of its id alone.
+    (Call::Write(7, &[1, 2]), Ok(true), 0),
+    (Call::Write(8, &[]), Ok(true), 0),
+    (Call::Write(7, &[3]), Ok(true), 0),
+    (Call::Read(7, &[3]), Ok(true), 0),
+    (Call::Read(8, &[]), Ok(true), 0),
+    (Call::Construct, Ok(true), 0),
+    (Call::Read(7, &[]), Ok(false), 0),
+];
 
 #[test]
 fn a_fake_device_is_a_map(rt: HostRuntime) {
-    let rows = [
-        (Call::Construct, Ok(true), 0),
-        (Call::Write(7, &[1, 2]), Ok(true), 0),
-        (Call::Read(7, &[1, 2]), Ok(true), 0),
-        (Call::Read(8, &[]), Ok(false), 0),
-        (Call::Remove(7), Ok(true), 0),
-        (Call::Remove(7), Ok(false), 0),
-        (Call::Read(7, &[]), Ok(false), 0),
-        // A write replaces the bytes of its id alone.
-        (Call::Write(7, &[1, 2]), Ok(true), 0),
-        (Call::Write(8, &[]), Ok(true), 0),
-        (Call::Write(7, &[3]), Ok(true), 0),
-        (Call::Read(7, &[3]), Ok(true), 0),
-        (Call::Read(8, &[]), Ok(true), 0),
-        (Call::Construct, Ok(true), 0),
-        (Call::Read(7, &[]), Ok(false), 0),
-    ];
-    play(&rt, rt.alloc(), &mut FakeDevice::new(rt.alloc()), &rows);
+    play(&rt, rt.alloc(), &mut FakeDevice::new(rt.alloc()), &MAP);
 }
 
 /// Plays the calls on a device whose k-th call fails.
@@ -206,7 +208,7 @@ fn a_full_count_of_failures_stays(rt: HostRuntime) {
 }
 
 /// A lock that threads can share.
-fn locked<D: Device + Send>(device: D) -> Mutex<D> {
+pub(super) fn locked<D: Device + Send>(device: D) -> Mutex<D> {
     Mutex::new(device)
 }
 
@@ -226,7 +228,7 @@ fn devices_nest_and_move_into_locks(rt: HostRuntime) {
 }
 
 /// Writes and reads, and again where a growth was refused: the refused call has changed nothing.
-fn expect_recovery<D: Device>(rt: &impl Abort, alloc: Global, device: &mut D, want: &[u8]) {
+pub(super) fn expect_recovery<D: Device>(rt: &impl Abort, alloc: Global, device: &mut D, want: &[u8]) {
     let mut out = Vec::new(alloc);
     if device.write(7, &[1, 2]) == Err(DeviceFault::Memory) {
         equal(rt, device.read(7, &mut out), Ok(false));

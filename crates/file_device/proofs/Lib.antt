@@ -1,0 +1,5 @@
+mod Classes
+mod Owned
+mod Kept
+mod Contents
+mod Read

@@ -1,0 +1,182 @@
+//! A device over a disk.
+ghost use Rattle.std.specs.Prelude.{◌≡◌, ◌≢◌, ◌<◌, ℕ, Some, IsOk, IsSome, IfOk, IfSome, OnErr};
+ghost use Rattle.std.specs.Bool.{OnTrue};
+ghost use Rattle.std.specs.FinMap.{empty, get};
+ghost use Rattle.far_device.specs.Calls.{Constructs, Writes, Reads, Removes, count_after};
+ghost use Rattle.file_device.specs.Digests.{GivesAlike};
+ghost use Rattle.file_device.specs.Owners.{owner_in};
+ghost use Rattle.file_device.specs.Places.{AreKept, IsFree};
+
+use crate::catalog::Catalog;
+use crate::class::{CLASSES, LONGEST, class_of};
+use crate::digest::are_alike;
+use crate::failures::Failures;
+use crate::place::Place;
+use crate::{Disk, Failure, Slot};
+use far_device::{Device, DeviceFault};
+use std::alloc::{AllocError, Global};
+use std::hash::RandomState;
+
+/// A device whose objects lie in the slots of a disk. Of each object it keeps where it lies, its
+/// length and its digest.
+#[derive(Drop)]
+pub struct FileDevice<K: Disk> {
+    disk: K,
+    keys: RandomState,
+    catalog: Catalog,
+    // What is written now, so that proofs can tell of it.
+    scratch: Vec<u8>,
+    failures: Failures,
+    ghost kept: { AreKept K.HONEST (K.kept disk) keys catalog.index.entries },
+}
+
+impl<K: Disk> FileDevice<K> {
+    ghost use Rattle.file_device.specs.Devices.{state_in, slot_in};
+
+    /// An empty device on the disk, whose digests are under these keys. Who opens the device draws
+    /// them, and nobody who can write to the disk may know them.
+    pub fn new(alloc: Global, disk: K, keys: RandomState) -> Self
+        ensures { state_in result ≡ record { contents = empty; failures = 0 } }
+    {
+        FileDevice {
+            disk,
+            keys,
+            catalog: Catalog::new(alloc),
+            scratch: Vec::new(alloc),
+            failures: Failures::new(),
+        }
+    }
+
+    /// The disk, to look at.
+    pub fn disk(&self) -> &K {
+        &self.disk
+    }
+
+    /// Why the last call that answered `Failed` did so, and none before there was one.
+    pub fn last_failure(&self) -> Option<Failure> {
+        self.failures.last
+    }
+
+    /// The slot in which the object of the id lies, if there is one. No other id's object lies there.
+    pub fn slot(&self, id: u64) -> Option<Slot>
+        ensures place { result ≡ slot_in self.now id }
+        ensures apart { (other : ℕ) → other ≢ id → IsSome result → slot_in self.now other ≢ result }
+    {
+        match self.catalog.place(id) {
+            Some(place) => Some(place.slot()),
+            None => None,
+        }
+    }
+
+    /// A slot that went out to the id comes back. Where it was the last one of its class in use, the
+    /// disk lets go of the class; where that fails, the numbers stay, and it is tried again the next
+    /// time.
+    fn give_back(&mut self, slot: Slot, id: u64)
+        requires known { slot.class < 21 }
+        requires free { IsFree self.old.catalog.index.entries slot }
+        requires owned { owner_in self.old.catalog.owners.ledgers slot ≡ Some id }
+        ensures same_index { self.new.catalog.index.entries ≡ self.old.catalog.index.entries }
+        ensures same_count { self.new.failures.count ≡ self.old.failures.count }
+    {
+        self.catalog.give_back(slot, id);
+        if self.catalog.is_idle(slot.class) && self.disk.clear(slot.class).is_ok() {
+            self.catalog.clear(slot.class);
+        }
+    }
+}
+
+impl<K: Disk> Device for FileDevice<K> {
+    ghost use Rattle.file_device.specs.Devices.{contents_in, keys_in, state_in};
+
+    ghost state = { λ device. state_in device };
+
+    ghost HONEST = { K.HONEST };
+
+    /// Lets go of all slots too, and fails where the disk can't. The device is empty all the same.
+    fn construct(&mut self) -> Result<(), DeviceFault>
+        ensures constructs { Constructs (state_in self.old) (state_in self.new) result }
+        ensures emptied { contents_in self.new ≡ empty }
+    {
+        self.catalog.empty();
+        for class in 0..CLASSES as u8 {
+            if let Err(fault) = self.disk.clear(class) {
+                return Err(self.failures.of_disk(fault));
+            }
+            self.catalog.clear(class);
+        }
+        Ok(())
+    }
+
+    /// An object of more than 64 MiB is `Failed`. After each fault the id has what it had.
+    fn write(&mut self, id: u64, bytes: &[u8]) -> Result<(), DeviceFault>
+        ensures writes { Writes (state_in self.old) (state_in self.new) id bytes.now result }
+        ensures refused { OnErr result (contents_in self.new ≡ contents_in self.old) }
+    {
+        if bytes.len() > LONGEST {
+            return Err(self.failures.add(Failure::TooLong));
+        }
+        self.scratch.clear();
+        self.scratch.extend_from_slice(bytes)?;
+        let class = class_of(bytes.len() as u32);
+        let slot = match self.catalog.take(class, id) {
+            Ok(Some(slot)) => slot,
+            Ok(None) => return Err(self.failures.add(Failure::NoSlot)),
+            Err(AllocError) => return Err(DeviceFault::Memory),
+        };
+        if let Err(fault) = self.disk.write_slot(slot, bytes) {
+            self.give_back(slot, id);
+            return Err(self.failures.of_disk(fault));
+        }
+        let place = Place::of(slot.number, &self.scratch, &self.keys);
+        match self.catalog.enter(id, place) {
+            Ok(Some(before)) => self.give_back(before, id),
+            Ok(None) => {}
+            Err(AllocError) => {
+                self.give_back(slot, id);
+                return Err(DeviceFault::Memory);
+            }
+        }
+        Ok(())
+    }
+
+    /// Whatever the disk does, what comes has the length and the digest of what was written; where it
+    /// has not, the call answers `Failed`.
+    fn read(&mut self, id: u64, out: &mut Vec<u8>) -> Result<bool, DeviceFault>
+        ensures reads { Reads K.HONEST (state_in self.old) (state_in self.new)
+            id out.old.items out.new.items result }
+        ensures alike { IfOk result (λ there. OnTrue there (IfSome (get (contents_in self.old) id)
+            (λ bytes. GivesAlike (keys_in self.old) bytes out.old.items out.new.items))) }
+    {
+        let Some(place) = self.catalog.place(id) else {
+            return Ok(false);
+        };
+        let before = out.len();
+        let (slot, len, digest) = (place.slot(), place.len, place.digest);
+        if let Err(fault) = self.disk.read_slot(slot, len, out) {
+            return Err(self.failures.of_disk(fault));
+        }
+        if !are_alike(&self.keys, &out[before..], len, digest) {
+            out.truncate(before);
+            return Err(self.failures.add(Failure::Damaged));
+        }
+        Ok(true)
+    }
+
+    /// Never fails.
+    fn remove(&mut self, id: u64) -> Result<bool, DeviceFault>
+        ensures removes { Removes (state_in self.old) (state_in self.new) id result }
+        ensures ok { IsOk result }
+    {
+        match self.catalog.remove(id) {
+            Some(slot) => {
+                self.give_back(slot, id);
+                Ok(true)
+            }
+            None => Ok(false),
+        }
+    }
+
+    fn failures(&self) -> u64 {
+        self.failures.count
+    }
+}

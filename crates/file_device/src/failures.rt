@@ -1,0 +1,44 @@
+//! How often a device failed.
+ghost use Rattle.std.specs.Prelude.{◌≡◌, ◌+◌, ◌-◌, ◌^◌, min, Err};
+ghost use Rattle.file_device.specs.Counts.{count_after_fault};
+
+use crate::{DiskFault, Failure};
+use far_device::DeviceFault;
+
+/// The count, and why it last rose.
+#[derive(Drop)]
+pub(crate) struct Failures {
+    pub(crate) count: u64,
+    pub(crate) last: Option<Failure>,
+}
+
+impl Failures {
+    pub(crate) fn new() -> Self
+        ensures { result.count ≡ 0 }
+    {
+        Failures {
+            count: 0,
+            last: None,
+        }
+    }
+
+    /// Counts a failure. A count of 2^64 - 1 stays.
+    pub(crate) fn add(&mut self, why: Failure) -> DeviceFault
+        ensures failed { result ≡ DeviceFault.Failed }
+        ensures counted { self.new.count ≡ min (self.old.count + 1) (2 ^ 64 - 1) }
+    {
+        self.count = self.count.saturating_add(1);
+        self.last = Some(why);
+        DeviceFault::Failed
+    }
+
+    /// The device's fault where the disk has this one, which is counted but for want of memory.
+    pub(crate) fn of_disk(&mut self, fault: DiskFault) -> DeviceFault
+        ensures counted { self.new.count ≡ count_after_fault result self.old.count }
+    {
+        match fault {
+            DiskFault::Memory => DeviceFault::Memory,
+            _ => self.add(Failure::Disk(fault)),
+        }
+    }
+}

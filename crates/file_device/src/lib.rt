@@ -1,0 +1,25 @@
+//! A device whose objects lie in the slots of a disk: in memory, or in scratch files.
+#![tactic(auto)]
+
+mod catalog;
+mod class;
+mod device;
+mod digest;
+mod disk;
+mod failures;
+mod fault;
+mod ledger;
+mod memory;
+mod names;
+mod opening;
+mod owners;
+mod place;
+mod scratch;
+mod slot;
+
+pub use device::FileDevice;
+pub use disk::Disk;
+pub use fault::{DiskFault, Failure};
+pub use memory::MemoryDisk;
+pub use scratch::FileDisk;
+pub use slot::Slot;

@@ -1,0 +1,27 @@
+//! A device in a folder.
+ghost use Rattle.std.specs.Prelude.{◌≡◌, IfOk};
+ghost use Rattle.std.specs.FinMap.{empty};
+ghost use Rattle.file_device.specs.Devices.{state_in};
+
+use crate::{DiskFault, FileDevice, FileDisk};
+use std::fs::File;
+use std::hash::RandomState;
+use std::random::RandomSource;
+use std::rt::Files;
+
+impl<R: Files<File = File> + AllocGlobal + RandomSource + Clone + Drop> FileDevice<FileDisk<R>> {
+    /// An empty device in scratch files in the folder, for this lane, whose number stands in their
+    /// names. Draws the keys of its digests. Each fault is as `FileDisk::open` says.
+    pub fn open(rt: R, folder: &str, lane: u32) -> Result<Self, DiskFault>
+        ensures { IfOk result (λ device.
+            state_in device ≡ record { contents = empty; failures = 0 }) }
+    {
+        let alloc = rt.alloc();
+        let keys = match RandomState::new(&rt) {
+            Ok(keys) => keys,
+            Err(error) => return Err(DiskFault::Random(error.kind())),
+        };
+        let disk = FileDisk::open(rt, folder, lane)?;
+        Ok(FileDevice::new(alloc, disk, keys))
+    }
+}

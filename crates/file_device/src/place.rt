@@ -1,0 +1,48 @@
+//! Where an object lies on a disk.
+ghost use Rattle.std.specs.Prelude.{◌≡◌, ◌≤◌, ◌<◌, ◌^◌, length};
+
+use crate::Slot;
+use crate::class::class_of;
+use crate::digest::digest_of;
+use std::hash::RandomState;
+use std::snapshot::Snapshot;
+
+/// A slot's number, and length and digest of the object in it. The length says the class.
+#[derive(Drop)]
+pub(crate) struct Place {
+    pub(crate) number: u32,
+    pub(crate) len: u32,
+    pub(crate) digest: u64,
+    // What was written, which takes no memory.
+    pub(crate) written: Snapshot<Vec<u8>>,
+    ghost short: { len ≤ 2 ^ 26 },
+}
+
+impl Place {
+    ghost use Rattle.file_device.specs.Places.{bytes_at, slot_of, IsSound};
+
+    /// The place of an object in the slot of this number.
+    pub(crate) fn of(number: u32, written: &Vec<u8>, keys: &RandomState) -> Self
+        requires { length written.now.items ≤ 2 ^ 26 }
+        ensures written { bytes_at result ≡ written.now.items }
+        ensures number { result.number ≡ number }
+        ensures sound { IsSound keys.now result }
+    {
+        Place {
+            number,
+            len: written.len() as u32,
+            digest: digest_of(keys, written),
+            written: Snapshot::of(written),
+        }
+    }
+
+    pub(crate) fn slot(&self) -> Slot
+        ensures value { result ≡ slot_of self.now }
+        ensures known { result.class < 21 }
+    {
+        Slot {
+            class: class_of(self.len),
+            number: self.number,
+        }
+    }
+}

@@ -1,0 +1,9 @@
+//! A place of a disk for one object.
+
+/// A slot of a disk. The classes are 0 to 20, and a slot of class c has 64 << c bytes, so 64 B to
+/// 64 MiB. Within a class the slots are numbered from 0.
+#[derive(Clone, Copy, Debug, PartialEq, Eq)]
+pub struct Slot {
+    pub class: u8,
+    pub number: u32,
+}
