@@ -1,7 +1,11 @@
 -- What a frame's slot shows, and what is told of a version without its object.
-use Rattle.std.specs.Prelude.{◌≡◌, ◌<◌, ℕ, List, [], length, get_or, Option, Some, None, ⊤}
+use Rattle.std.specs.Prelude.{◌≡◌, ◌<◌, ◌^◌, ℕ, List, [], length, get_or, Option, Some, None, ⊤}
 use Rattle.table_core.specs.declared.limits.Limits.{Limits}
 use Rattle.version_words.specs.Shown.{Shown, shown, IsOwn}
+
+-- the most frames that there may be
+abbrev pub most_frames : ℕ
+most_frames = 2 ^ 22
 
 -- a slot shows a version
 abbrev pub IsFilled : {K V : Type 0} → Option (Option (Shown K V)) → Type 0

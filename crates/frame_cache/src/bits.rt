@@ -1,4 +1,4 @@
-//! A bit for each frame, which nothing is claimed of.
+//! A bit for each number below some count, which nothing is claimed of.
 
 use std::alloc::{AllocError, Global};
 use std::sync::atomic::AtomicU64;
@@ -11,6 +11,7 @@ pub const WORD: u32 = 64;
 #[derive(Drop)]
 pub struct Bits {
     words: Vec<AtomicU64>,
+    len: u32,
 }
 
 fn bit_of(number: u32) -> u64 {
@@ -20,12 +21,28 @@ fn bit_of(number: u32) -> u64 {
 impl Bits {
     /// Room for so many bits, which are 0.
     pub fn new(alloc: Global, count: u32) -> Result<Bits, AllocError> {
-        let len = (count / WORD + 1) as usize;
-        let mut words = Vec::with_capacity(alloc, len)?;
+        let len = count / WORD + 1;
+        let mut words = Vec::with_capacity(alloc, len as usize)?;
         for _ in 0..len {
             words.push(AtomicU64::new(0))?;
         }
-        Ok(Bits { words })
+        Ok(Bits { words, len })
+    }
+
+    /// So many bits, which are 1.
+    pub fn full(alloc: Global, count: u32) -> Result<Bits, AllocError> {
+        let len = count / WORD + 1;
+        let mut words = Vec::with_capacity(alloc, len as usize)?;
+        for _ in 1..len {
+            words.push(AtomicU64::new(u64::MAX))?;
+        }
+        words.push(AtomicU64::new(bit_of(count).wrapping_sub(1)))?;
+        Ok(Bits { words, len })
+    }
+
+    /// How many words there are.
+    pub fn len(&self) -> u32 {
+        self.len
     }
 
     /// The bits of the word at this place, or none past the last.
@@ -36,13 +53,19 @@ impl Bits {
         }
     }
 
-    /// How many bits are set.
-    pub fn count_set(&self) -> u32 {
-        let mut count = 0u32;
-        for word in &self.words {
-            count = count.wrapping_add(word.load(SeqCst).count_ones());
+    /// The first number from this one on whose bit is set, of those that lie in its word.
+    pub fn next_in_word(&self, number: u32) -> Option<u32> {
+        let from = u64::MAX.wrapping_shl(number % WORD);
+        let bits = self.load((number / WORD) as usize) & from;
+        if bits == 0 {
+            return None;
         }
-        count
+        Some((number - number % WORD).wrapping_add(bits.trailing_zeros()))
+    }
+
+    /// Whether the bit is set.
+    pub fn is_set(&self, number: u32) -> bool {
+        self.load((number / WORD) as usize) & bit_of(number) != 0
     }
 
     /// Sets the bit.
@@ -55,7 +78,7 @@ impl Bits {
     /// Sets the bit where it is 0. A bit that is set costs one load, so that threads which set it again and again share its
     /// cache line.
     pub fn ensure(&self, number: u32) {
-        if self.load((number / WORD) as usize) & bit_of(number) == 0 {
+        if !self.is_set(number) {
             self.set(number);
         }
     }
@@ -70,66 +93,11 @@ impl Bits {
 
     /// Whether the bit was set. It is 0 afterwards. A bit that is 0 costs one load.
     pub fn take(&self, number: u32) -> bool {
-        let at = (number / WORD) as usize;
-        self.load(at) & bit_of(number) != 0 && self.clear(number) & bit_of(number) != 0
-    }
-}
-
-/// A bit for each frame that is free, with one bit for each 64 of them above, so that the first is found by few loads at
-/// any number of frames. It may be wrong for a moment: a frame that it names may be gone, or not yet free.
-#[derive(Drop)]
-pub struct Vacant {
-    frames: Bits,
-    words: Bits,
-}
-
-impl Vacant {
-    /// All frames below the count.
-    pub fn all(alloc: Global, count: u32) -> Result<Vacant, AllocError> {
-        let vacant = Vacant {
-            frames: Bits::new(alloc, count)?,
-            words: Bits::new(alloc, count / WORD + 1)?,
-        };
-        for frame in 0..count {
-            vacant.set(frame);
-        }
-        Ok(vacant)
+        self.is_set(number) && self.clear(number) & bit_of(number) != 0
     }
 
-    /// The frame is free. Whoever clears the upper bit looks at the lower word after that, so that none is lost where the
-    /// upper bit is found set here.
-    pub fn set(&self, frame: u32) {
-        self.frames.set(frame);
-        self.words.ensure(frame / WORD);
-    }
-
-    /// The frame is taken. Where it wasn't named, this costs one load, and others keep their copy of the word.
-    pub fn clear(&self, frame: u32) {
-        if self.frames((frame / WORD) as usize) & bit_of(frame) == 0 {
-            return;
-        }
-        let left = self.frames.clear(frame) & !bit_of(frame);
-        if left == 0 {
-            self.words.clear(frame / WORD);
-            // A frame that was freed in between is named again.
-            if self.frames.load((frame / WORD) as usize) != 0 {
-                self.words.set(frame / WORD);
-            }
-        }
-    }
-
-    /// How many frames are named.
-    pub fn count(&self) -> u32 {
-        self.frames.count_set()
-    }
-
-    /// Which of the 64 words from `64 * at` name free frames.
-    pub fn words(&self, at: usize) -> u64 {
-        self.words.load(at)
-    }
-
-    /// Which of the 64 frames from `64 * at` are free.
-    pub fn frames(&self, at: usize) -> u64 {
-        self.frames.load(at)
+    /// Whether no bit of the number's word is set, once its own was cleared.
+    pub fn clear_to_none(&self, number: u32) -> bool {
+        self.clear(number) & !bit_of(number) == 0
     }
 }

@@ -15,26 +15,27 @@
 //!
 //! # Hints
 //!
-//! Which frames are free is found by two layers of bits. Nothing is claimed of them. A frame is named before it becomes
-//! free, and whoever takes it clears its bit afterwards, so that the lower layer names each free frame, but for those that
-//! were kept, and at rest no other. A bit of the upper layer may be missing for a moment. So a search that finds
-//! no frame by the upper layer looks at the words of the lower one that it passed over, before it answers `NoFrame`; and
-//! once a frame was kept, at the next 64 frames in turn. It remembers which words it looked at, and tries no named frame
-//! twice.
+//! Which frames are free is found by three layers of bits (`vacant.rt`), so that neither a search nor what it takes on the
+//! stack grows with the frames. Nothing is claimed of them. A frame is named before it becomes free, and whoever takes it
+//! clears its bit afterwards, so that the lowest layer names each free frame, but for those that were kept, and at rest no
+//! other. A bit of an upper layer may be missing for a moment. So a search that finds no frame by the upper layers looks at 64
+//! words of the lowest one in turn, which are all of them up to 4,096 frames, before it answers `NoFrame`; and once a frame
+//! was kept, at the next 64 frames in turn.
 //!
 //! Each free frame is named to all threads, and each that takes or frees one writes the same few words. A caller who fills
 //! the frames that it emptied itself need not: `reclaim_kept` empties a frame without naming it, and `reserve_kept` takes
 //! that frame.
 ghost use Rattle.std.specs.Prelude.{◌≡◌, ◌<◌, ◌≤◌, IfOk, IfErr, IfSome, IsTrue};
 ghost use Rattle.table_core.specs.BucketWords.{place_of, empty_place};
-ghost use Rattle.frame_cache.specs.Slots.{IsOfVersion};
+ghost use Rattle.frame_cache.specs.Slots.{most_frames, IsOfVersion};
 
-use crate::bits::{Bits, Vacant, WORD};
-use crate::fault::{Missed, NoFrame};
+use crate::bits::Bits;
+use crate::fault::Missed;
 use crate::laws::retire;
 use crate::reserved::Reserved;
 use crate::scope::Scope;
 use crate::slot::{Slot, SlotClaim, read, reader_count, take, unread, word_of};
+use crate::vacant::Vacant;
 use crate::version::{Lodged, Version};
 use counted_slot::{Counted, FREE};
 use far_object::{FarObject, Memory};
@@ -46,15 +47,10 @@ use std::sync::atomic::{AtomicBool, AtomicU32};
 use table_core::word::{name_of, place_of};
 use version_words::{Naming, Spare};
 
-/// How many words of the upper layer of bits there may be: each names 64 words of 64 frames, and one more is there for the
-/// remainder.
-const UPPER_WORDS: usize = 17;
+mod reserving;
 
-/// How many words of the lower layer there may be: each names 64 frames, and one more is there for the remainder.
-const MOST_WORDS: u32 = 1_025;
-
-/// Which words of the lower layer a search has looked at, a bit for each.
-type Looked = [u64; UPPER_WORDS];
+/// The most frames that there may be: 2^22.
+pub const MOST_FRAMES: u32 = 4_194_304;
 
 // The bucket and the name of the version that the claim shows.
 fn told<K: FarObject, V: FarObject, J: Naming>(claim: &SlotClaim<'_, K, V, J>) -> Option<(u32, u64)>
@@ -69,35 +65,37 @@ fn told<K: FarObject, V: FarObject, J: Naming>(claim: &SlotClaim<'_, K, V, J>) -
 }
 
 /// A row of frames, whose numbers are those below their count. Every call takes `&self`, and threads share it. A frame
-/// takes 64 bytes. Contracts see the count, which is the most versions that lie in frames at once.
+/// takes 64 bytes and four bits. Contracts see the count, which is the most versions that lie in frames at once.
 ///
 /// A number that is not below the count is that of an empty frame to every call.
 #[derive(Drop)]
 pub struct Frames<K: FarObject, V: FarObject, J: Naming> {
     slots: Vec<Slot<K, V, J>>,
     vacant: Vacant,
+    // The word of 64 frames at which the next look past the upper layers begins.
+    next_word: AtomicU32,
     // Whether a frame was ever kept.
     keeps: AtomicBool,
     // The frame at which the next look for one that was kept begins.
-    hand: AtomicU32,
+    next_kept: AtomicU32,
     touched: Bits,
 }
 
 impl<K: FarObject, V: FarObject, J: Naming> Model for Frames<K, V, J> {
     ghost use Rattle.std.specs.Prelude.{ℕ, ◌≤◌, vec_len};
-    ghost use Rattle.frame_cache.specs.Slots.{AreNumbered};
+    ghost use Rattle.frame_cache.specs.Slots.{most_frames, AreNumbered};
 
     ghost Value = { ℕ };
 
     ghost view = { λ f. vec_len f.slots };
 
-    ghost invariant = { λ f. (vec_len f.slots ≤ 65536) × AreNumbered f.slots.items };
+    ghost invariant = { λ f. (vec_len f.slots ≤ most_frames) × AreNumbered f.slots.items };
 }
 
 impl<K: FarObject, V: FarObject, J: Naming> Frames<K, V, J> {
-    /// So many empty frames. `Memory` comes where a growth is refused.
+    /// So many empty frames, at most `MOST_FRAMES`. `Memory` comes where a growth is refused; nothing grows later.
     pub fn open(alloc: Global, count: u32) -> Result<Frames<K, V, J>, Memory>
-        requires few { count ≤ 65536 }
+        requires few { count ≤ most_frames }
         ensures count { IfOk result (λ frames. frames ≡ count) }
     {
         let mut slots = Vec::with_capacity(alloc, count as usize)?;
@@ -107,8 +105,9 @@ impl<K: FarObject, V: FarObject, J: Naming> Frames<K, V, J> {
         Ok(Frames {
             slots,
             vacant: Vacant::all(alloc, count)?,
+            next_word: AtomicU32::new(0),
             keeps: AtomicBool::new(false),
-            hand: AtomicU32::new(0),
+            next_kept: AtomicU32::new(0),
             touched: Bits::new(alloc, count)?,
         })
     }
@@ -129,7 +128,7 @@ impl<K: FarObject, V: FarObject, J: Naming> Frames<K, V, J> {
     fn slot(&self, frame: u32) -> Option<&Slot<K, V, J>>
         ensures number { IfSome result (λ slot. slot.now ≡ frame) }
         ensures here { IfSome result (λ _. frame < self.now) }
-        ensures few { self.now ≤ 65536 }
+        ensures few { self.now ≤ most_frames }
     {
         self.slots.get(frame as usize)
     }
@@ -150,129 +149,6 @@ impl<K: FarObject, V: FarObject, J: Naming> Frames<K, V, J> {
             claim,
             frame,
         })
-    }
-
-    // The first of the 64 frames from `64 * at` that is named as free, and is.
-    fn reserve_in(&self, at: u32) -> Option<Reserved<'_, K, V, J>>
-        requires { at < 65536 }
-        ensures { IfSome result (λ reserved. reserved < self.now) }
-    {
-        let mut bits = self.vacant.frames(at as usize);
-        for _ in 0..WORD {
-            if bits == 0 {
-                return None;
-            }
-            let frame = at * WORD + bits.trailing_zeros();
-            if let Some(reserved) = self.reserve_kept(frame) {
-                return Some(reserved);
-            }
-            bits &= bits - 1;
-        }
-        None
-    }
-
-    // The first frame of those that these of the 64 words from `64 * at` name.
-    fn reserve_among(&self, at: usize, words: u64) -> Option<Reserved<'_, K, V, J>>
-        requires { at < 17 }
-        ensures { IfSome result (λ reserved. reserved < self.now) }
-    {
-        let mut words = words;
-        for _ in 0..WORD {
-            if words == 0 {
-                return None;
-            }
-            let word = at as u32 * WORD + words.trailing_zeros();
-            if let Some(reserved) = self.reserve_in(word) {
-                return Some(reserved);
-            }
-            words &= words - 1;
-        }
-        None
-    }
-
-    // The first frame from the word of this one on that the upper layer leads to, in words that were not looked at.
-    fn reserve_behind(&self, frame: u32, looked: &mut Looked) -> Option<Reserved<'_, K, V, J>>
-        ensures { IfSome result (λ reserved. reserved < self.now) }
-    {
-        let word = frame / WORD;
-        let mut among = u64::MAX.wrapping_shl(word % WORD);
-        for at in (word / WORD) as usize..UPPER_WORDS {
-            let words = self.vacant.words(at) & among & !looked[at];
-            looked[at] |= words;
-            if let Some(reserved) = self.reserve_among(at, words) {
-                return Some(reserved);
-            }
-            among = u64::MAX;
-        }
-        None
-    }
-
-    // The first frame that is named by the words that were not looked at.
-    fn reserve_passed_over(&self, looked: &Looked) -> Option<Reserved<'_, K, V, J>>
-        ensures { IfSome result (λ reserved. reserved < self.now) }
-    {
-        for word in 0..(self.count() / WORD + 1).min(MOST_WORDS) {
-            let bit = 1u64.wrapping_shl(word % WORD);
-            if looked[(word / WORD) as usize] & bit == 0 {
-                if let Some(reserved) = self.reserve_in(word) {
-                    return Some(reserved);
-                }
-            }
-        }
-        None
-    }
-
-    // A free frame among the next 64: one that was kept has no name in the hints. Callers that find no frame are many where
-    // frames are few, so none of them looks at all frames; each goes on where the last ended.
-    fn reserve_unnamed(&self) -> Option<Reserved<'_, K, V, J>>
-        ensures { IfSome result (λ reserved. reserved < self.now) }
-    {
-        let from = self.hand.load(SeqCst);
-        let end = from.saturating_add(WORD);
-        let next = if end < self.count() { end } else { 0 };
-        self.hand.store(next, SeqCst);
-        for frame in from..end {
-            if let Some(reserved) = self.reserve_kept(frame) {
-                return Some(reserved);
-            }
-        }
-        None
-    }
-
-    /// A free frame for this call alone: the first of those that are named as free, from 0 upwards, that is.
-    ///
-    /// `NoFrame` comes where each frame that was named when it was looked at, once, was gone by then. At rest all free frames
-    /// are named but those that were kept (`reclaim_kept`): once one was, 64 frames more are looked at before `NoFrame`, at the
-    /// next such search those behind, and so on in turn, so that it may come while a kept frame is free. No clause says which
-    /// frame comes, nor when `NoFrame` does.
-    pub fn reserve(&self) -> Result<Reserved<'_, K, V, J>, NoFrame>
-        ensures here { IfOk result (λ reserved. reserved < self.now) }
-    {
-        self.reserve_from(0)
-    }
-
-    /// As `reserve`, but the frames from this one on are looked at first, and before it those that are named by the same 64
-    /// bits; then all others. Callers who begin far from one another take and clear bits of their own, and don't wait for one
-    /// another. No clause says which frame comes.
-    pub fn reserve_from(&self, frame: u32) -> Result<Reserved<'_, K, V, J>, NoFrame>
-        ensures here { IfOk result (λ reserved. reserved < self.now) }
-    {
-        let mut looked = [0; UPPER_WORDS];
-        if let Some(reserved) = self.reserve_behind(frame, &mut looked) {
-            return Ok(reserved);
-        }
-        if let Some(reserved) = self.reserve_behind(0, &mut looked) {
-            return Ok(reserved);
-        }
-        if let Some(reserved) = self.reserve_passed_over(&looked) {
-            return Ok(reserved);
-        }
-        if self.keeps.load(SeqCst) {
-            if let Some(reserved) = self.reserve_unnamed() {
-                return Ok(reserved);
-            }
-        }
-        Err(NoFrame)
     }
 
     // From now on frames are looked for one by one, 64 at a time, before none is said to be free.
@@ -406,10 +282,16 @@ impl<K: FarObject, V: FarObject, J: Naming> Frames<K, V, J> {
         }
     }
 
+    /// Whether a frame is named as free, by few loads: a hint, of which no clause says anything.
+    pub fn has_free(&self) -> bool {
+        self.vacant.next_word(0).is_some()
+    }
+
     /// How many frames are free, but for those that were kept: a hint, of which no clause says anything. At rest the tests
-    /// find it exact. It looks at a word for each 64 frames.
+    /// find it exact up to 65,536 frames. It looks at a word for each 64 frames; where there are more, at one of so many words,
+    /// some 1,024 in all, and answers as if the others were like it.
     pub fn free(&self) -> u32 {
-        self.vacant.count()
+        self.vacant.count().min(self.count())
     }
 
     /// Says that the frame was read. Nothing is claimed of it.

@@ -9,10 +9,11 @@ pub mod laws;
 mod reserved;
 mod scope;
 mod slot;
+mod vacant;
 mod version;
 
 pub use fault::{Missed, NoFrame};
-pub use frames::Frames;
+pub use frames::{Frames, MOST_FRAMES};
 pub use reserved::Reserved;
 pub use scope::Scope;
 pub use version::Version;

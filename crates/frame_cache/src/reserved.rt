@@ -1,6 +1,7 @@
 //! A frame that is about to be filled.
 ghost use Rattle.std.specs.Prelude.{◌≡◌, ◌<◌};
 ghost use Rattle.frame_cache.specs.Fills.{WasFilled};
+ghost use Rattle.frame_cache.specs.Slots.{most_frames};
 
 use crate::frames::Frames;
 use crate::slot::{SlotClaim, word_of};
@@ -19,7 +20,7 @@ pub struct Reserved<'a, K: FarObject, V: FarObject, J: Naming> {
     pub(crate) frame: u32,
     ghost writes: { claim.right ≡ 2 },
     ghost number: { claim.tag ≡ frame },
-    ghost below: { frame < 65536 },
+    ghost below: { frame < most_frames },
 }
 
 impl<'a, K: FarObject, V: FarObject, J: Naming> Model for Reserved<'a, K, V, J> {
@@ -34,7 +35,7 @@ impl<'a, K: FarObject, V: FarObject, J: Naming> Reserved<'a, K, V, J> {
     /// The frame's number.
     pub fn frame(&self) -> u32
         ensures is { result ≡ self.now }
-        ensures below { result < 65536 }
+        ensures below { result < most_frames }
     {
         self.frame
     }

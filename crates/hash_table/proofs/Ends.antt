@@ -16,7 +16,7 @@ use Rattle.version_words.specs.Laws.{SameHistory}
 use Rattle.version_words.specs.Views.{PassView, Goes, IsWhole, AreNone, calls_of}
 use Rattle.version_words.proofs.Fronts.{prefix_self, prefix_trans}
 use Rattle.hash_table.specs.declared.caller.Caller.{Caller}
-use Rattle.hash_table.specs.Closes.{ClosesSorted, IsFrontOf, AreBack, AreTold, AllSeen, ArePairs, HistoryStays, pairs_from, passes}
+use Rattle.hash_table.specs.Closes.{ClosesSorted, ClosesInOrder, IsFrontOf, AreBack, AreTold, AllSeen, ArePairs, AreInOrder, HistoryStays, pairs_from, passes}
 use Rattle.hash_table.proofs.Fronts.{goes_self, goes_trans}
 
 -- ---- parts of joined lists
@@ -69,6 +69,12 @@ module _ {K V : Type 0} (ek : K → List ℕ) (ev : V → List ℕ) (l : Limits)
     seen = prefix_trans old.front new.front log goes.grows whole.seen;
     all = ap (λ (p : ℕ). calls_of p log) (sym goes.number) ∙ (whole.all ∙ goes.calls_stay);
   }
+
+  -- where there is no history there are none
+  no_pairs : (log : List (Event K V)) (count : ℕ) → history log ≡ [] → pairs_from ek ev l log 0 count ≡ []
+  no_pairs log zero none = refl
+  no_pairs log (suc n) none =
+      ap (λ (z : List (K × V)). z ++ part log (0 + n)) (no_pairs log n none) ∙ ap (λ (h : List (ℕ × Operation K V)). at_bucket ek l.buckets (0 + n) (map_of ek ev h)) none
 
   -- ---- callers that come back
 
@@ -139,6 +145,14 @@ module _ {K V : Type 0} (ek : K → List ℕ) (ev : V → List ℕ) (l : Limits)
     pairs_by_first mark [] now from count items some so = absurd (omega (arith, some))
     pairs_by_first mark (c ∷ cs) now from count items some so = record { are = λ honest log seen stays. subst (λ (z : List (K × V)). IsPermutation z items) (so honest log (seen.each 0 now (omega arith)) stays) (IsPermutation-refl items) }
 
+    pub in_order_by_first : (mark : List (Event K V)) (olds : List (Caller K V J)) (now : Caller K V J) (items : List (K × V)) → 0 < length olds
+        → (IsTrue l.honest → (log : List (Event K V)) → IsPrefix now.pass.front log → HistoryStays mark log → items ≡ pairs_from ek ev l log 0 l.buckets) → AreInOrder ek ev l mark (slice_set olds 0 now) items
+    in_order_by_first mark [] now items some so = absurd (omega (arith, some))
+    in_order_by_first mark (c ∷ cs) now items some so = record { are = λ honest log seen stays. so honest log (seen.each 0 now (omega arith)) stays }
+
+    in_any_order : (mark : List (Event K V)) (callers : List (Caller K V J)) (items : List (K × V)) → AreInOrder ek ev l mark callers items → ArePairs ek ev l mark callers 0 l.buckets items
+    in_any_order mark callers items so = record { are = λ honest log seen stays. subst (λ (z : List (K × V)). IsPermutation z items) (so.are honest log seen stays) (IsPermutation-refl items) }
+
     -- the same of the one bundle of a list, whose pairs were put in another order
     pub pairs_alone : (mark : List (Event K V)) (callers : List (Caller K V J)) (from count : ℕ) (none bundles : List (List (K × V))) (bundle sorted : List (K × V)) → none ≡ [] → bundles ≡ none ++ sorted ∷ [] → IsPermutation bundle sorted
         → ArePairs ek ev l mark callers from count bundle → ArePairs ek ev l mark callers from count (all_of bundles)
@@ -175,6 +189,10 @@ module _ {K V : Type 0} (ek : K → List ℕ) (ev : V → List ℕ) (l : Limits)
         (λ is. none.0 (is ∙ numbers 0 c (omega arith)), none_of p os cs (omega (arith, same)) (λ k d lt. numbers (suc k) d (omega (arith, lt))) none.1)
 
     -- with no pass drawn there is no history
+    no_history : (callers : List (Caller K V J)) (log : List (Event K V)) → SameHistory K V → length callers ≡ 0 → IsFrontOf ek ev l callers log → history log ≡ []
+    no_history callers log law none front =
+        law [] log (passes callers) (log, refl) (λ k d lt. absurd (omega (arith, lt, none, length-map callers (λ (c : Caller K V J). c.pass)))) front.no_other log (log, refl) (prefix_self log)
+
     pub closed_none : (callers : List (Caller K V J)) (log : List (Event K V)) → SameHistory K V → length callers ≡ 0 → IsFrontOf ek ev l callers log → ClosesSorted ek ev l callers []
     closed_none callers log law none front sorted moved up = record {
       log = log;
@@ -183,7 +201,7 @@ module _ {K V : Type 0} (ek : K → List ℕ) (ev : V → List ℕ) (l : Limits)
       apart = front.apart;
       whole = front.whole;
       no_other = front.no_other;
-      pairs_are = λ honest. none_moved sorted moved ∙ sym (ap (λ (h : List (ℕ × Operation K V)). map_of ek ev h) (law [] log (passes callers) (log, refl) (λ k d lt. absurd (omega (arith, lt, none, length-map callers (λ (c : Caller K V J). c.pass)))) front.no_other log (log, refl) (prefix_self log)));
+      pairs_are = λ honest. none_moved sorted moved ∙ sym (ap (λ (h : List (ℕ × Operation K V)). map_of ek ev h) (no_history callers log law none front));
     }
       where
         no_pair : (all : List (K × V)) → length all ≡ 0 → all ≡ []
@@ -193,30 +211,64 @@ module _ {K V : Type 0} (ek : K → List ℕ) (ev : V → List ℕ) (l : Limits)
         none_moved : (all : List (K × V)) → IsPermutation [] all → all ≡ []
         none_moved all moved = no_pair all (length_permutation [] all moved)
 
+    pub closed_none_in_order : (callers : List (Caller K V J)) (log : List (Event K V)) → SameHistory K V → length callers ≡ 0 → IsFrontOf ek ev l callers log → ClosesInOrder ek ev l callers []
+    closed_none_in_order callers log law none front = record {
+      log = log;
+      front = front;
+      in_order = λ honest. sym (no_pairs log l.buckets (no_history callers log law none front));
+      closes = closed_none callers log law none front;
+    }
+
+    -- at a second front behind all looks: it is one of the callers as they were, and no call was added since the first
+    record IsLast (olds reads : List (Caller K V J)) (first second : List (Event K V)) : Type 0 where
+      front : IsFrontOf ek ev l olds second
+      seen : AllSeen reads second
+      stays : HistoryStays first second
+
+    head_of : (cs : List (Caller K V J)) → 0 < length cs → Caller K V J
+    head_of [] some = absurd (omega (arith, some))
+    head_of (c ∷ cs) some = c
+
     -- the callers as they were, with their passes at a first front, after all looks, and with their passes at a second front
-    pub closed : (olds mids reads : List (Caller K V J)) (first second : List (Event K V)) (pairs : List (K × V)) → IsFrontOf ek ev l olds first → AreBack olds mids → AreTold first mids → AreBack mids reads → IsFrontOf ek ev l reads second → 0 < length olds
-        → ArePairs ek ev l first reads 0 l.buckets pairs → SameHistory K V → BucketsMakeMap K V ek ev → 0 < l.buckets → ClosesSorted ek ev l olds pairs
-    closed olds mids reads first second pairs start gathered told read end some are same_law law buckets sorted moved up =
+    last_front : (olds mids reads : List (Caller K V J)) (first second : List (Event K V)) → IsFrontOf ek ev l olds first → AreBack olds mids → AreTold first mids → AreBack mids reads → IsFrontOf ek ev l reads second → 0 < length olds
+        → SameHistory K V → IsLast olds reads first second
+    last_front olds mids reads first second start gathered told read end some same_law =
         let back : AreBack olds reads = back_trans olds mids reads gathered read in
         let long : length reads ≡ length olds = back.count in
         let whole : (k : ℕ) (d : Caller K V J) → k < length olds → IsWhole second (slice_index_or olds k d).pass = λ k d lt. whole_from second (slice_index_or olds k d).pass (slice_index_or reads k d).pass (back.goes k d lt) (end.whole k d (omega (arith, lt, long))) in
         let no_other : (pass : PassView K V) → AreNone pass (passes olds) → calls_of pass.number second ≡ [] = λ pass none. end.no_other pass (none_of pass olds reads long (λ k d lt. let g = back.goes k d lt in g.number) none) in
         let seen : AllSeen reads second = record { each = λ k d lt. let w = end.whole k d lt in w.seen } in
         let told_all : AreTold first reads = told_back first mids reads read told in
-        let head : Caller K V J = slice_index_or_head reads (omega (arith, long, some)) in
+        let head : Caller K V J = head_of reads (omega (arith, long, some)) in
         let pre : IsPrefix first second = prefix_trans first (slice_index_or reads 0 head).pass.front second (told_all 0 head (omega (arith, long, some))) (seen.each 0 head (omega (arith, long, some))) in
-        let stays : HistoryStays first second = same_law first second (passes olds) pre
-        (at_each (λ p. calls_of p.number second ≡ calls_of p.number first) olds (λ k d lt. let a = whole k d lt in let b = start.whole k d lt in a.all ∙ sym b.all)) no_other in
+        record {
+          front = record { lawful = end.lawful; all = end.all ∙ long; apart = start.apart; whole = whole; no_other = no_other };
+          seen = seen;
+          stays = same_law first second (passes olds) pre
+              (at_each (λ p. calls_of p.number second ≡ calls_of p.number first) olds (λ k d lt. let a = whole k d lt in let b = start.whole k d lt in a.all ∙ sym b.all)) no_other;
+        }
+
+    pub closed : (olds mids reads : List (Caller K V J)) (first second : List (Event K V)) (pairs : List (K × V)) → IsFrontOf ek ev l olds first → AreBack olds mids → AreTold first mids → AreBack mids reads → IsFrontOf ek ev l reads second → 0 < length olds
+        → ArePairs ek ev l first reads 0 l.buckets pairs → SameHistory K V → BucketsMakeMap K V ek ev → 0 < l.buckets → ClosesSorted ek ev l olds pairs
+    closed olds mids reads first second pairs start gathered told read end some are same_law law buckets sorted moved up =
+        let last = last_front olds mids reads first second start gathered told read end some same_law in
         record {
           log = second;
-          lawful = end.lawful;
-          all = end.all ∙ long;
-          apart = start.apart;
-          whole = whole;
-          no_other = no_other;
-          pairs_are = λ honest. law (history second) l.buckets sorted buckets (IsPermutation-trans _ pairs sorted (subst (λ (z : List (K × V)). IsPermutation z pairs) (joined_same (λ i. part second (0 + i)) (λ b. part second b) l.buckets (λ i. ap (λ b. part second b) (let e : 0 + i ≡ i = omega arith in e))) (are.are honest second seen stays)) moved) up;
+          lawful = last.front.lawful;
+          all = last.front.all;
+          apart = last.front.apart;
+          whole = last.front.whole;
+          no_other = last.front.no_other;
+          pairs_are = λ honest. law (history second) l.buckets sorted buckets (IsPermutation-trans _ pairs sorted (subst (λ (z : List (K × V)). IsPermutation z pairs) (joined_same (λ i. part second (0 + i)) (λ b. part second b) l.buckets (λ i. ap (λ b. part second b) (let e : 0 + i ≡ i = omega arith in e))) (are.are honest second last.seen last.stays)) moved) up;
         }
-      where
-        slice_index_or_head : (cs : List (Caller K V J)) → 0 < length cs → Caller K V J
-        slice_index_or_head [] some = absurd (omega (arith, some))
-        slice_index_or_head (c ∷ cs) some = c
+
+    pub closed_in_order : (olds mids reads : List (Caller K V J)) (first second : List (Event K V)) (pairs : List (K × V)) → IsFrontOf ek ev l olds first → AreBack olds mids → AreTold first mids → AreBack mids reads → IsFrontOf ek ev l reads second → 0 < length olds
+        → AreInOrder ek ev l first reads pairs → SameHistory K V → BucketsMakeMap K V ek ev → 0 < l.buckets → ClosesInOrder ek ev l olds pairs
+    closed_in_order olds mids reads first second pairs start gathered told read end some are same_law law buckets =
+        let last = last_front olds mids reads first second start gathered told read end some same_law in
+        record {
+          log = second;
+          front = last.front;
+          in_order = λ honest. are.are honest second last.seen last.stays;
+          closes = closed olds mids reads first second pairs start gathered told read end some (in_any_order first reads pairs are) same_law law buckets;
+        }

@@ -52,6 +52,10 @@ module _ {K V J : Type 0} (ek : K → List ℕ) (ev : V → List ℕ) (l : Limit
   pub record ArePairs (mark : List (Event K V)) (callers : List (Caller K V J)) (from count : ℕ) (items : List (K × V)) : Type 0 where
     pub are : IsTrue l.honest → (log : List (Event K V)) → AllSeen callers log → HistoryStays mark log → IsPermutation (pairs_from ek ev l log from count) items
 
+  -- these are the pairs of all buckets, one bucket behind the other, of each such log
+  pub record AreInOrder (mark : List (Event K V)) (callers : List (Caller K V J)) (items : List (K × V)) : Type 0 where
+    pub are : IsTrue l.honest → (log : List (Event K V)) → AllSeen callers log → HistoryStays mark log → items ≡ pairs_from ek ev l log 0 l.buckets
+
   -- a lawful log begins with the front of every caller, has as many passes, which all differ, their calls and no others, and the pairs are its map
   pub record IsClosed (callers : List (Caller K V J)) (pairs : List (K × V)) : Type 0 where
     pub log : List (Event K V)
@@ -73,6 +77,13 @@ module _ {K V J : Type 0} (ek : K → List ℕ) (ev : V → List ℕ) (l : Limit
   -- in key order the pairs are those of a closed table
   abbrev pub ClosesSorted : List (Caller K V J) → List (K × V) → Type 0
   ClosesSorted callers pairs = (all : List (K × V)) → IsPermutation pairs all → IsSortedBy (λ a b. is_lt (key_cmp ek a.0 b.0)) all → IsClosed callers all
+
+  -- the same of pairs that come one bucket behind the other, in the order of the buckets' numbers
+  pub record ClosesInOrder (callers : List (Caller K V J)) (pairs : List (K × V)) : Type 0 where
+    pub log : List (Event K V)
+    pub front : IsFrontOf callers log
+    pub in_order : IsTrue l.honest → pairs ≡ pairs_from ek ev l log 0 l.buckets
+    pub closes : ClosesSorted callers pairs
 
   -- why a table is not closed: at the mark's front more passes were drawn than callers are handed in; what was read is damaged over no honest device; of the others nothing is said
   abbrev pub IsCloseFault : ℕ → CloseFault K V J → Type 0

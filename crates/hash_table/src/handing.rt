@@ -6,7 +6,7 @@ ghost use Rattle.table_core.specs.declared.event.Event.{Event};
 ghost use Rattle.table_core.specs.Maps.{at_bucket, map_of};
 ghost use Rattle.table_core.specs.Logs.{history};
 ghost use Rattle.version_words.specs.Views.{Goes};
-ghost use Rattle.hash_table.specs.Closes.{ClosesSorted, Hands, IsHandFault, AreBack, AreTold, ArePairs, HistoryStays, pairs_from};
+ghost use Rattle.hash_table.specs.Closes.{ClosesInOrder, Hands, IsHandFault, AreBack, AreTold, AreInOrder, HistoryStays, pairs_from};
 
 use crate::caller::Caller;
 use crate::closing::{CloseFault, unread};
@@ -143,7 +143,7 @@ impl<K: FarObject, V: FarObject, J: Naming, D: Device> FarTable<K, V, J, D> {
         requires some { 0 < length callers.old }
         requires told { AreTold mark.now callers.old }
         ensures back { AreBack callers.old callers.new }
-        ensures pairs { OnOk result (Hands T.takes (λ pairs. ArePairs K.enc V.enc J.limits mark.now callers.new 0 J.limits.buckets pairs) taker.old taker.new) }
+        ensures pairs { OnOk result (Hands T.takes (λ pairs. AreInOrder K.enc V.enc J.limits mark.now callers.new pairs) taker.old taker.new) }
         ensures fault { IfErr result (λ e. (n : ℕ) → IsHandFault K.enc V.enc J.limits T.takes T.stops taker.old taker.new n e) }
     {
         match self.hand_buckets(rt, alloc, &mut callers[0], mark, taker) {
@@ -160,7 +160,7 @@ impl<K: FarObject, V: FarObject, J: Naming, D: Device> FarTable<K, V, J, D> {
         callers: &mut [Caller<K, V, J>],
         taker: &mut T,
     ) -> Result<(), HandFault<K, V, J>>
-        ensures closed { OnOk result (Hands T.takes (λ pairs. ClosesSorted K.enc V.enc J.limits callers.old pairs) taker.old taker.new) }
+        ensures closed { OnOk result (Hands T.takes (λ pairs. ClosesInOrder K.enc V.enc J.limits callers.old pairs) taker.old taker.new) }
         ensures fault { IfErr result (λ e. IsHandFault K.enc V.enc J.limits T.takes T.stops taker.old taker.new (length callers.old) e) }
         ensures back { AreBack callers.old callers.new }
     {
@@ -203,7 +203,7 @@ impl<K: FarObject, V: FarObject, J: Naming, D: Device> FarTable<K, V, J, D> {
             Vec<Caller<K, V, J>>,
         ),
     >
-        ensures closed { OnOk result (Hands T.takes (λ pairs. ClosesSorted K.enc V.enc J.limits callers.items pairs) taker.old taker.new) }
+        ensures closed { OnOk result (Hands T.takes (λ pairs. ClosesInOrder K.enc V.enc J.limits callers.items pairs) taker.old taker.new) }
         ensures fault { IfErr result (λ e. IsHandFault K.enc V.enc J.limits T.takes T.stops taker.old taker.new (vec_len callers) e.0) }
         ensures table { IfErr result (λ e. e.1 ≡ self) }
         ensures back { IfErr result (λ e. AreBack callers.items e.2.items) }

@@ -5,7 +5,8 @@ ghost use Rattle.table_core.specs.Lawful.{IsLawful};
 ghost use Rattle.version_words.specs.Rows.{limits_of};
 ghost use Rattle.version_words.specs.Views.{EndsWith, calls};
 ghost use Rattle.version_words.specs.Faults.{IsEnterFault};
-ghost use Rattle.hash_table.specs.Configs.{first_bad_with, sizes_of};
+ghost use Rattle.hash_table.specs.Configs.{first_bad_with, first_bad_wide_with, sizes_of, IsSettled};
+ghost use Rattle.hash_table.specs.declared.refusal.OpenFault.{OpenFault};
 ghost use Rattle.hash_table.specs.Openings.{IsOpenFault, IsNamedFault, WasOpened, format_of};
 
 use crate::caller::Caller;
@@ -37,7 +38,7 @@ pub struct Opening<K: FarObject, V: FarObject, D: Device> {
     config: Config,
     row: Opened<K, V, Vouched<D>>,
     devices: Vec<D>,
-    ghost within: { first_bad_with (vec_len devices) config ≡ None },
+    ghost settled: { IsSettled (vec_len devices) config },
     ghost sizes: { row.sizes ≡ sizes_of config },
 }
 
@@ -63,9 +64,37 @@ impl<K: FarObject, V: FarObject, D: Device> Opening<K, V, D> {
         ensures within { IfOk result (λ _. first_bad_with (vec_len devices) config ≡ None) }
         ensures fault { IfErr result (λ e. IsOpenFault (first_bad_with (vec_len devices) config) e) }
     {
-        if let Some(field) = config.first_bad_with(devices.len()) {
-            return Err(OpenFault::BadConfig(field));
+        match config.first_bad_with(devices.len()) {
+            None => Opening::over(alloc, config, devices),
+            Some(field) => Err(OpenFault::BadConfig(field)),
         }
+    }
+
+    /// As `open`, for a wide table: of up to 2^22 buckets and frames, and objects of up to 2^24 bytes. Each bucket takes 8 bytes
+    /// and each frame 64, whether they hold anything or not; all that grows with them is allocated here and in `named`.
+    ///
+    /// An object has 1,048,576 pairs at most, which only such a table's limit has room for: what would put another pair to so
+    /// many is refused with `Refusal::Memory`.
+    pub fn open_wide(
+        alloc: Global,
+        config: Config,
+        devices: Vec<D>,
+    ) -> Result<Opening<K, V, D>, OpenFault>
+        ensures config { IfOk result (λ o. o.config ≡ config) }
+        ensures within { IfOk result (λ _. first_bad_wide_with (vec_len devices) config ≡ None) }
+        ensures fault { IfErr result (λ e. IsOpenFault (first_bad_wide_with (vec_len devices) config) e) }
+    {
+        match config.first_bad_wide_with(devices.len()) {
+            None => Opening::over(alloc, config, devices),
+            Some(field) => Err(OpenFault::BadConfig(field)),
+        }
+    }
+
+    fn over(alloc: Global, config: Config, devices: Vec<D>) -> Result<Opening<K, V, D>, OpenFault>
+        requires settled { IsSettled (vec_len devices) config }
+        ensures config { IfOk result (λ o. o.config ≡ config) }
+        ensures fault { IfErr result (λ e. e ≡ OpenFault.Memory) }
+    {
         let sizes = Sizes {
             buckets: config.buckets,
             names: config.names,

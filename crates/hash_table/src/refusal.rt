@@ -7,7 +7,8 @@ use thiserror::Error;
 /// Why a call was not finished. The calls say which of these each may answer.
 #[derive(Clone, Copy, Debug, PartialEq, Eq, Error)]
 pub enum Refusal {
-    /// A growth of memory was refused.
+    /// A growth of memory was refused; and of an object that has 1,048,576 pairs, the most that it may count, where the limit of a
+    /// wide table has room for more.
     #[error("memory")]
     Memory,
     /// The bucket's object lies on the device.

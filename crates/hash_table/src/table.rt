@@ -1,5 +1,5 @@
 //! The table.
-ghost use Rattle.std.specs.Prelude.{◌≡◌, ◌≤◌, ◌<◌};
+ghost use Rattle.std.specs.Prelude.{◌≡◌, ◌<◌};
 ghost use Rattle.far_object.specs.Buckets.{bucket};
 
 use far_device::Device;
@@ -20,7 +20,6 @@ pub struct FarTable<K: FarObject, V: FarObject, J: Naming, D: Device> {
     // How an object is spelled on a device.
     pub(crate) format: Format,
     ghost honest: { J.limits.honest ≡ D.HONEST },
-    ghost limited: { limit ≤ 1048576 },
 }
 
 impl<K: FarObject, V: FarObject, J: Naming, D: Device> FarTable<K, V, J, D> {

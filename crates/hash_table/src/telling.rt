@@ -99,7 +99,13 @@ impl<K: FarObject, V: FarObject, J: Naming, D: Device> FarTable<K, V, J, D> {
         self.frames.touched(frame)
     }
 
-    /// How many frames are free: a hint, of which nothing is claimed.
+    /// Whether a frame is named as free, by few loads at any number of frames: a hint, of which nothing is claimed.
+    pub fn has_free(&self) -> bool {
+        self.frames.has_free()
+    }
+
+    /// How many frames are free: a hint, of which nothing is claimed. It looks at a word for each 64 frames, and above 65,536
+    /// frames at some 1,024 words, as if the others were like them.
     pub fn free(&self) -> u32 {
         self.frames.free()
     }

@@ -112,7 +112,7 @@ impl RoomMaker {
         if !self.lacks_frames || caller.keeps_frame() {
             return;
         }
-        if table.free() > 0 {
+        if table.has_free() {
             self.lacks_frames = false;
             return;
         }

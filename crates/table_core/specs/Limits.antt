@@ -3,7 +3,7 @@ use Rattle.std.specs.Prelude.{ℕ, ◌-◌, ◌^◌}
 
 -- the most buckets
 abbrev pub most_buckets : ℕ
-most_buckets = 65536
+most_buckets = 2 ^ 22
 
 -- the last name that may be drawn
 abbrev pub last_name : ℕ

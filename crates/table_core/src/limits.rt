@@ -1,7 +1,7 @@
 //! How far a table may grow.
 
-/// The most buckets of a table.
-pub const MOST_BUCKETS: u32 = 65_536;
+/// The most buckets of a table: 2^22.
+pub const MOST_BUCKETS: u32 = 4_194_304;
 
 /// The last name that a table may draw.
 pub const LAST_NAME: u64 = 1_099_511_627_775;

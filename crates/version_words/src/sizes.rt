@@ -11,7 +11,7 @@ pub trait Honesty {
 /// How many buckets, names and passes there may be.
 #[derive(Clone, Copy, Debug, PartialEq, Eq)]
 pub struct Sizes {
-    /// The number of buckets, 1 to 65,536.
+    /// The number of buckets, 1 to 2^22.
     pub buckets: u32,
     /// The last name that may be drawn, below 2^40.
     pub names: u64,

@@ -43,7 +43,6 @@ fn with<K: FarObject, V: FarObject>(
     limit: u32,
 ) -> Result<Object<K, V>, Refusal>
     requires own { entry.now.pairs ≡ object.now }
-    requires limited { limit ≤ 1048576 }
     ensures with { IfOk result (λ o. o ≡ insert_entry (key_cmp K.enc) object.now entry.now.key value.now) }
     ensures some { IfOk result (λ o. 0 < length o) }
     ensures fits { IfOk result (λ o. length (object_of K.enc V.enc o) ≤ limit) }
@@ -52,6 +51,10 @@ fn with<K: FarObject, V: FarObject>(
     full_objects_grow_too_long::<K, V>();
     let _map = object.as_bytes();
     if object.count() >= MOST_PAIRS {
+        // It would grow past a limit of as many bytes, but not past each greater one.
+        if limit > MOST_PAIRS {
+            return Err(Refusal::Memory);
+        }
         return Err(Refusal::TooLong);
     }
     let object = match entry.with(alloc, value) {
@@ -140,7 +143,6 @@ pub(crate) fn build<'a, K: FarObject, V: FarObject>(
     operation: &Operation<&'a K, &'a V>,
     limit: u32,
 ) -> Result<Built<K, V>, Refusal>
-    requires limited { limit ≤ 1048576 }
     ensures answer { IfOk result (λ t. t.answer ≡ reply K.enc object.now (lent operation.now)) }
     ensures object { IfOk result (λ t. Leaves K.enc V.enc object.now (lent operation.now) t.object) }
     ensures fits { IfOk result (λ t. Fits K.enc V.enc limit (lent operation.now) t.object) }

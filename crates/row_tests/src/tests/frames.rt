@@ -1,5 +1,6 @@
 //! Frames: the calls of one caller, what a scope shows another pass, readers beside a reclaimer, and threads that share frames.
 ghost use Rattle.std.specs.Prelude.{◌≡◌, ◌<◌, false};
+ghost use Rattle.frame_cache.specs.Slots.{most_frames};
 
 mod calls;
 mod readers;
@@ -39,7 +40,7 @@ fn version<J: Naming>(
 struct Filled<J: Naming> {
     frame: u32,
     name: Name<Text, Text, J>,
-    ghost below: { frame < 65536 },
+    ghost below: { frame < most_frames },
 }
 
 impl<J: Naming> Drop for Filled<J> {
@@ -67,7 +68,21 @@ fn fill<J: Naming>(
 ) -> Option<Filled<J>>
     requires { J.limits.honest ≡ false }
 {
-    let reserved = frames.reserve().ok()?;
+    fill_from(words, pass, frames, 0, bucket, object)
+}
+
+/// The same with the first free frame from this one on.
+fn fill_from<J: Naming>(
+    words: &Words<Text, Text, J>,
+    pass: &mut Pass<Text, Text, J>,
+    frames: &Frames<Text, Text, J>,
+    from: u32,
+    bucket: u32,
+    object: Object<Text, Text>,
+) -> Option<Filled<J>>
+    requires { J.limits.honest ≡ false }
+{
+    let reserved = frames.reserve_from(from).ok()?;
     let frame = reserved.frame();
     let Some((name, version)) = version(words, pass, bucket, object) else {
         reserved.cancel();

@@ -160,6 +160,51 @@ fn a_look_from_a_frame_goes_on_and_begins_anew(rt: HostRuntime) -> Result<(), Fa
     played(&rt, 2, &script)
 }
 
+/// 64 words of 64 frames are a group, and 64 groups are named by one word of the uppermost layer.
+#[test]
+fn many_frames_are_found_by_their_groups(rt: HostRuntime) -> Result<(), Fail> {
+    let script = [
+        (Step::FillFrom(70_000, b'1'), Said::Filled(69_952, 1)),
+        (Step::FillFrom(70_000, b'1'), Said::Filled(69_953, 2)),
+        (Step::FillFrom(262_143, b'1'), Said::Filled(262_080, 3)),
+        (Step::FillFrom(262_144, b'1'), Said::Filled(262_144, 4)),
+        (Step::FillFrom(299_999, b'1'), Said::Filled(299_968, 5)),
+        (Step::FillFrom(300_032, b'1'), Said::Filled(0, 6)),
+        (Step::FillFrom(u32::MAX, b'1'), Said::Filled(1, 7)),
+        (Step::Seen(299_968), Said::Naming(0, 5)),
+    ];
+    played(&rt, 300_000, &script)
+}
+
+/// Each group of two is taken whole, and freed again.
+#[test]
+fn a_group_without_a_free_frame_is_passed_over(rt: HostRuntime) -> Result<(), Fail> {
+    let script = [
+        (Step::ReserveBehind(4_096, 4_096), Said::Reserved(0, 4_095)),
+        (Step::Free, Said::Count(8_192)),
+        (Step::ReserveBehind(4_096, 0), Said::Reserved(4_096, 8_191)),
+        (Step::ReserveBehind(0, 4_096), Said::Reserved(4_096, 4_095)),
+        (Step::Reserve, Said::Reserved(0, 8_191)),
+    ];
+    played(&rt, 8_192, &script)
+}
+
+#[test]
+fn a_frame_of_many_is_filled_and_emptied(rt: HostRuntime) -> Result<(), Fail> {
+    let script = [
+        (Step::FillFrom(4_194_303, b'1'), Said::Filled(4_194_240, 1)),
+        (Step::Seen(4_194_240), Said::Naming(0, 1)),
+        (Step::Look(4_194_240, 1), Said::Shown(Shown::of(1, b'1'))),
+        (Step::Touch(4_194_240), Said::Done),
+        (Step::Touched(4_194_240), Said::Is(true)),
+        (Step::Reclaim, Said::Is(true)),
+        (Step::Seen(4_194_240), Said::Nothing),
+        (Step::Free, Said::Count(4_194_304)),
+        (Step::Seen(4_194_304), Said::Nothing),
+    ];
+    played(&rt, 4_194_304, &script)
+}
+
 #[test]
 fn a_kept_frame_is_not_counted(rt: HostRuntime) -> Result<(), Fail> {
     let script = [

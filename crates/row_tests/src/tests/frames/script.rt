@@ -1,6 +1,7 @@
 //! What one caller of a row and of frames does, step after step, and what each step is to answer.
 ghost use Rattle.std.specs.Prelude.{◌≡◌, ◌≤◌, false};
 ghost use Rattle.version_words.specs.Rows.{limits_of};
+ghost use Rattle.frame_cache.specs.Slots.{most_frames};
 
 use super::user::{Shown, User};
 use crate::tests::common::{MANY, Unvouched, equal, opened};
@@ -31,6 +32,8 @@ pub enum Step {
     /// Puts a version under the bucket's next name, with this value, into the first free frame, and holds the spare of that
     /// frame.
     Fill(u32, u8),
+    /// The same with the first free frame from this one on, and the bucket 0.
+    FillFrom(u32, u8),
     /// Draws the bucket's next name, gives it up at this place, and holds the spare.
     Draw(u32, u32),
     /// Enters the frame with the name, and closes the scope.
@@ -156,7 +159,8 @@ impl Step {
             }
             Step::ReserveKept(frame) => Said::reserved(user.reserve_kept(frame, false)),
             Step::KeepAgain(frame) => Said::reserved(user.reserve_kept(frame, true)),
-            Step::Fill(bucket, value) => Said::filled(user.fill(bucket, value)),
+            Step::Fill(bucket, value) => Said::filled(user.fill(0, bucket, value)),
+            Step::FillFrom(frame, value) => Said::filled(user.fill(frame, 0, value)),
             Step::Draw(bucket, place) => Said::name(user.draw(bucket, place)),
             Step::Look(frame, name) => Said::shown(user.look(frame, name)),
             Step::ReclaimUnderLook(frame, name) => {
@@ -180,7 +184,7 @@ fn play<J: Naming, R: Abort>(
     requires book { opened.book ≡ J.book }
     requires boards { opened.names ≡ J.names }
     requires limits { limits_of opened.sizes false ≡ J.limits }
-    requires few { frames ≤ 65536 }
+    requires few { frames ≤ most_frames }
 {
     let words = opened.named::<J>();
     let mut user = User::new(alloc, words, frames)?;
@@ -196,7 +200,7 @@ pub fn played<R: Alloc<A = Global> + Abort>(
     frames: u32,
     script: &[(Step, Said)],
 ) -> Result<(), Fail>
-    requires few { frames ≤ 65536 }
+    requires few { frames ≤ most_frames }
 {
     let row = opened(rt, rt.alloc(), MANY);
     play::<Brand, R>(rt, rt.alloc(), row, frames, script)

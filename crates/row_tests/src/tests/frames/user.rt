@@ -1,7 +1,8 @@
 //! One caller of a row of words and of frames, who holds the last two spares that it got.
 ghost use Rattle.std.specs.Prelude.{◌≡◌, ◌≤◌, false};
+ghost use Rattle.frame_cache.specs.Slots.{most_frames};
 
-use super::{fill, reclaimed, version};
+use super::{fill_from, reclaimed, version};
 use crate::tests::common::{entered, object, one_pair};
 use far_object::Text;
 use frame_cache::laws::retire;
@@ -158,7 +159,7 @@ pub struct User<J: Naming> {
 impl<J: Naming> User<J> {
     pub fn new(alloc: Global, words: Words<Text, Text, J>, frames: u32) -> Result<User<J>, Fail>
         requires unvouched { J.limits.honest ≡ false }
-        requires few { frames ≤ 65536 }
+        requires few { frames ≤ most_frames }
     {
         let pass = entered(&words).ok_or("no pass")?;
         let frames = Frames::open(alloc, frames)?;
@@ -212,9 +213,17 @@ impl<J: Naming> User<J> {
         Some(told)
     }
 
-    pub fn fill(&mut self, bucket: u32, value: u8) -> Option<(u32, u64)> {
+    /// Fills the first free frame from this one on.
+    pub fn fill(&mut self, from: u32, bucket: u32, value: u8) -> Option<(u32, u64)> {
         let object = object(self.alloc, value)?;
-        let filled = fill(&self.words, &mut self.pass, &self.frames, bucket, object)?;
+        let filled = fill_from(
+            &self.words,
+            &mut self.pass,
+            &self.frames,
+            from,
+            bucket,
+            object,
+        )?;
         let told = (filled.frame, filled.name.number());
         self.spares.hold(filled.spare());
         Some(told)

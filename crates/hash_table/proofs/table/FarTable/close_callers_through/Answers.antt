@@ -1,5 +1,5 @@
 use Rattle.std.proofs.Common.{◌≡◌, ◌∙◌, ◌<◌, [], length, subst, arith}
-use Rattle.hash_table.proofs.Ends.{back_trans, closed_none, closed}
+use Rattle.hash_table.proofs.Ends.{back_trans, closed_none_in_order, closed_in_order}
 use Rattle.hash_table.specs.Closes.{IsCloseFault}
 use Rattle.hash_table.proofs.Takers.{hands_map}
 use Rattle.hash_table.proofs.table.FarTable.close_callers_through.Goals as goal
@@ -8,7 +8,7 @@ pub returns-then-callers-eq0-clause-closed : goal.returns-then-callers-eq0-claus
 returns-then-callers-eq0-clause-closed g c =
     let back = c.gather.ensures.back in
     let none : length c.args.callers.now ≡ 0 = omega (arith, c.if-callers-eq0.true, back.count) in
-    ([], g.met.T.TakesPairs.takes_none c.args.taker.now, closed_none g.K.FarObject.enc g.V.FarObject.enc g.J.Naming.limits c.args.callers.now c.in-Ok.mark c.same_history.ensures none c.in-Ok.ensures.front)
+    ([], g.met.T.TakesPairs.takes_none c.args.taker.now, closed_none_in_order g.K.FarObject.enc g.V.FarObject.enc g.J.Naming.limits c.args.callers.now c.in-Ok.mark c.same_history.ensures none c.in-Ok.ensures.front)
 
 pub returns-in-Err-hand_by_first-clause-fault : goal.returns-in-Err-hand_by_first-clause-fault
 returns-in-Err-hand_by_first-clause-fault g c = c.in-Err-hand_by_first.ensures.fault (length c.args.callers.now)
@@ -54,7 +54,7 @@ returns-in-Ok-gather-clause-closed g c =
     let some : 0 < length olds = omega (arith, c.if-callers-eq0.false, back.count) in
     let b = c.buckets-buckets.ensures in
     hands_map g.T.TakesPairs.takes _ _ c.args.taker.now c.hand_by_first.new.taker
-    (λ pairs are. closed ek ev l olds mids reads c.in-Ok.mark c.in-Ok-gather.field-0 pairs c.in-Ok.ensures.front back c.in-Ok.ensures.told c.hand_by_first.ensures.back c.in-Ok-gather.ensures.front some are c.same_history.ensures c.buckets_make_map.ensures (omega (arith, b.count, b.some)))
+    (λ pairs are. closed_in_order ek ev l olds mids reads c.in-Ok.mark c.in-Ok-gather.field-0 pairs c.in-Ok.ensures.front back c.in-Ok.ensures.told c.hand_by_first.ensures.back c.in-Ok-gather.ensures.front some are c.same_history.ensures c.buckets_make_map.ensures (omega (arith, b.count, b.some)))
     c.in-Ok-hand_by_first.ensures.pairs
 
 pub returns-clause-fault : goal.returns-clause-fault

@@ -1,4 +1,4 @@
-use Rattle.hash_table.proofs.Ends.{back_first, pairs_by_first}
+use Rattle.hash_table.proofs.Ends.{back_first, in_order_by_first}
 use Rattle.hash_table.proofs.Takers.{hands_map}
 use Rattle.hash_table.proofs.table.FarTable.hand_by_first.Goals as goal
 
@@ -10,4 +10,4 @@ returns-in-Ok-clause-back g c =
 pub returns-in-Ok-clause-pairs : goal.returns-in-Ok-clause-pairs
 returns-in-Ok-clause-pairs g c =
     hands_map g.T.TakesPairs.takes _ _ c.args.taker.now c.hand_buckets.new.taker
-    (λ pairs so. pairs_by_first g.K.FarObject.enc g.V.FarObject.enc g.J.Naming.limits c.args.mark.now c.args.callers.now c.hand_buckets.new.caller 0 g.J.Naming.limits.buckets pairs c.requires.some so) c.in-Ok.ensures.pairs
+    (λ pairs so. in_order_by_first g.K.FarObject.enc g.V.FarObject.enc g.J.Naming.limits c.args.mark.now c.args.callers.now c.hand_buckets.new.caller pairs c.requires.some so) c.in-Ok.ensures.pairs
