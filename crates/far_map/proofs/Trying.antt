@@ -18,7 +18,7 @@ use Rattle.hash_table.proofs.Fronts.{goes_self, goes_trans, finished_from}
 use Rattle.far_map.specs.declared.refusal.Refusal.{Refusal}
 use Rattle.far_map.specs.declared.refusal.Refusal.TheVariants as refusal
 use Rattle.far_map.specs.declared.refusal.Lack.TheVariants as lack
-use Rattle.far_map.specs.Refusals.{said, IsOfRoom}
+use Rattle.far_map.specs.Refusals.{said, IsOfRoom, IsUnread}
 use Rattle.far_map.specs.Views.{View, Log, Call}
 use Rattle.far_map.specs.Answers.{MayRefuse, IsRefused, IsMade, IsDone, AnswersBy, Tries, IsReadBy, held_in}
 
@@ -54,6 +54,18 @@ module _ (l : Limits) (limit : ℕ) where
   get_refused b old new o table.LimboFull goes h of = absurd of
   get_refused b old new o table.Device goes h of = here old new o refusal.Device tt goes
   get_refused b old new o table.Damaged goes h of = record { goes = goes; seen = λ honest. absurd (h honest) }
+
+  pub unread : (b : ℕ) (old new : View) (e : TableRefusal) → IsRefusedCall enc_text enc_text l b old new e → OfGet e → IsUnread l.honest (said e)
+  unread b old new table.Memory h of = tt
+  unread b old new table.Far h of = absurd of
+  unread b old new table.Moved h of = absurd of
+  unread b old new table.Missed h of = absurd of
+  unread b old new table.NoFrame h of = absurd of
+  unread b old new table.TooLong h of = absurd of
+  unread b old new table.NamesSpent h of = absurd of
+  unread b old new table.LimboFull h of = absurd of
+  unread b old new table.Device h of = tt
+  unread b old new table.Damaged h of = h
 
   -- the same of a swap-in
   pub fetch_refused : (b : ℕ) (old new : View) (o : Call) (e : TableRefusal) → Goes old new → IsRefusedCall enc_text enc_text l b old new e → OfFetch e → IsRefused l limit old new o (said e)

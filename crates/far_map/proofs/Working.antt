@@ -1,26 +1,27 @@
 -- Workers that have ended, and the end of their run.
 use Rattle.std.proofs.Common.{◌≡◌, ◌≢◌, ℕ, suc, ◌+◌, ◌<◌, ◌==◌, Bool, true, false, List, [], ◌∷◌, ◌++◌, Option, Some, None, Result, Ok, Err, IfOk, length, map, refl, ap, sym, ◌∙◌, subst, arith, length-append}
-use Rattle.std.specs.Prelude.{slice_index_or}
+use Rattle.std.specs.Prelude.{slice_index_or, ⊤}
 use Rattle.std.proofs.lemmas.Bool.Decides.{nat_tests}
 use Rattle.std.proofs.lemmas.List.{map-append}
 use Rattle.std.specs.List.{AllByRecursion}
 use Rattle.far_object.specs.Encodings.{enc_text}
 use Rattle.table_core.specs.declared.limits.Limits.{Limits}
-use Rattle.table_core.specs.Logs.{passes_of}
+use Rattle.table_core.specs.Maps.{map_of}
+use Rattle.table_core.specs.Logs.{history, passes_of}
 use Rattle.table_core.specs.Lawful.{IsLawful}
 use Rattle.version_words.specs.Views.{IsWhole, AreNone, AreApart, calls, calls_of}
 use Rattle.hash_table.specs.declared.caller.Caller.{Caller}
-use Rattle.hash_table.specs.Closes.{IsClosed, ClosesSorted}
+use Rattle.hash_table.specs.Closes.{IsClosed, ClosesSorted, ClosesInOrder, Hands}
 use Rattle.far_map.specs.Views.{View, Log, Pairs, SessionView}
 use Rattle.far_map.specs.declared.ending.End.{End}
 use Rattle.far_map.specs.declared.ending.End.TheVariants as asked
 use Rattle.far_map.specs.declared.ending.Given.{Given}
 use Rattle.far_map.specs.declared.fault.RunFault.{RunFault}
-use Rattle.far_map.specs.Ends.{IsClosedBy, IsBundledBy}
+use Rattle.far_map.specs.Ends.{IsClosedBy, IsBundledBy, IsHandedBy}
 use Rattle.far_map.specs.declared.fault.RunFault.TheVariants as run
 use Rattle.far_map.specs.declared.settings.Setting.{Setting}
-use Rattle.far_map.specs.Faults.{IsLater, IsEarlyFault, IsRunFault}
-use Rattle.far_map.specs.Runs.{IsNew, Served, IsServed, AreServed, Worked, IsEnd, AreSeen, IsLeft, IsWorked, IsRun, IsRunBundled, IsRunApart, EndsSo}
+use Rattle.far_map.specs.Faults.{IsLater, IsEarlyFault, IsRunFault, IsHandingFault}
+use Rattle.far_map.specs.Runs.{IsNew, Served, IsServed, AreServed, Worked, IsEnd, IsEndInOrder, AreSeen, IsLeft, IsWorked, IsRun, IsRunBundled, IsRunApart, IsRunThrough, EndsSo}
 
 module _ {Out : Type 0} (Done : ℕ → SessionView → SessionView → Out → Type 0) (limit : ℕ) where
   served_more : (n : ℕ) (all : List (Served Out)) (s : Served Out) → AreServed Done limit n all → s.worker ≡ n + length all → IsNew limit s.begun → Done s.worker s.begun s.ended s.out
@@ -98,35 +99,42 @@ module _ {J : Type 0} where
   -- a map that these callers and its own close ends with their passes
   pub ended : (l : Limits) (callers : List (Caller (List ℕ) (List ℕ) J)) (pairs : Pairs) → IsClosedBy l callers pairs → IsEnd l (map (λ c. c.pass) callers) pairs
   ended l callers pairs h = record {
-    log = close.log;
-    lawful = close.lawful;
-    all = close.all ∙ (length-append callers (h.own ∷ []) ∙ ap (λ (n : ℕ). n + 1) (sym (map_length callers)));
-    apart = apart_front own_passes (h.own.pass ∷ []) (subst AreApart passes_are close.apart);
-    whole = all_front (λ (pass : View). IsWhole close.log pass) own_passes (h.own.pass ∷ []) whole;
+    log = h.closed.log;
+    lawful = h.closed.lawful;
+    all = h.closed.all ∙ (length-append callers (h.own ∷ []) ∙ ap (λ (n : ℕ). n + 1) (sym (map_length callers)));
+    apart = apart_front own_passes (h.own.pass ∷ []) (subst AreApart passes_are h.closed.apart);
+    whole = all_front (λ (pass : View). IsWhole h.closed.log pass) own_passes (h.own.pass ∷ []) whole;
     no_other = λ pass none. other pass none (h.own.pass.number == pass.number) refl;
-    pairs_are = close.pairs_are;
+    pairs_are = h.closed.pairs_are;
   }
     where
-      close : IsClosed enc_text enc_text l (callers ++ h.own ∷ []) pairs
-      close = h.closed
-
       own_passes : List View
       own_passes = map (λ c. c.pass) callers
 
       passes_are : map (λ c. c.pass) (callers ++ h.own ∷ []) ≡ own_passes ++ h.own.pass ∷ []
       passes_are = map-append pass_of callers (h.own ∷ [])
 
-      whole : AllByRecursion (λ (pass : View). IsWhole close.log pass) (own_passes ++ h.own.pass ∷ [])
-      whole = subst (λ (ps : List View). AllByRecursion (λ (pass : View). IsWhole close.log pass) ps) passes_are (all_whole (λ (pass : View). IsWhole close.log pass) (callers ++ h.own ∷ []) close.whole)
+      whole : AllByRecursion (λ (pass : View). IsWhole h.closed.log pass) (own_passes ++ h.own.pass ∷ [])
+      whole = subst (λ (ps : List View). AllByRecursion (λ (pass : View). IsWhole h.closed.log pass) ps) passes_are (all_whole (λ (pass : View). IsWhole h.closed.log pass) (callers ++ h.own ∷ []) h.closed.whole)
 
-      other : (pass : View) → AreNone pass own_passes → (c : Bool) → (h.own.pass.number == pass.number) ≡ c → calls_of pass.number close.log ≡ []
+      other : (pass : View) → AreNone pass own_passes → (c : Bool) → (h.own.pass.number == pass.number) ≡ c → calls_of pass.number h.closed.log ≡ []
       other pass none true at =
           let same : h.own.pass.number ≡ pass.number = grind (arith, nat_tests) in
-          let own : IsWhole close.log h.own.pass = last_of (λ (pass : View). IsWhole close.log pass) own_passes h.own.pass whole in
-          ap (λ (q : ℕ). calls_of q close.log) (sym same) ∙ (own.all ∙ h.no_calls)
+          let own : IsWhole h.closed.log h.own.pass = last_of (λ (pass : View). IsWhole h.closed.log pass) own_passes h.own.pass whole in
+          ap (λ (q : ℕ). calls_of q h.closed.log) (sym same) ∙ (own.all ∙ h.no_calls)
       other pass none false at =
           let apart : pass.number ≢ h.own.pass.number = grind (arith, nat_tests) in
-          close.no_other pass (subst (λ (ps : List View). AreNone pass ps) (sym passes_are) (none_of pass own_passes h.own.pass none apart))
+          h.closed.no_other pass (subst (λ (ps : List View). AreNone pass ps) (sym passes_are) (none_of pass own_passes h.own.pass none apart))
+
+  -- the same of one that hands its pairs over, one bucket behind the other
+  pub ended_in_order : (l : Limits) (callers : List (Caller (List ℕ) (List ℕ) J)) (pairs : Pairs) → IsHandedBy l callers pairs → IsEndInOrder l (map (λ c. c.pass) callers) pairs
+  unfolding ended
+  ended_in_order l callers pairs h =
+      let all : Pairs = map_of enc_text enc_text (history h.closed.log) in
+      let front = h.closed.front in
+      let closed : IsClosed enc_text enc_text l (callers ++ h.own ∷ []) all =
+      record { log = h.closed.log; lawful = front.lawful; all = front.all; apart = front.apart; whole = front.whole; no_other = front.no_other; pairs_are = λ honest. refl } in
+      record { all = all; ended = ended l callers all (record { own = h.own; no_calls = h.no_calls; closed = closed }); in_order = h.closed.in_order }
 
 module _ {J : Type 0} (l : Limits) (callers all : List (Caller (List ℕ) (List ℕ) J)) (own : Caller (List ℕ) (List ℕ) J) (pairs : Pairs) (is : all ≡ callers ++ own ∷ []) (none : calls own.pass ≡ []) where
   -- a table that these callers and the map's own closed
@@ -136,6 +144,11 @@ module _ {J : Type 0} (l : Limits) (callers all : List (Caller (List ℕ) (List 
 pub bundled_by : {J : Type 0} (l : Limits) (callers all : List (Caller (List ℕ) (List ℕ) J)) (own : Caller (List ℕ) (List ℕ) J) (pairs : Pairs) → all ≡ callers ++ own ∷ [] → calls own.pass ≡ []
     → ClosesSorted enc_text enc_text l all pairs → IsBundledBy l callers pairs
 bundled_by l callers all own pairs is none closes sorted permutes rises = closed_by l callers all own sorted is none (closes sorted permutes rises)
+
+pub handed_by : {J S : Type 0} (Takes : S → Pairs → S → Type 0) (old new : S) (l : Limits) (callers all : List (Caller (List ℕ) (List ℕ) J)) (own : Caller (List ℕ) (List ℕ) J) → all ≡ callers ++ own ∷ [] → calls own.pass ≡ []
+    → Hands Takes (ClosesInOrder enc_text enc_text l all) old new → Hands Takes (IsHandedBy l callers) old new
+handed_by {J} Takes old new l callers all own is none h =
+    (h.0, h.1, record { own = own; no_calls = none; closed = subst (λ (cs : List (Caller (List ℕ) (List ℕ) J)). ClosesInOrder enc_text enc_text l cs h.0) is h.2 })
 
 -- a front that was told what all have seen
 pub seen_left : (l : Limits) (passes : List View) (log : Log) → IsLawful enc_text enc_text l log → AreSeen log passes → IsLeft l passes
@@ -167,6 +180,14 @@ module _ {Out : Type 0} (Done : ℕ → Limits → SessionView → SessionView �
     ended = λ all permutes rises. ended l callers all (h all permutes rises);
   }
 
+  pub ran_through : {J S : Type 0} (Takes : S → Pairs → S → Type 0) (Stops : S → S → Type 0) (old new : S) (limit limit' count count' : ℕ) (callers : List (Caller (List ℕ) (List ℕ) J)) (outs : List Out)
+      → limit' ≡ limit → count' ≡ count → WorkedBy limit' count' (map (λ c. c.pass) callers) outs → Hands Takes (IsHandedBy l callers) old new → IsRunThrough Done l limit count outs Takes Stops old new
+  ran_through Takes Stops old new limit limit' count count' callers outs same alike w h = record {
+    passes = map (λ c. c.pass) callers;
+    worked = as_limit limit limit' count count' (map (λ c. c.pass) callers) outs same alike w;
+    handed = (h.0, h.1, ended_in_order l callers h.0 h.2);
+  }
+
   pub ran_apart : (limit limit' count count' : ℕ) (passes : List View) (outs : List Out) → limit' ≡ limit → count' ≡ count → WorkedBy limit' count' passes outs → IsLeft l passes → IsRunApart Done l limit count outs
   ran_apart limit limit' count count' passes outs same alike w h = record { passes = passes; worked = as_limit limit limit' count count' passes outs same alike w; left = h }
 
@@ -174,18 +195,31 @@ module _ {Out : Type 0} (Done : ℕ → Limits → SessionView → SessionView �
   ran_badly limit limit' count count' passes outs same alike w = record { passes = passes; worked = as_limit limit limit' count count' passes outs same alike w }
 
 -- the same limits by another name
-pub run_as : {Out R E : Type 0} (r : Result R E) (outs_of : R → List Out) (given_of : R → Result Given RunFault) (Done : ℕ → Limits → SessionView → SessionView → Out → Type 0) (l l' : Limits) (limit limit' count : ℕ) (end : End)
-    → l' ≡ l → limit' ≡ limit → IfOk r (λ x. EndsSo Done l' limit' count (outs_of x) end (given_of x)) → IfOk r (λ x. EndsSo Done l limit count (outs_of x) end (given_of x))
-run_as r outs_of given_of Done l l' limit limit' count end same_l same_limit h =
-    subst (λ (k : Limits). IfOk r (λ x. EndsSo Done k limit count (outs_of x) end (given_of x))) same_l (subst (λ (n : ℕ). IfOk r (λ x. EndsSo Done l' n count (outs_of x) end (given_of x))) same_limit h)
+pub run_as : {Out S R E : Type 0} (r : Result R E) (outs_of : R → List Out) (given_of : R → Result Given RunFault) (Done : ℕ → Limits → SessionView → SessionView → Out → Type 0) (Takes : S → Pairs → S → Type 0) (Stops : S → S → Type 0)
+    (old new : S) (l l' : Limits) (limit limit' count : ℕ) (end : End)
+    → l' ≡ l → limit' ≡ limit → IfOk r (λ x. EndsSo Done l' limit' count (outs_of x) Takes Stops old new end (given_of x)) → IfOk r (λ x. EndsSo Done l limit count (outs_of x) Takes Stops old new end (given_of x))
+run_as r outs_of given_of Done Takes Stops old new l l' limit limit' count end same_l same_limit h =
+    subst (λ (k : Limits). IfOk r (λ x. EndsSo Done k limit count (outs_of x) Takes Stops old new end (given_of x))) same_l
+    (subst (λ (n : ℕ). IfOk r (λ x. EndsSo Done l' n count (outs_of x) Takes Stops old new end (given_of x))) same_limit h)
 
-module _ {Out : Type 0} (Done : ℕ → Limits → SessionView → SessionView → Out → Type 0) (l : Limits) (limit count : ℕ) (outs : List Out) where
+module _ {Out S : Type 0} (Done : ℕ → Limits → SessionView → SessionView → Out → Type 0) (l : Limits) (limit count : ℕ) (outs : List Out) (Takes : S → Pairs → S → Type 0) (Stops : S → S → Type 0) (old new : S) where
   abbrev Ends : End → Result Given RunFault → Type 0
-  Ends end given = EndsSo Done l limit count outs end given
+  Ends end given = EndsSo Done l limit count outs Takes Stops old new end given
 
   -- what is so of the end that was asked for
   pub as_asked : (end known : End) (given : Result Given RunFault) → end ≡ known → Ends known given → Ends end given
   as_asked end known given is h = subst (λ (e : End). Ends e given) (sym is) h
+
+module _ {S : Type 0} (Takes : S → Pairs → S → Type 0) (Stops : S → S → Type 0) where
+  -- a table that was not closed, behind pairs that were taken
+  pub handing_fault : (is_honest : Bool) (old new : S) (fault : RunFault) → IsLater is_honest fault → Hands Takes (λ _. ⊤) old new → IsHandingFault Takes Stops is_honest old new fault
+  handing_fault is_honest old new (run.BadSetting s) h took = absurd h
+  handing_fault is_honest old new run.PassesSpent h took = (h, took)
+  handing_fault is_honest old new run.Memory h took = (h, took)
+  handing_fault is_honest old new run.Device h took = (h, took)
+  handing_fault is_honest old new run.Damaged h took = (h, took)
+  handing_fault is_honest old new run.Missed h took = (h, took)
+  handing_fault is_honest old new run.Stopped h took = absurd h
 
 -- a fault at the end, where no setting is bad
 pub late_fault : (is_honest : Bool) (first : Option Setting) (fault : RunFault) → first ≡ None → IsLater is_honest fault → IsRunFault is_honest first fault
@@ -195,6 +229,7 @@ late_fault is_honest first run.Memory none h = none
 late_fault is_honest first run.Device none h = none
 late_fault is_honest first run.Damaged none h = (none, h)
 late_fault is_honest first run.Missed none h = none
+late_fault is_honest first run.Stopped none h = absurd h
 
 -- a fault before it
 pub early_fault : (is_honest : Bool) (first : Option Setting) (fault : RunFault) → IsEarlyFault first fault → IsRunFault is_honest first fault
@@ -204,3 +239,4 @@ early_fault is_honest first run.Memory h = h
 early_fault is_honest first run.Device h = h
 early_fault is_honest first run.Damaged h = absurd h
 early_fault is_honest first run.Missed h = absurd h
+early_fault is_honest first run.Stopped h = absurd h

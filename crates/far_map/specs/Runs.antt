@@ -16,7 +16,8 @@ use Rattle.far_map.specs.declared.ending.End.TheVariants as asked
 use Rattle.far_map.specs.declared.ending.Given.{Given}
 use Rattle.far_map.specs.declared.ending.Given.TheVariants as given
 use Rattle.far_map.specs.declared.fault.RunFault.{RunFault}
-use Rattle.far_map.specs.Faults.{IsLater}
+use Rattle.hash_table.specs.Closes.{Hands, pairs_from}
+use Rattle.far_map.specs.Faults.{IsLater, IsHandingFault}
 use Rattle.far_map.specs.Counts.{no_calls}
 use Rattle.far_map.specs.Views.{View, Log, Pairs, SessionView}
 
@@ -65,6 +66,12 @@ pub record IsEnd (l : Limits) (passes : List View) (pairs : Pairs) : Type 0 wher
   pub no_other : (pass : View) → AreNone pass passes → calls_of pass.number log ≡ []
   pub pairs_are : IsTrue l.honest → pairs ≡ map_of enc_text enc_text (history log)
 
+-- a run that these passes made ended with a map, and these are its pairs, one bucket behind the other in the order of the buckets' numbers
+pub record IsEndInOrder (l : Limits) (passes : List View) (pairs : Pairs) : Type 0 where
+  pub all : Pairs
+  pub ended : IsEnd l passes all
+  pub in_order : IsTrue l.honest → pairs ≡ pairs_from enc_text enc_text l ended.log 0 l.buckets
+
 -- the log begins with what each of these passes has seen
 abbrev pub AreSeen : Log → List View → Type 0
 AreSeen log passes = AllByRecursion (λ pass. IsPrefix pass.front log) passes
@@ -99,16 +106,30 @@ module _ {Out : Type 0} (Done : ℕ → Limits → SessionView → SessionView �
     pub worked : Worked (λ worker begun ended out. Done worker l begun ended out) limit count passes outs
     pub left : IsLeft l passes
 
-  -- what a run gives beside what its workers gave back, by the end that was asked for; the workers did their work also where the end failed
-  abbrev pub EndsSo : End → Result Given RunFault → Type 0
-  EndsSo asked.Pairs (Ok (given.Pairs pairs)) = IsRun pairs.items
-  EndsSo asked.Bundles (Ok (given.Bundles bundles)) = IsRunBundled (all_of bundles.items)
-  EndsSo asked.Nothing (Ok given.Nothing) = IsRunApart
-  EndsSo asked.Nothing (Err fault) = ⊥
-  EndsSo end (Err fault) = IsWorked × IsLater l.honest fault
-  EndsSo end (Ok other) = ⊥
-
-  -- the same of bundles that a run answers
+  -- what a run answers whose pairs come as they are written; the workers did their work also where the end failed
   abbrev pub EndsBundled : Result (Vec Pairs) RunFault → Type 0
   EndsBundled (Ok bundles) = IsRunBundled (all_of bundles.items)
   EndsBundled (Err fault) = IsWorked × IsLater l.honest fault
+
+  module _ {S : Type 0} (Takes : S → Pairs → S → Type 0) (Stops : S → S → Type 0) (old new : S) where
+    -- so many workers did their work, and a taker was handed the pairs of the map of one history with their calls and no others
+    pub record IsRunThrough : Type 0 where
+      pub passes : List View
+      pub worked : Worked (λ worker begun ended out. Done worker l begun ended out) limit count passes outs
+      pub handed : Hands Takes (IsEndInOrder l passes) old new
+
+    -- what a run answers that hands its pairs over
+    abbrev pub EndsThrough : Result (Unit {0}) RunFault → Type 0
+    EndsThrough (Ok _) = IsRunThrough
+    EndsThrough (Err fault) = IsWorked × IsHandingFault Takes Stops l.honest old new fault
+
+    -- what a run gives beside what its workers gave back, by the end that was asked for
+    abbrev pub EndsSo : End → Result Given RunFault → Type 0
+    EndsSo asked.Pairs (Ok (given.Pairs pairs)) = IsRun pairs.items
+    EndsSo asked.Bundles (Ok (given.Bundles bundles)) = IsRunBundled (all_of bundles.items)
+    EndsSo asked.Buckets (Ok given.Nothing) = IsRunThrough
+    EndsSo asked.Buckets (Err fault) = IsWorked × IsHandingFault Takes Stops l.honest old new fault
+    EndsSo asked.Nothing (Ok given.Nothing) = IsRunApart
+    EndsSo asked.Nothing (Err fault) = ⊥
+    EndsSo end (Err fault) = IsWorked × IsLater l.honest fault
+    EndsSo end (Ok other) = ⊥

@@ -1,15 +1,15 @@
 -- The settings of a map, and which of them a fault names.
 use Rattle.std.specs.Prelude.{ℕ, ◌==◌, ◌-◌, ◌^◌, min, if◌then◌else◌, Option}
 use Rattle.std.specs.Option.{option_map}
-use Rattle.hash_table.specs.Configs.{first_bad_with}
+use Rattle.hash_table.specs.Configs.{first_bad_wide_with}
 use Rattle.hash_table.specs.declared.config.Config.{Config}
 use Rattle.far_map.specs.declared.settings.Settings.{Settings}
 use Rattle.far_map.specs.declared.settings.Setting.{Setting}
 use Rattle.far_map.specs.declared.settings.Setting.TheVariants as setting
 
--- all names and passes that there can be, 256 spares, and the second format
+-- all names and passes that there can be, 256 spares, no bound on the bytes in frames, and the second format
 abbrev pub new_settings : ℕ → ℕ → ℕ → Settings
-new_settings buckets frames limit = record { buckets = buckets; frames = frames; limit = limit; names = 2 ^ 40 - 1; passes = 65535; spares = 256; format = 2 }
+new_settings buckets frames limit = record { buckets = buckets; frames = frames; limit = limit; names = 2 ^ 40 - 1; passes = 65535; spares = 256; bytes = 2 ^ 64 - 1; format = 2 }
 
 -- the table's settings, with a lane for each device; more than 64 devices are one too many
 abbrev pub config_of : Settings → ℕ → Config
@@ -29,4 +29,4 @@ setting_of n =
 
 -- the first setting that is outside its limits, where there are so many devices
 abbrev pub first_bad : Settings → ℕ → Option Setting
-first_bad s devices = option_map setting_of (first_bad_with devices (config_of s devices))
+first_bad s devices = option_map setting_of (first_bad_wide_with devices (config_of s devices))

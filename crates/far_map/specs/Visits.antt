@@ -1,20 +1,13 @@
 -- What is read of all buckets, one after the other.
-use Rattle.std.specs.Prelude.{◌≡◌, ℕ, zero, suc, ◌<◌, Bool, IsTrue, List, [], ◌++◌, Result, Ok, Err, ⊤}
+use Rattle.std.specs.Prelude.{◌≡◌, ℕ, zero, suc, ◌<◌, IsTrue, [], ◌++◌, Result, Ok, Err}
 use Rattle.far_object.specs.Encodings.{enc_text}
 use Rattle.table_core.specs.declared.limits.Limits.{Limits}
 use Rattle.table_core.specs.Maps.{at_bucket, map_of}
 use Rattle.table_core.specs.Logs.{history}
 use Rattle.version_words.specs.Views.{Goes}
 use Rattle.far_map.specs.declared.refusal.Refusal.{Refusal}
-use Rattle.far_map.specs.declared.refusal.Refusal.TheVariants as refusal
+use Rattle.far_map.specs.Refusals.{IsUnread}
 use Rattle.far_map.specs.Views.{View, Pairs}
-
--- why a bucket is not read; what is damaged comes over no honest device
-abbrev pub IsUnread : Bool → Refusal → Type 0
-IsUnread is_honest refusal.Memory = ⊤
-IsUnread is_honest refusal.Device = ⊤
-IsUnread is_honest refusal.Damaged = IsTrue is_honest → ⊥
-IsUnread is_honest _ = ⊥
 
 module _ (l : Limits) where
   -- the pairs of a bucket, as they stand at the pass's front

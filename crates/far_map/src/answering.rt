@@ -1,6 +1,5 @@
-//! A call until it is answered, or refused for good.
+//! A change until it is answered, or refused for good.
 ghost use Rattle.far_map.specs.Asks.{asked};
-ghost use Rattle.version_words.specs.Views.{Goes};
 ghost use Rattle.far_map.specs.Answers.{AnswersBy};
 ghost use Rattle.far_map.specs.Spares.{LosesNone};
 
@@ -16,24 +15,8 @@ use std::sync::Wait;
 use swapper::QueueNaming;
 use version_words::Naming;
 
-/// What comes before the first try: a frame for a change, where frames were lacking of late.
-#[tactic(auto, using(crate::proofs::Losses::loses_self))]
-fn before<J: Naming, B: QueueNaming, D: Device, R: Wait>(
-    rt: &R,
-    map: &FarMap<J, B, D>,
-    seated: &mut Seated<J, B>,
-    ask: &Asked<'_>,
-)
-    ensures goes { Goes seated.old.caller.pass seated.new.caller.pass }
-    ensures none_lost { LosesNone seated.old.caller.limbo seated.old.seat seated.new.caller.limbo seated.new.seat }
-{
-    if ask.is_change() {
-        map.before_change(rt, seated);
-    }
-}
-
 /// The answer. After each refusal that room may help, room is made and the call is tried again, 1,000 times at most.
-pub(crate) fn answer<J: Naming, B: QueueNaming, D: Device, R: Wait>(
+fn answer<J: Naming, B: QueueNaming, D: Device, R: Wait>(
     rt: &R,
     alloc: Global,
     map: &FarMap<J, B, D>,
@@ -43,7 +26,7 @@ pub(crate) fn answer<J: Naming, B: QueueNaming, D: Device, R: Wait>(
     ensures answers { AnswersBy J.limits map.now.table.limit seated.old.caller.pass seated.new.caller.pass (asked ask.now) result }
     ensures none_lost { LosesNone seated.old.caller.limbo seated.old.seat seated.new.caller.limbo seated.new.seat }
 {
-    before(rt, map, seated, ask);
+    map.before_change(rt, seated);
     for _ in 0..MOST_TRIES {
         match call(rt, alloc, &map.table, &mut seated.caller, ask) {
             Ok(answer) => return Ok(answer),

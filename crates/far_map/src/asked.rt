@@ -1,4 +1,4 @@
-//! What a session is asked, whose key and values are lent.
+//! A change that a session is asked for, whose key and values are lent.
 ghost use mathlib.Core.List.{IsPrefix};
 ghost use Rattle.far_map.specs.Asks.{asked};
 ghost use Rattle.far_map.specs.Answers.{Tries};
@@ -10,24 +10,16 @@ use std::alloc::Global;
 use std::sync::Wait;
 use version_words::Naming;
 
-/// A call of the map.
+/// A change of the map.
 #[derive(Drop)]
 pub(crate) enum Asked<'a> {
-    Get(&'a Text),
     Put(&'a Text, &'a Text),
     Remove(&'a Text),
     PutIf(&'a Text, Option<&'a Text>, &'a Text),
 }
 
-impl<'a> Asked<'a> {
-    /// Whether it may make a new object of its bucket, for which it needs a frame.
-    pub(crate) fn is_change(&self) -> bool {
-        !matches!(self, Asked::Get(_))
-    }
-}
-
 /// One call of the table.
-#[tactic(auto, using(crate::proofs::Trying::change_refused, crate::proofs::Trying::get_refused))]
+#[tactic(auto, using(crate::proofs::Trying::change_refused))]
 pub(crate) fn call<J: Naming, D: Device, R: Wait>(
     rt: &R,
     alloc: Global,
@@ -39,10 +31,6 @@ pub(crate) fn call<J: Naming, D: Device, R: Wait>(
     ensures limbo { IsPrefix caller.old.limbo caller.new.limbo }
 {
     match ask {
-        Asked::Get(key) => match table.get(rt, alloc, caller, key) {
-            Ok(answer) => Ok(answer),
-            Err(refusal) => Err(refusal),
-        },
         Asked::Put(key, value) => match table.put(rt, alloc, caller, key, value) {
             Ok(answer) => Ok(answer),
             Err(refusal) => Err(refusal),

@@ -1,5 +1,5 @@
 //! A session as workers see it, without the names of its map.
-ghost use Rattle.std.specs.Prelude.{◌≡◌, Some, IfOk};
+ghost use Rattle.std.specs.Prelude.{◌≡◌, Some, IfOk, IfErr};
 ghost use Rattle.std.specs.Fn.{FnOnceReturnsAt};
 ghost use Rattle.std.specs.List.{FoldsTo};
 ghost use Rattle.table_core.specs.declared.operation.Operation.TheVariants as op;
@@ -11,6 +11,7 @@ ghost use Rattle.version_words.specs.Views.{Goes};
 ghost use Rattle.hash_table.specs.States.{IsState};
 ghost use Rattle.far_map.specs.Answers.{Answers, IsRead, IsFound, held_in};
 ghost use Rattle.far_map.specs.Counts.{Counts};
+ghost use Rattle.far_map.specs.Refusals.{IsUnread};
 ghost use Rattle.far_map.specs.Removals.{call_of, found_in, IsMet};
 ghost use Rattle.far_map.specs.Updates.{IsUpdated};
 ghost use Rattle.far_map.specs.Visits.{IsVisit};
@@ -47,14 +48,15 @@ pub trait Calls {
     // The value's bytes.
     ghost held: { Self.Held → Option (List ℕ) };
 
-    /// The key's value, copied, or none.
+    /// The key's value, copied, or none. It needs no room, and no name: `Memory`, `Device` and `Damaged` alone may come.
     fn get<R: Wait>(&mut self, rt: &R, key: &Text) -> Result<Option<Text>, Refusal>
         ensures answers { Answers limits (shown self.old) (shown self.new) (op.Get key.now) result }
+        ensures unread { IfErr result (IsUnread limits.honest) }
         ensures counts { Counts (shown self.old) (shown self.new) (op.Get key.now) result };
 
     /// What the reader makes of the key's value, or none where the key has none. It reads the bytes where they lie, and no swap
-    /// moves them meanwhile; where no frame is left for an object that lies on a device it reads a copy, so that `Full` and
-    /// `NamesSpent` never come.
+    /// moves them meanwhile; where an object that lies on a device can't be brought into a frame, as where none is left, it reads a
+    /// copy. It is refused as `get` is.
     fn with<T, F: FnOnce(&[u8]) -> T + Drop, R: Wait>(
         &mut self,
         rt: &R,
@@ -63,6 +65,7 @@ pub trait Calls {
     ) -> Result<Option<T>, Refusal>
         requires { F.IsAlwaysCallable read }
         ensures read { IsRead limits (shown self.old) (shown self.new) key.now (FnOnceReturnsAt F.FnOnce read) result }
+        ensures unread { IfErr result (IsUnread limits.honest) }
         ensures counts { Counts (shown self.old) (shown self.new) (op.Get key.now) result };
 
     /// The key's value, held where it lies, or none. Its frame is given to no other object until it is let go, whatever calls are
@@ -78,9 +81,10 @@ pub trait Calls {
     /// Lets a value go that was held.
     fn let_go(&self, value: Self::Held);
 
-    /// Whether the key has a value, of which nothing is copied. It is refused as `with` is.
+    /// Whether the key has a value: a `with` that reads nothing of it.
     fn contains<R: Wait>(&mut self, rt: &R, key: &Text) -> Result<bool, Refusal>
         ensures found { IsFound limits (shown self.old) (shown self.new) key.now result }
+        ensures unread { IfErr result (IsUnread limits.honest) }
         ensures counts { Counts (shown self.old) (shown self.new) (op.Get key.now) result };
 
     /// Sets the key to the value, and answers the one before.
@@ -163,6 +167,9 @@ pub trait Calls {
     /// What its calls have read and moved, and how many bytes they have brought into frames. Nothing is claimed of it.
     fn traffic(&self) -> Traffic;
 
+    /// How many bytes of objects lie in the frames of the map, off by some kilobytes for each session. Nothing is claimed of it.
+    fn bytes_in_frames(&self) -> u64;
+
     /// What it has counted of its own calls.
     fn stats(&self) -> Stats
         ensures { result ≡ (shown self.now).stats };
@@ -178,7 +185,7 @@ impl<'m, J: Naming, B: QueueNaming, D: Device> Calls for Session<'m, J, B, D> {
     ghost held = { λ s. s.value };
 
     fn get<R: Wait>(&mut self, rt: &R, key: &Text) -> Result<Option<Text>, Refusal> {
-        self.ask(rt, &Asked::Get(key))
+        self.copy(rt, key)
     }
 
     fn with<T, F: FnOnce(&[u8]) -> T + Drop, R: Wait>(
@@ -264,6 +271,10 @@ impl<'m, J: Naming, B: QueueNaming, D: Device> Calls for Session<'m, J, B, D> {
 
     fn traffic(&self) -> Traffic {
         self.seated.caller.traffic()
+    }
+
+    fn bytes_in_frames(&self) -> u64 {
+        self.map.bytes.sum()
     }
 
     fn stats(&self) -> Stats {

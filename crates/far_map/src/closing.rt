@@ -1,21 +1,21 @@
 //! The end of a map.
-ghost use Rattle.std.specs.Prelude.{◌≡◌, ◌++◌, ◌∷◌, [], ℕ, IfOk, IfErr, map};
+ghost use Rattle.std.specs.Prelude.{◌≡◌, ◌++◌, ◌∷◌, [], ℕ, IfOk, OnOk, IfErr, map};
 ghost use Rattle.far_object.specs.Encodings.{enc_text};
 ghost use Rattle.far_pairs.specs.Bundles.{all_of};
 ghost use Rattle.table_core.specs.Lawful.{IsLawful};
 ghost use Rattle.version_words.specs.Views.{Goes};
-ghost use Rattle.hash_table.specs.Closes.{ClosesSorted, IsCloseFault};
+ghost use Rattle.hash_table.specs.Closes.{ClosesSorted, Hands, IsCloseFault};
 ghost use Rattle.far_map.specs.declared.fault.RunFault.TheVariants.{Memory};
-ghost use Rattle.far_map.specs.Ends.{IsClosedBy, IsBundledBy};
-ghost use Rattle.far_map.specs.Faults.{IsLater};
+ghost use Rattle.far_map.specs.Ends.{IsClosedBy, IsBundledBy, IsHandedBy};
+ghost use Rattle.far_map.specs.Faults.{IsLater, IsHandingFault};
 ghost use Rattle.far_map.specs.Runs.{AreSeen, IsLeft};
 
-use crate::fault::{RunFault, of_closing};
+use crate::fault::{RunFault, of_closing, of_handing};
 use crate::map::FarMap;
 use far_device::Device;
 use far_object::Text;
 use far_pairs::Bundle;
-use hash_table::{Caller, CloseFault, FarTable};
+use hash_table::{Caller, CloseFault, FarTable, TakesPairs};
 use std::alloc::Global;
 use std::sync::Wait;
 use std::thread::Threads;
@@ -103,6 +103,28 @@ impl<J: Naming, B: QueueNaming, D: Device> FarMap<J, B, D> {
         match table.close(rt, alloc, all) {
             Ok(pairs) => Ok(pairs),
             Err((fault, _table, _callers)) => Err(of_closing(fault)),
+        }
+    }
+
+    /// The same for a map whose pairs have no room in memory together: the taker is handed them, bucket by bucket.
+    pub(crate) fn close_through<R: Wait, T: TakesPairs<Text, Text>>(
+        self,
+        rt: &R,
+        alloc: Global,
+        callers: Vec<Caller<Text, Text, J>>,
+        taker: &mut T,
+    ) -> Result<(), RunFault>
+        ensures closed { OnOk result (Hands T.takes (IsHandedBy J.limits callers.items) taker.old taker.new) }
+        ensures fault { IfErr result (IsHandingFault T.takes T.stops J.limits.honest taker.old taker.new) }
+    {
+        let FarMap { table, evictor, .. } = self;
+        let all = match with_own(callers, evictor.into_inner().into_caller()) {
+            Ok(all) => all,
+            Err(fault) => return Err(fault),
+        };
+        match table.close_through(rt, alloc, all, taker) {
+            Ok(()) => Ok(()),
+            Err((fault, _table, _callers)) => Err(of_handing::<J, T>(fault)),
         }
     }
 

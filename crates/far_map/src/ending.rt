@@ -1,7 +1,9 @@
 //! What a run gives beside what its workers gave back.
+ghost use Rattle.std.specs.Prelude.{MatchResult, ⊤};
 
 use far_object::Text;
 use far_pairs::Bundle;
+use hash_table::{Stopped, TakesPairs};
 
 /// Which end is asked for.
 #[derive(Clone, Copy, Debug, PartialEq, Eq)]
@@ -10,6 +12,8 @@ pub enum End {
     Pairs,
     /// All pairs, as they are written.
     Bundles,
+    /// No pairs: they go to a taker, bucket by bucket.
+    Buckets,
     /// No pairs.
     Nothing,
 }
@@ -20,4 +24,24 @@ pub enum Given {
     Pairs(Vec<(Text, Text)>),
     Bundles(Vec<Bundle<Text, Text>>),
     Nothing,
+}
+
+/// The taker of a run that hands nothing over.
+#[derive(Drop)]
+pub(crate) struct NoTaker;
+
+impl TakesPairs<Text, Text> for NoTaker {
+    ghost takes = { λ old pairs new. ⊤ };
+
+    ghost stops = { λ old new. ⊤ };
+
+    ghost takes_none = { λ x. tt };
+
+    ghost takes_both = { λ x y z first last one other. tt };
+
+    fn take(&mut self, _pairs: Vec<(Text, Text)>) -> Result<(), Stopped>
+        ensures { MatchResult result (λ _. ⊤) (λ _. ⊤) }
+    {
+        Err(Stopped)
+    }
 }

@@ -2,7 +2,7 @@
 ghost use Rattle.std.specs.Prelude.{◌≡◌, ◌<◌, ◌^◌, [], vec_len, IfOk, IfErr};
 ghost use Rattle.version_words.specs.Views.{calls};
 ghost use Rattle.far_map.specs.Counts.{no_calls};
-ghost use Rattle.far_map.specs.Faults.{IsOfWorker};
+ghost use Rattle.far_map.specs.Faults.{IsOfEntering};
 
 use crate::fault::RunFault;
 use crate::keeping::Seated;
@@ -30,7 +30,7 @@ pub(crate) fn enter<J: Naming, D: Device, R: Wait>(
     table: &FarTable<Text, Text, J, D>,
 ) -> Result<Caller<Text, Text, J>, RunFault>
     ensures new { IfOk result (λ c. calls c.pass ≡ []) }
-    ensures fault { IfErr result IsOfWorker }
+    ensures fault { IfErr result IsOfEntering }
 {
     for _ in rt.forever() {
         match table.enter() {
@@ -53,7 +53,7 @@ pub(crate) fn enter_all<J: Naming, B: QueueNaming, D: Device, R: Wait>(
     requires frames { 0 < frames }
     requires few { vec_len seats < 2 ^ 32 }
     ensures each { IfOk result (λ newcomers. vec_len newcomers ≡ vec_len seats) }
-    ensures fault { IfErr result IsOfWorker }
+    ensures fault { IfErr result IsOfEntering }
 {
     let Some(seat) = seats.pop() else {
         return Ok(Vec::new(alloc));
@@ -65,7 +65,13 @@ pub(crate) fn enter_all<J: Naming, B: QueueNaming, D: Device, R: Wait>(
         return Err(RunFault::Memory);
     };
     let Ok(()) = newcomers.push(Newcomer {
-        seated: Seated { caller, seat, room },
+        seated: Seated {
+            caller,
+            seat,
+            room,
+            number,
+            told: 0,
+        },
     }) else {
         return Err(RunFault::Memory);
     };

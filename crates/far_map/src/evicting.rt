@@ -27,7 +27,7 @@ impl<J: Naming, B: QueueNaming, D: Device> FarMap<J, B, D> {
             if self.ended.load(Ordering::SeqCst) {
                 break;
             }
-            let worked = if self.table.free() < self.reserve {
+            let worked = if self.is_short() {
                 self.turns_by_thread(rt)
             } else {
                 self.collect(rt)

@@ -1,12 +1,12 @@
 //! Why a run ended early.
 ghost use Rattle.std.specs.Prelude.{◌≡◌, ℕ};
-ghost use Rattle.hash_table.specs.Closes.{IsCloseFault};
+ghost use Rattle.hash_table.specs.Closes.{IsCloseFault, IsHandFault};
 ghost use Rattle.far_object.specs.Encodings.{enc_text};
-ghost use Rattle.far_map.specs.Faults.{of_opening, IsLater};
+ghost use Rattle.far_map.specs.Faults.{of_opening, IsLater, IsHandingFault};
 
 use crate::settings::{Setting, setting_of};
 use far_object::Text;
-use hash_table::{CloseFault, OpenFault};
+use hash_table::{CloseFault, HandFault, OpenFault, TakesPairs};
 use thiserror::Error;
 use version_words::Naming;
 
@@ -31,6 +31,9 @@ pub enum RunFault {
     /// A frame or a lane did not give a name at the end.
     #[error("missed")]
     Missed,
+    /// The taker of a run that hands its pairs over takes no more.
+    #[error("stopped")]
+    Stopped,
 }
 
 pub(crate) fn of_opening(fault: OpenFault) -> RunFault
@@ -52,5 +55,16 @@ pub(crate) fn of_closing<J: Naming>(fault: CloseFault<Text, Text, J>) -> RunFaul
         CloseFault::Device => RunFault::Device,
         CloseFault::Damaged => RunFault::Damaged,
         CloseFault::Missed => RunFault::Missed,
+    }
+}
+
+pub(crate) fn of_handing<J: Naming, T: TakesPairs<Text, Text>>(
+    fault: HandFault<Text, Text, J>,
+) -> RunFault
+    ensures { (n : ℕ) (old new : T) → IsHandFault enc_text enc_text J.limits T.takes T.stops old new n fault → IsHandingFault T.takes T.stops J.limits.honest old new result }
+{
+    match fault {
+        HandFault::Stopped => RunFault::Stopped,
+        HandFault::Close(fault) => of_closing(fault),
     }
 }

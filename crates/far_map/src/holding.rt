@@ -8,7 +8,6 @@ ghost use Rattle.far_map.specs.Refusals.{said};
 ghost use Rattle.far_map.specs.Counts.{Counts};
 ghost use Rattle.far_map.specs.Spares.{LosesNone};
 
-use crate::asked::Asked;
 use crate::keeping::Seated;
 use crate::map::FarMap;
 use crate::refusal::{Refusal, said};
@@ -119,7 +118,7 @@ impl<'m, J: Naming, B: QueueNaming, D: Device> Session<'m, J, B, D> {
         ensures counts { Counts self.old self.new (Get key.now) result }
     {
         let held = open_and_keep(rt, self.alloc, self.map, &mut self.seated, key);
-        self.stats.count(&Asked::Get(key), &held);
+        self.stats.count_get(&held);
         held
     }
 }

@@ -10,7 +10,9 @@ ghost use Rattle.version_words.specs.Views.{Goes};
 ghost use Rattle.far_map.specs.Refusals.{IsTurnFault};
 ghost use Rattle.far_map.specs.Spares.{LosesNone};
 
+use crate::bytes::FrameBytes;
 use crate::map::FarMap;
+use crate::room::MOST_TRIES;
 use far_device::Device;
 use far_object::Text;
 use hash_table::{Caller, Refusal as TableRefusal};
@@ -28,6 +30,9 @@ pub struct Seated<J: Naming, B: QueueNaming> {
     pub(crate) caller: Caller<Text, Text, J>,
     pub(crate) seat: QueueSeat<Text, Text, J, B>,
     pub(crate) room: RoomMaker,
+    pub(crate) number: u32,
+    // How many bytes it last told that its calls had brought into frames.
+    pub(crate) told: i64,
 }
 
 impl<J: Naming, B: QueueNaming, D: Device> FarMap<J, B, D> {
@@ -46,6 +51,7 @@ impl<J: Naming, B: QueueNaming, D: Device> FarMap<J, B, D> {
         match evictor.turn(rt, &self.table, &self.queue) {
             Ok(turn) => {
                 self.keeps.store(turn.kept > 0, Ordering::SeqCst);
+                self.bytes.tell_of_evictor(evictor.traffic().bytes);
                 Ok(turn.evicted)
             }
             Err(refusal) => {
@@ -56,7 +62,12 @@ impl<J: Naming, B: QueueNaming, D: Device> FarMap<J, B, D> {
         }
     }
 
-    /// Turns while fewer frames are free than the evictor's thread keeps so, and whether they emptied one. They are made by one
+    /// Whether the evictor's thread has frames to empty: fewer are free than it keeps so, or more bytes lie in frames than may.
+    pub(crate) fn is_short(&self) -> bool {
+        self.table.free() < self.reserve || self.bytes.is_above()
+    }
+
+    /// Turns while that is so, and whether they emptied a frame. They are made by one
     /// hold of the evictor. A refusal is the answer only where no turn before it emptied a frame.
     fn turns<R: Wait>(
         &self,
@@ -73,7 +84,8 @@ impl<J: Naming, B: QueueNaming, D: Device> FarMap<J, B, D> {
                 Err(_) if emptied => break,
                 Err(refusal) => return Err(refusal),
             }
-            if self.table.free() >= self.reserve {
+            self.bytes.tell_of_evictor(evictor.traffic().bytes);
+            if !self.is_short() {
                 break;
             }
         }
@@ -171,10 +183,57 @@ impl<J: Naming, B: QueueNaming, D: Device> FarMap<J, B, D> {
         self.settle(rt, seated);
     }
 
-    /// What follows each call that left spares. Without the evictor's thread they are handed over and reclaimed, with those that
+    /// Tells how many bytes its calls have brought into frames, and answers whether too many lie there by now.
+    fn tell(&self, seated: &mut Seated<J, B>) -> bool
+        ensures caller { seated.new.caller ≡ seated.old.caller }
+        ensures seat { seated.new.seat ≡ seated.old.seat }
+    {
+        seated.told = seated.caller.traffic().bytes;
+        self.bytes.tell(seated.number, seated.told);
+        self.bytes.is_above()
+    }
+
+    /// Has a frame emptied where too many bytes lie in frames, and says whether it did.
+    #[tactic(auto, using(crate::proofs::Losses::loses_self))]
+    fn empty_above<R: Wait>(&self, rt: &R, seated: &mut Seated<J, B>) -> bool
+        ensures goes { Goes seated.old.caller.pass seated.new.caller.pass }
+        ensures none_lost { LosesNone seated.old.caller.limbo seated.old.seat seated.new.caller.limbo seated.new.seat }
+    {
+        if !self.tell(seated) {
+            return false;
+        }
+        matches!(self.empty_frames(rt, seated), Ok(true))
+    }
+
+    /// Has frames emptied while too many bytes lie there. It looks where the caller's own count has changed by enough.
+    #[tactic(auto, using(crate::proofs::Losses::loses_self))]
+    fn keep_below<R: Wait>(&self, rt: &R, seated: &mut Seated<J, B>)
+        ensures goes { Goes seated.old.caller.pass seated.new.caller.pass }
+        ensures none_lost { LosesNone seated.old.caller.limbo seated.old.seat seated.new.caller.limbo seated.new.seat }
+    {
+        if !FrameBytes::is_due(seated.told, seated.caller.traffic().bytes) {
+            return;
+        }
+        for _ in 0..MOST_TRIES {
+            if !self.empty_above(rt, seated) {
+                break;
+            }
+        }
+    }
+
+    /// What follows each call: where too many bytes lie in frames some are emptied, and its spares are seen to.
+    pub(crate) fn after_call<R: Wait>(&self, rt: &R, seated: &mut Seated<J, B>)
+        ensures goes { Goes seated.old.caller.pass seated.new.caller.pass }
+        ensures none_lost { LosesNone seated.old.caller.limbo seated.old.seat seated.new.caller.limbo seated.new.seat }
+    {
+        self.keep_below(rt, seated);
+        self.see_to_spares(rt, seated);
+    }
+
+    /// Sees to the spares that its calls have left. Without the evictor's thread they are handed over and reclaimed, with those that
     /// came back before.
     #[tactic(auto, using(crate::proofs::Losses::loses_self))]
-    pub(crate) fn after_call<R: Wait>(&self, rt: &R, seated: &mut Seated<J, B>)
+    fn see_to_spares<R: Wait>(&self, rt: &R, seated: &mut Seated<J, B>)
         ensures goes { Goes seated.old.caller.pass seated.new.caller.pass }
         ensures none_lost { LosesNone seated.old.caller.limbo seated.old.seat seated.new.caller.limbo seated.new.seat }
     {

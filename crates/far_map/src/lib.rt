@@ -12,6 +12,7 @@
 
 mod answering;
 mod asked;
+mod bytes;
 mod calls;
 mod closing;
 mod ending;
@@ -38,10 +39,11 @@ mod visiting;
 mod work;
 
 pub use calls::Calls;
+pub use far_object::Text;
 pub use fault::RunFault;
-pub use hash_table::{BucketState, Removal, Traffic};
+pub use hash_table::{BucketState, Removal, Stopped, TakesPairs, Traffic};
 pub use refusal::{Lack, Refusal};
-pub use running::{run, run_apart, run_bundled};
+pub use running::{run, run_apart, run_bundled, run_through};
 pub use session::Session;
 pub use settings::{Setting, Settings};
 pub use stats::Stats;

@@ -1,6 +1,7 @@
 //! What the sessions of a map share.
 ghost use Rattle.std.specs.Prelude.{◌≡◌};
 
+use crate::bytes::FrameBytes;
 use far_device::Device;
 use far_object::Text;
 use hash_table::FarTable;
@@ -20,6 +21,8 @@ pub struct FarMap<J: Naming, B: QueueNaming, D: Device> {
     pub(crate) buckets: u32,
     // How many frames the evictor's thread keeps free.
     pub(crate) reserve: u32,
+    // The bytes in frames, as the sessions and the evictor tell of them.
+    pub(crate) bytes: FrameBytes,
     // Whether the evictor may keep spares: some came back, or a turn was refused.
     pub(crate) keeps: AtomicBool,
     // Whether the evictor's thread has started.

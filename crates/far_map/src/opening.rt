@@ -1,7 +1,8 @@
 //! A map over a table and a queue that are open.
 ghost use Rattle.std.specs.Prelude.{◌≡◌, ◌<◌, ◌^◌, IfOk, IfErr, vec_len};
-ghost use Rattle.far_map.specs.Faults.{IsOfWorker};
+ghost use Rattle.far_map.specs.Faults.{IsOfEntering};
 
+use crate::bytes::FrameBytes;
 use crate::entering::{Newcomer, enter, enter_all};
 use crate::fault::RunFault;
 use crate::map::FarMap;
@@ -25,6 +26,7 @@ pub(crate) fn map_over<J: Naming, B: QueueNaming, D: Device, R: Wait>(
     rt: &R,
     alloc: Global,
     config: Config,
+    bytes: u64,
     table: FarTable<Text, Text, J, D>,
     queue: QueueOpening<Text, Text, J>,
     workers: u32,
@@ -34,11 +36,14 @@ pub(crate) fn map_over<J: Naming, B: QueueNaming, D: Device, R: Wait>(
     requires frames { 0 < config.frames }
     ensures limit { IfOk result (λ r. r.0.table.limit ≡ table.limit) }
     ensures each { IfOk result (λ r. vec_len r.1 ≡ workers) }
-    ensures fault { IfErr result IsOfWorker }
+    ensures fault { IfErr result IsOfEntering }
 {
     let (queue, taker, seats) = match queue.named::<B>(alloc, workers) {
         Ok(named) => named,
         Err(_) => return Err(RunFault::Memory),
+    };
+    let Ok(bytes) = FrameBytes::open(alloc, bytes, workers) else {
+        return Err(RunFault::Memory);
     };
     let newcomers = enter_all(rt, alloc, &table, config.frames, seats)?;
     let own = enter(rt, &table)?;
@@ -52,6 +57,7 @@ pub(crate) fn map_over<J: Naming, B: QueueNaming, D: Device, R: Wait>(
         evictor: Mutex::new(evictor),
         buckets: config.buckets,
         reserve: reserve_of(config.frames),
+        bytes,
         keeps: AtomicBool::new(false),
         started: AtomicBool::new(false),
         bed: Parker::new(),

@@ -1,25 +1,60 @@
-//! A value that is read where it lies.
-ghost use Rattle.std.specs.Prelude.{◌≡◌, ℕ, List, Some};
+//! Gets: a value that is copied, or read where it lies. They need no room, and are tried once.
+ghost use Rattle.std.specs.Prelude.{◌≡◌, ℕ, List, Some, IfErr};
+ghost use mathlib.Core.List.{IsPrefix};
 ghost use Rattle.std.specs.Fn.{FnOnceReturnsAt};
 ghost use Rattle.table_core.specs.declared.operation.Operation.TheVariants.{Get};
-ghost use Rattle.far_map.specs.Answers.{IsReadBy, IsRead, IsFound};
+ghost use Rattle.far_map.specs.Answers.{AnswersBy, Answers, IsReadBy, IsRead, IsFound};
 ghost use Rattle.far_map.specs.Counts.{Counts};
+ghost use Rattle.far_map.specs.Refusals.{IsUnread};
 ghost use Rattle.far_map.specs.Spares.{LosesNone};
 
-use crate::answering::answer;
-use crate::asked::Asked;
 use crate::holding::open_near;
 use crate::keeping::Seated;
 use crate::map::FarMap;
-use crate::refusal::Refusal;
+use crate::refusal::{Refusal, said};
 use crate::session::Session;
 use far_device::Device;
 use far_object::Text;
-use hash_table::TableScope;
+use hash_table::{Caller, FarTable, TableScope};
 use std::alloc::Global;
 use std::sync::Wait;
 use swapper::QueueNaming;
 use version_words::Naming;
+
+/// The key's value, copied.
+fn copy_value<J: Naming, D: Device, R: Wait>(
+    rt: &R,
+    alloc: Global,
+    table: &FarTable<Text, Text, J, D>,
+    caller: &mut Caller<Text, Text, J>,
+    key: &Text,
+) -> Result<Option<Text>, Refusal>
+    ensures answers { AnswersBy J.limits table.now.limit caller.old.pass caller.new.pass (Get key.now) result }
+    ensures unread { IfErr result (IsUnread J.limits.honest) }
+    ensures limbo { IsPrefix caller.old.limbo caller.new.limbo }
+{
+    match table.get(rt, alloc, caller, key) {
+        Ok(found) => Ok(found),
+        Err(refusal) => Err(said(refusal)),
+    }
+}
+
+/// The same, and what follows each call.
+fn copy_and_keep<J: Naming, B: QueueNaming, D: Device, R: Wait>(
+    rt: &R,
+    alloc: Global,
+    map: &FarMap<J, B, D>,
+    seated: &mut Seated<J, B>,
+    key: &Text,
+) -> Result<Option<Text>, Refusal>
+    ensures answers { AnswersBy J.limits map.now.table.limit seated.old.caller.pass seated.new.caller.pass (Get key.now) result }
+    ensures unread { IfErr result (IsUnread J.limits.honest) }
+    ensures none_lost { LosesNone seated.old.caller.limbo seated.old.seat seated.new.caller.limbo seated.new.seat }
+{
+    let copied = copy_value(rt, alloc, &map.table, &mut seated.caller, key);
+    map.after_call(rt, seated);
+    copied
+}
 
 /// What the reader makes of bytes.
 fn read_bytes<T, F: FnOnce(&[u8]) -> T>(bytes: &[u8], read: F) -> T
@@ -42,7 +77,7 @@ fn read_held<J: Naming, T, F: FnOnce(&[u8]) -> T>(
     made
 }
 
-/// What the reader makes of the key's value, where it lies in a frame, or where there is none for it of a copy.
+/// What the reader makes of the key's value, where it lies in a frame, or of a copy where it can't be brought into one.
 fn read_value<J: Naming, B: QueueNaming, D: Device, T, F: FnOnce(&[u8]) -> T + Drop, R: Wait>(
     rt: &R,
     alloc: Global,
@@ -53,6 +88,7 @@ fn read_value<J: Naming, B: QueueNaming, D: Device, T, F: FnOnce(&[u8]) -> T + D
 ) -> Result<Option<T>, Refusal>
     requires { F.IsAlwaysCallable read }
     ensures read { IsReadBy J.limits map.now.table.limit seated.old.caller.pass seated.new.caller.pass key.now (FnOnceReturnsAt F.FnOnce read) result }
+    ensures unread { IfErr result (IsUnread J.limits.honest) }
     ensures none_lost { LosesNone seated.old.caller.limbo seated.old.seat seated.new.caller.limbo seated.new.seat }
 {
     match open_near(rt, alloc, &map.table, &mut seated.caller, key) {
@@ -60,7 +96,7 @@ fn read_value<J: Naming, B: QueueNaming, D: Device, T, F: FnOnce(&[u8]) -> T + D
         Ok(Some(scope)) => return Ok(Some(read_held(scope, read))),
         Err(_) => {}
     }
-    match answer(rt, alloc, map, seated, &Asked::Get(key)) {
+    match copy_value(rt, alloc, &map.table, &mut seated.caller, key) {
         Ok(None) => Ok(None),
         Ok(Some(text)) => Ok(Some(read_bytes(text.as_bytes(), read))),
         Err(refusal) => Err(refusal),
@@ -78,6 +114,7 @@ fn read_and_keep<J: Naming, B: QueueNaming, D: Device, T, F: FnOnce(&[u8]) -> T 
 ) -> Result<Option<T>, Refusal>
     requires { F.IsAlwaysCallable read }
     ensures read { IsReadBy J.limits map.now.table.limit seated.old.caller.pass seated.new.caller.pass key.now (FnOnceReturnsAt F.FnOnce read) result }
+    ensures unread { IfErr result (IsUnread J.limits.honest) }
     ensures none_lost { LosesNone seated.old.caller.limbo seated.old.seat seated.new.caller.limbo seated.new.seat }
 {
     let made = read_value(rt, alloc, map, seated, key, read);
@@ -86,6 +123,17 @@ fn read_and_keep<J: Naming, B: QueueNaming, D: Device, T, F: FnOnce(&[u8]) -> T 
 }
 
 impl<'m, J: Naming, B: QueueNaming, D: Device> Session<'m, J, B, D> {
+    /// The key's value, copied, or none.
+    pub(crate) fn copy<R: Wait>(&mut self, rt: &R, key: &Text) -> Result<Option<Text>, Refusal>
+        ensures answers { Answers J.limits self.old self.new (Get key.now) result }
+        ensures unread { IfErr result (IsUnread J.limits.honest) }
+        ensures counts { Counts self.old self.new (Get key.now) result }
+    {
+        let copied = copy_and_keep(rt, self.alloc, self.map, &mut self.seated, key);
+        self.stats.count_get(&copied);
+        copied
+    }
+
     /// What the reader makes of the key's value, or none where the key has none.
     pub(crate) fn read<T, F: FnOnce(&[u8]) -> T + Drop, R: Wait>(
         &mut self,
@@ -95,16 +143,18 @@ impl<'m, J: Naming, B: QueueNaming, D: Device> Session<'m, J, B, D> {
     ) -> Result<Option<T>, Refusal>
         requires { F.IsAlwaysCallable read }
         ensures read { IsRead J.limits self.old self.new key.now (FnOnceReturnsAt F.FnOnce read) result }
+        ensures unread { IfErr result (IsUnread J.limits.honest) }
         ensures counts { Counts self.old self.new (Get key.now) result }
     {
         let made = read_and_keep(rt, self.alloc, self.map, &mut self.seated, key, read);
-        self.stats.count(&Asked::Get(key), &made);
+        self.stats.count_get(&made);
         made
     }
 
     /// Whether the key has a value.
     pub(crate) fn find<R: Wait>(&mut self, rt: &R, key: &Text) -> Result<bool, Refusal>
         ensures found { IsFound J.limits self.old self.new key.now result }
+        ensures unread { IfErr result (IsUnread J.limits.honest) }
         ensures counts { Counts self.old self.new (Get key.now) result }
     {
         match self.read(rt, key, |_| ()) {

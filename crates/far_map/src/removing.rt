@@ -1,13 +1,11 @@
 //! A removal on a condition.
-ghost use Rattle.std.specs.Prelude.{◌≡◌, IfOk};
+ghost use Rattle.std.specs.Prelude.{IfOk};
 ghost use mathlib.Core.List.{IsPrefix};
 ghost use Rattle.far_map.specs.Answers.{Tries, AnswersBy, Answers};
-ghost use Rattle.far_map.specs.Asks.{asked};
 ghost use Rattle.far_map.specs.Counts.{Counts};
 ghost use Rattle.far_map.specs.Removals.{call_of, found_in, IsMet};
 ghost use Rattle.far_map.specs.Spares.{LosesNone};
 
-use crate::asked::Asked;
 use crate::keeping::Seated;
 use crate::map::FarMap;
 use crate::refusal::{Refusal, said};
@@ -87,16 +85,6 @@ fn remove_and_keep<J: Naming, B: QueueNaming, D: Device, R: Wait>(
     removal
 }
 
-/// What is counted: a removal on a condition that took nothing out was a get.
-fn counted_as<'a>(key: &'a Text, removal: &Result<Removal<Text>, Refusal>) -> Asked<'a>
-    ensures { asked result ≡ call_of key.entry.now removal.now }
-{
-    match removal {
-        Ok(removal) if !removal.removed => Asked::Get(key),
-        _ => Asked::Remove(key),
-    }
-}
-
 impl<'m, J: Naming, B: QueueNaming, D: Device> Session<'m, J, B, D> {
     /// Takes the key out where its value is the expected one.
     pub(crate) fn take_out<R: Wait>(
@@ -110,7 +98,7 @@ impl<'m, J: Naming, B: QueueNaming, D: Device> Session<'m, J, B, D> {
         ensures counts { Counts self.old self.new (call_of key.now result) result }
     {
         let removal = remove_and_keep(rt, self.alloc, self.map, &mut self.seated, key, expected);
-        self.stats.count(&counted_as(key, &removal), &removal);
+        self.stats.count_removal(&removal);
         removal
     }
 }

@@ -5,9 +5,9 @@ ghost use Rattle.hash_table.specs.Configs.{sizes_of};
 ghost use Rattle.hash_table.specs.Openings.{WasOpened};
 ghost use Rattle.far_map.specs.Faults.{IsEarlyFault, IsRunFault};
 ghost use Rattle.far_map.specs.Settings.{config_of, first_bad};
-ghost use Rattle.far_map.specs.Runs.{EndsSo, EndsBundled, IsRun, IsRunApart};
+ghost use Rattle.far_map.specs.Runs.{EndsSo, EndsBundled, EndsThrough, IsRun, IsRunApart};
 
-use crate::ending::{End, Given};
+use crate::ending::{End, Given, NoTaker};
 use crate::fault::{RunFault, of_opening};
 use crate::opening::map_over;
 use crate::settings::{Settings, setting_of};
@@ -16,7 +16,7 @@ use crate::work::Work;
 use far_device::Device;
 use far_object::Text;
 use far_pairs::Bundle;
-use hash_table::{Config, FarTable, Opening};
+use hash_table::{Config, FarTable, Opening, TakesPairs};
 use std::alloc::Global;
 use std::marker::Brand;
 use std::sync::Wait;
@@ -25,29 +25,35 @@ use swapper::{QueueNaming, QueueOpening};
 use version_words::Naming;
 
 /// A run over a table and a queue that were just opened.
-fn over_queue<J, B, D, W, R>(
+fn over_queue<J, B, D, W, T, R>(
     rt: &R,
     alloc: Global,
     config: Config,
+    bytes: u64,
     table: FarTable<Text, Text, J, D>,
     queue: QueueOpening<Text, Text, J>,
     count: u32,
     work: &W,
     end: End,
+    taker: &mut T,
 ) -> Result<(Vec<W::Out>, Result<Given, RunFault>), RunFault>
 where
     J: Naming + Send + Sync,
     B: QueueNaming + Send + Sync,
     D: Device + Send,
     W: Work,
+    T: TakesPairs<Text, Text>,
     R: Threads + Wait + Sync,
     requires queue { queue.table ≡ B.table }
     requires buckets { config.buckets ≡ J.limits.buckets }
     requires frames { 0 < config.frames }
-    ensures ran { IfOk result (λ r. EndsSo (W.done work.now) J.limits table.limit count r.0.items end r.1) }
+    ensures ran { IfOk result (λ r. EndsSo (W.done work.now) J.limits table.limit count r.0.items T.takes T.stops taker.old taker.new end r.1) }
     ensures fault { IfErr result (IsEarlyFault None) }
+    ensures untold { IfErr result (λ _. taker.new ≡ taker.old) }
 {
-    let (far, newcomers) = match map_over::<J, B, D, R>(rt, alloc, config, table, queue, count) {
+    let (far, newcomers) = match map_over::<J, B, D, R>(
+        rt, alloc, config, bytes, table, queue, count,
+    ) {
         Ok(opened) => opened,
         Err(fault) => return Err(fault),
     };
@@ -64,6 +70,10 @@ where
             Ok(bundles) => Ok((outs, Ok(Given::Bundles(bundles)))),
             Err(fault) => Ok((outs, Err(fault))),
         },
+        End::Buckets => match far.close_through(rt, alloc, callers, taker) {
+            Ok(()) => Ok((outs, Ok(Given::Nothing))),
+            Err(fault) => Ok((outs, Err(fault))),
+        },
         End::Nothing => {
             far.abandon(&callers);
             Ok((outs, Ok(Given::Nothing)))
@@ -72,19 +82,22 @@ where
 }
 
 /// A run over a row of words that was just opened.
-fn over_row<J, D, W, R>(
+fn over_row<J, D, W, T, R>(
     rt: &R,
     alloc: Global,
     config: Config,
+    bytes: u64,
     opening: Opening<Text, Text, D>,
     count: u32,
     work: &W,
     end: End,
+    taker: &mut T,
 ) -> Result<(Vec<W::Out>, Result<Given, RunFault>), RunFault>
 where
     J: Naming + Send + Sync,
     D: Device + Send,
     W: Work,
+    T: TakesPairs<Text, Text>,
     R: Threads + Wait + Sync,
     requires book { opening.row.book ≡ J.book }
     requires boards { opening.row.names ≡ J.names }
@@ -92,9 +105,10 @@ where
     requires config { opening.config ≡ config }
     requires frames { 0 < config.frames }
     requires spares { 0 < config.spares }
-    ensures ran { IfOk result (λ r. EndsSo (W.done work.now) (limits_of (sizes_of config) D.HONEST) config.limit count r.0.items end r.1) }
+    ensures ran { IfOk result (λ r. EndsSo (W.done work.now) (limits_of (sizes_of config) D.HONEST) config.limit count r.0.items T.takes T.stops taker.old taker.new end r.1) }
     ensures opened { IfOk result (λ _. WasOpened config) }
     ensures fault { IfErr result (IsEarlyFault None) }
+    ensures untold { IfErr result (λ _. taker.new ≡ taker.old) }
 {
     let table = match opening.named::<J>(alloc) {
         Ok(table) => table,
@@ -104,11 +118,13 @@ where
         Ok(queue) => queue,
         Err(_) => return Err(RunFault::Memory),
     };
-    over_queue::<J, Brand, D, W, R>(rt, alloc, config, table, queue, count, work, end)
+    over_queue::<J, Brand, D, W, T, R>(
+        rt, alloc, config, bytes, table, queue, count, work, end, taker,
+    )
 }
 
 /// A run over these devices, one for each lane.
-fn over_devices<D, W, R>(
+fn over_devices<D, W, T, R>(
     rt: &R,
     alloc: Global,
     settings: Settings,
@@ -116,25 +132,38 @@ fn over_devices<D, W, R>(
     workers: u32,
     work: &W,
     end: End,
+    taker: &mut T,
 ) -> Result<(Vec<W::Out>, Result<Given, RunFault>), RunFault>
 where
     D: Device + Send,
     W: Work,
+    T: TakesPairs<Text, Text>,
     R: Threads + Wait + Sync,
-    ensures ran { IfOk result (λ r. EndsSo (W.done work.now) (limits_of (sizes_of (config_of settings (vec_len devices))) D.HONEST) settings.limit workers r.0.items end r.1) }
+    ensures ran { IfOk result (λ r. EndsSo (W.done work.now) (limits_of (sizes_of (config_of settings (vec_len devices))) D.HONEST) settings.limit workers r.0.items T.takes T.stops taker.old taker.new end r.1) }
     ensures opened { IfOk result (λ _. WasOpened (config_of settings (vec_len devices))) }
     ensures within { IfOk result (λ _. first_bad settings (vec_len devices) ≡ None) }
     ensures fault { IfErr result (IsEarlyFault (first_bad settings (vec_len devices))) }
+    ensures untold { IfErr result (λ _. taker.new ≡ taker.old) }
 {
     let config = settings.config(devices.len());
-    if let Some(number) = config.first_bad_with(devices.len()) {
+    if let Some(number) = config.first_bad_wide_with(devices.len()) {
         return Err(RunFault::BadSetting(setting_of(number)));
     }
-    let opening = match Opening::open(alloc, config, devices) {
+    let opening = match Opening::open_wide(alloc, config, devices) {
         Ok(opening) => opening,
         Err(fault) => return Err(of_opening(fault)),
     };
-    over_row::<Brand, D, W, R>(rt, alloc, config, opening, workers, work, end)
+    over_row::<Brand, D, W, T, R>(
+        rt,
+        alloc,
+        config,
+        settings.bytes,
+        opening,
+        workers,
+        work,
+        end,
+        taker,
+    )
 }
 
 /// Opens a map over these devices, one for each lane, and has so many workers do the work on it, each on a thread of its own as
@@ -163,7 +192,16 @@ where
     ensures within { IfOk result (λ _. first_bad settings (vec_len devices) ≡ None) }
     ensures fault { IfErr result (IsRunFault D.HONEST (first_bad settings (vec_len devices))) }
 {
-    match over_devices(rt, alloc, settings, devices, workers, work, End::Pairs) {
+    match over_devices(
+        rt,
+        alloc,
+        settings,
+        devices,
+        workers,
+        work,
+        End::Pairs,
+        &mut NoTaker,
+    ) {
         Ok((outs, given)) => match given {
             Ok(Given::Pairs(pairs)) => Ok((outs, pairs)),
             Ok(_) => unreachable!(),
@@ -193,9 +231,60 @@ where
     ensures within { IfOk result (λ _. first_bad settings (vec_len devices) ≡ None) }
     ensures fault { IfErr result (IsEarlyFault (first_bad settings (vec_len devices))) }
 {
-    match over_devices(rt, alloc, settings, devices, workers, work, End::Bundles) {
+    match over_devices(
+        rt,
+        alloc,
+        settings,
+        devices,
+        workers,
+        work,
+        End::Bundles,
+        &mut NoTaker,
+    ) {
         Ok((outs, given)) => match given {
             Ok(Given::Bundles(bundles)) => Ok((outs, Ok(bundles))),
+            Ok(_) => unreachable!(),
+            Err(fault) => Ok((outs, Err(fault))),
+        },
+        Err(fault) => Err(fault),
+    }
+}
+
+/// As `run`, for a map that has more than memory holds: at the end the taker is handed the pairs of each bucket, in the order of the
+/// buckets' numbers and in key order within each, and no more than one bucket's are copied at a time. A fault at the end comes beside
+/// what the workers gave back: those of `run`, and `Stopped` where the taker stopped. No further bucket is handed over then.
+pub fn run_through<D, W, T, R>(
+    rt: &R,
+    alloc: Global,
+    settings: Settings,
+    devices: Vec<D>,
+    workers: u32,
+    work: &W,
+    taker: &mut T,
+) -> Result<(Vec<W::Out>, Result<(), RunFault>), RunFault>
+where
+    D: Device + Send,
+    W: Work,
+    T: TakesPairs<Text, Text>,
+    R: Threads + Wait + Sync,
+    ensures ran { IfOk result (λ r. EndsThrough (W.done work.now) (limits_of (sizes_of (config_of settings (vec_len devices))) D.HONEST) settings.limit workers r.0.items T.takes T.stops taker.old taker.new r.1) }
+    ensures opened { IfOk result (λ _. WasOpened (config_of settings (vec_len devices))) }
+    ensures within { IfOk result (λ _. first_bad settings (vec_len devices) ≡ None) }
+    ensures fault { IfErr result (IsEarlyFault (first_bad settings (vec_len devices))) }
+    ensures untold { IfErr result (λ _. taker.new ≡ taker.old) }
+{
+    match over_devices(
+        rt,
+        alloc,
+        settings,
+        devices,
+        workers,
+        work,
+        End::Buckets,
+        taker,
+    ) {
+        Ok((outs, given)) => match given {
+            Ok(Given::Nothing) => Ok((outs, Ok(()))),
             Ok(_) => unreachable!(),
             Err(fault) => Ok((outs, Err(fault))),
         },
@@ -222,7 +311,16 @@ where
     ensures within { IfOk result (λ _. first_bad settings (vec_len devices) ≡ None) }
     ensures fault { IfErr result (IsEarlyFault (first_bad settings (vec_len devices))) }
 {
-    match over_devices(rt, alloc, settings, devices, workers, work, End::Nothing) {
+    match over_devices(
+        rt,
+        alloc,
+        settings,
+        devices,
+        workers,
+        work,
+        End::Nothing,
+        &mut NoTaker,
+    ) {
         Ok((outs, given)) => match given {
             Ok(Given::Nothing) => Ok(outs),
             _ => unreachable!(),

@@ -38,13 +38,13 @@ impl<'m, J: Naming, B: QueueNaming, D: Device> Model for Session<'m, J, B, D> {
 }
 
 impl<'m, J: Naming, B: QueueNaming, D: Device> Session<'m, J, B, D> {
-    /// One call that takes or gives whole texts.
+    /// One change.
     pub(crate) fn ask<R: Wait>(&mut self, rt: &R, ask: &Asked<'_>) -> Result<Option<Text>, Refusal>
         ensures answers { Answers J.limits self.old self.new (asked ask.now) result }
         ensures counts { Counts self.old self.new (asked ask.now) result }
     {
         let answered = answer_and_keep(rt, self.alloc, self.map, &mut self.seated, ask);
-        self.stats.count(ask, &answered);
+        self.stats.count_change(ask, &answered);
         answered
     }
 
@@ -62,6 +62,8 @@ impl<'m, J: Naming, B: QueueNaming, D: Device> Session<'m, J, B, D> {
             caller,
             seat: _,
             room: _,
+            number: _,
+            told: _,
         } = seated;
         caller
     }

@@ -9,11 +9,11 @@ use std::fmt::{Display, Formatter};
 /// The settings of a map. It has a lane for each device that it is opened over.
 #[derive(Clone, Copy, Debug, PartialEq, Eq)]
 pub struct Settings {
-    /// Buckets, 1 to 65,536. A bucket's pairs are one object, so that a map of many pairs wants many.
+    /// Buckets, 1 to 2^22. A bucket's pairs are one object, so that a map of many pairs wants many.
     pub buckets: u32,
-    /// Frames in memory, each for one object, 1 to 65,536.
+    /// Frames in memory, each for one object, 1 to 2^22.
     pub frames: u32,
-    /// The most bytes of an object, 4 to 1,048,576.
+    /// The most bytes of an object, 4 to 2^24.
     pub limit: u32,
     /// Names that may be drawn, 1 to 2^40 - 1: each change draws one, and each move of an object.
     pub names: u64,
@@ -21,6 +21,9 @@ pub struct Settings {
     pub passes: u32,
     /// Spares that the queue to the evictor holds, 1 to 4,096.
     pub spares: u32,
+    /// The most bytes of objects in frames, which the map comes back below by itself: where objects differ in size, the number of
+    /// frames alone bounds no memory. `u64::MAX` for as many as the frames hold.
+    pub bytes: u64,
     /// The format of an object that is written to a device, 1 or 2; the second has a header with its bucket and name.
     pub format: u32,
 }
@@ -40,7 +43,7 @@ pub enum Setting {
 
 impl Settings {
     /// So many buckets and frames, and objects of so many bytes at most; and all names and passes that there can be, 256 spares,
-    /// and the second format.
+    /// no bound on the bytes in frames, and the second format.
     pub fn new(buckets: u32, frames: u32, limit: u32) -> Settings
         ensures { result ≡ new_settings buckets frames limit }
     {
@@ -51,6 +54,7 @@ impl Settings {
             names: (1 << 40) - 1,
             passes: 65_535,
             spares: 256,
+            bytes: u64::MAX,
             format: 2,
         }
     }

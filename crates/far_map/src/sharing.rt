@@ -1,7 +1,7 @@
 //! One worker after another, side by side as far as threads can be started, and beside the evictor.
 ghost use Rattle.std.specs.Prelude.{◌≡◌, ◌<◌, ◌^◌, ◌++◌, ◌∷◌, [], map, vec_len, IfOk, IfErr};
 ghost use Rattle.std.specs.Thread.{IsSync, IsSend};
-ghost use Rattle.far_map.specs.Faults.{IsOfWorker};
+ghost use Rattle.far_map.specs.declared.fault.RunFault.TheVariants.{Memory};
 ghost use Rattle.far_map.specs.Runs.{IsServed, Worked};
 
 use crate::entering::Newcomer;
@@ -27,7 +27,7 @@ fn with_last<J: Naming, T: Drop>(
 ) -> Result<Ended<J, T>, RunFault>
     ensures callers { IfOk result (λ r. map (λ c. c.pass) r.0.items ≡ map (λ c. c.pass) others.0.items ++ last.0.pass ∷ []) }
     ensures outs { IfOk result (λ r. r.1.items ≡ others.1.items ++ last.1 ∷ []) }
-    ensures fault { IfErr result IsOfWorker }
+    ensures fault { IfErr result (λ fault. fault ≡ Memory) }
 {
     let (mut callers, mut outs) = others;
     let (caller, out) = last;
@@ -76,7 +76,7 @@ where
     R: Threads + Wait + Sync,
     requires few { vec_len newcomers < 2 ^ 32 }
     ensures worked { IfOk result (λ r. Worked (λ worker begun ended out. W.done work.now worker J.limits begun ended out) far.now.table.limit (vec_len newcomers) (map (λ c. c.pass) r.0.items) r.1.items) }
-    ensures fault { IfErr result IsOfWorker }
+    ensures fault { IfErr result (λ fault. fault ≡ Memory) }
 {
     let Some(newcomer) = newcomers.pop() else {
         return Ok((Vec::new(alloc), Vec::new(alloc)));
@@ -95,7 +95,7 @@ where
         || -> Result<Ended<J, W::Out>, RunFault>
             requires { IsSync R.row × IsSend J.row × IsSync J.row × IsSend B.row × IsSync B.row × IsSend D.row × IsSync W.row × IsSend W.Out.row × (vec_len newcomers < 2 ^ 32) }
             ensures worked { IfOk result (λ r. Worked (λ worker begun ended out. W.done work.entry.now worker J.limits begun ended out) far.entry.now.table.limit (vec_len newcomers) (map (λ c. c.pass) r.0.items) r.1.items) }
-            ensures fault { IfErr result IsOfWorker }
+            ensures fault { IfErr result (λ fault. fault ≡ Memory) }
         { workers(rt, alloc, far, work, newcomers) },
     );
     let others = others?;
@@ -119,7 +119,7 @@ where
     R: Threads + Wait + Sync,
     requires few { vec_len newcomers < 2 ^ 32 }
     ensures worked { IfOk result (λ r. Worked (λ worker begun ended out. W.done work.now worker J.limits begun ended out) far.now.table.limit (vec_len newcomers) (map (λ c. c.pass) r.0.items) r.1.items) }
-    ensures fault { IfErr result IsOfWorker }
+    ensures fault { IfErr result (λ fault. fault ≡ Memory) }
 {
     if newcomers.len() < 2 {
         return workers(rt, alloc, far, work, newcomers);
@@ -130,7 +130,7 @@ where
         || -> Result<Ended<J, W::Out>, RunFault>
             requires { IsSync R.row × IsSend J.row × IsSync J.row × IsSend B.row × IsSync B.row × IsSend D.row × IsSync W.row × IsSend W.Out.row × (vec_len newcomers < 2 ^ 32) }
             ensures worked { IfOk result (λ r. Worked (λ worker begun ended out. W.done work.entry.now worker J.limits begun ended out) far.entry.now.table.limit (vec_len newcomers) (map (λ c. c.pass) r.0.items) r.1.items) }
-            ensures fault { IfErr result IsOfWorker }
+            ensures fault { IfErr result (λ fault. fault ≡ Memory) }
         {
             let done = workers(rt, alloc, far, work, newcomers);
             far.stop_evicting();

@@ -1,10 +1,14 @@
 //! What a session counts.
-ghost use Rattle.std.specs.Prelude.{◌≡◌};
+ghost use Rattle.std.specs.Prelude.{◌≡◌, ℕ, List};
+ghost use Rattle.table_core.specs.declared.operation.Operation.TheVariants.{Get};
 ghost use Rattle.far_map.specs.Asks.{asked};
-ghost use Rattle.far_map.specs.Counts.{no_calls, finished_more, refused_more, counted};
+ghost use Rattle.far_map.specs.Counts.{no_calls, refused_more, counted};
+ghost use Rattle.far_map.specs.Removals.{call_of};
 
 use crate::asked::Asked;
 use crate::refusal::Refusal;
+use far_object::Text;
+use hash_table::Removal;
 
 /// What a session has counted of its own calls: those that were finished, by kind, and those that were refused, by reason. A
 /// count of 2^64 - 1 stays.
@@ -48,17 +52,6 @@ impl Stats {
         }
     }
 
-    fn finish(&mut self, ask: &Asked<'_>)
-        ensures { self.new ≡ finished_more (asked ask.now) self.old }
-    {
-        match ask {
-            Asked::Get(_) => self.gets = more(self.gets),
-            Asked::Put(_, _) => self.puts = more(self.puts),
-            Asked::Remove(_) => self.removes = more(self.removes),
-            Asked::PutIf(_, _, _) => self.put_ifs = more(self.put_ifs),
-        }
-    }
-
     fn refuse(&mut self, refusal: Refusal)
         ensures { self.new ≡ refused_more refusal self.old }
     {
@@ -72,12 +65,38 @@ impl Stats {
         }
     }
 
-    /// Counts a call that was answered so.
-    pub(crate) fn count<T>(&mut self, ask: &Asked<'_>, answered: &Result<T, Refusal>)
-        ensures { self.new ≡ counted (asked ask.now) answered.now self.old }
+    /// Counts a get that was answered so.
+    pub(crate) fn count_get<T>(&mut self, answered: &Result<T, Refusal>)
+        ensures { (k : List ℕ) → self.new ≡ counted (Get k) answered.now self.old }
     {
         match answered {
-            Ok(_) => self.finish(ask),
+            Ok(_) => self.gets = more(self.gets),
+            Err(refusal) => self.refuse(*refusal),
+        }
+    }
+
+    /// Counts a change that was answered so.
+    pub(crate) fn count_change(&mut self, ask: &Asked<'_>, answered: &Result<Option<Text>, Refusal>)
+        ensures { self.new ≡ counted (asked ask.now) answered.now self.old }
+    {
+        if let Err(refusal) = answered {
+            self.refuse(*refusal);
+            return;
+        }
+        match ask {
+            Asked::Put(_, _) => self.puts = more(self.puts),
+            Asked::Remove(_) => self.removes = more(self.removes),
+            Asked::PutIf(_, _, _) => self.put_ifs = more(self.put_ifs),
+        }
+    }
+
+    /// Counts a removal on a condition that was answered so: one that took nothing out was a get.
+    pub(crate) fn count_removal(&mut self, answered: &Result<Removal<Text>, Refusal>)
+        ensures { (k : List ℕ) → self.new ≡ counted (call_of k answered.now) answered.now self.old }
+    {
+        match answered {
+            Ok(removal) if removal.removed => self.removes = more(self.removes),
+            Ok(_) => self.gets = more(self.gets),
             Err(refusal) => self.refuse(*refusal),
         }
     }

@@ -46,7 +46,7 @@ impl<'m, J: Naming, B: QueueNaming, D: Device> Session<'m, J, B, D> {
         requires { F.IsAlwaysCallable make.now }
         ensures { IsTried J.limits key.now (λ found made. (lent : _) × (lent_value lent ≡ found) × F.post make.now lent made) self.old self.new result }
     {
-        let found = self.ask(rt, &Asked::Get(key))?;
+        let found = self.copy(rt, key)?;
         let Some(value) = make(found.as_ref()) else {
             return Ok(Some(Updated::Left(found)));
         };

@@ -2,7 +2,8 @@
 ghost use Rattle.std.specs.Prelude.{◌≡◌, ◌<◌, IfOk, IfErr};
 ghost use Rattle.std.specs.List.{FoldsTo};
 ghost use Rattle.version_words.specs.Views.{Goes};
-ghost use Rattle.far_map.specs.Visits.{AreOfBucket, IsUnread, IsVisit};
+ghost use Rattle.far_map.specs.Refusals.{IsUnread};
+ghost use Rattle.far_map.specs.Visits.{AreOfBucket, IsVisit};
 
 use crate::keeping::Seated;
 use crate::map::FarMap;

@@ -171,7 +171,7 @@ fn over_queue<R: Clock + Wait, J: Naming, B: QueueNaming>(
         evictor: evictor(alloc, table, taker, frames)?,
         work,
     };
-    alone(rt, &queue, worker, rounds)
+    alone(rt, rt, &queue, worker, rounds)
 }
 
 fn on_table<R: Clock + Wait, J: Naming>(

@@ -149,7 +149,7 @@ fn on_opened<R: Alloc<A = Global> + Clock + Print + Wait, J: Naming>(
     };
     let out = Vec::with_capacity(alloc, ROOM)?;
     let keeper = Keeper { names, round, out };
-    alone(rt, &one_lane(alloc)?, keeper, rounds)
+    alone(rt, rt, &one_lane(alloc)?, keeper, rounds)
 }
 
 fn time<R: Alloc<A = Global> + Clock + Print + Wait>(

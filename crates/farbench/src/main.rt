@@ -25,9 +25,11 @@ const USAGE: &str = "usage: farbench words ROUNDS
        farbench plain BUCKETS <FILE
        farbench mixed VALUE FRAMES";
 
-fn run<R: Alloc<A = Global> + Clock + Env + Files + Input + Print + Threads + Wait + Sync>(
-    rt: &R,
-) -> Result<()> {
+/// Runs the benchmark that the program's words ask for. A map's workers read the clock by the program's own handle.
+fn run<R>(rt: &R, host: &HostRuntime) -> Result<()>
+where
+    R: Alloc<A = Global> + Clock + Env + Files + Input + Print + Threads + Wait + Sync,
+{
     let mut words = env::args(rt)?.skip(1);
     let (Some(layer), Some(count)) = (words.next(), words.next()) else {
         println!(rt; "{USAGE}")?;
@@ -41,11 +43,13 @@ fn run<R: Alloc<A = Global> + Clock + Env + Files + Input + Print + Threads + Wa
         ("table", Some(rounds)) => table::measure(rt, count, rounds.as_str().parse::<u32>()?),
         ("evicting", None) => evicting::measure(rt, count),
         ("plain", None) => plain::run(rt, count),
-        ("mixed", Some(frames)) => mixed::measure(rt, count, frames.as_str().parse::<u32>()?),
+        ("mixed", Some(frames)) => {
+            mixed::measure(rt, host, count, frames.as_str().parse::<u32>()?)
+        }
         _ => bail!("no such benchmark: without arguments their usage is printed"),
     }
 }
 
 fn main(rt: HostRuntime) -> Result<()> {
-    run(&rt)
+    run(&rt, &rt)
 }

@@ -126,7 +126,7 @@ fn move_all<R: Alloc<A = Global> + Clock + Print + Wait, J: Naming>(
     let count = u32::try_from(keys.len())?;
     for (name, call) in MOVES {
         let own = of_all(rt.alloc(), table, keys, call)?;
-        print(rt, name, 1, count, alone(rt, table, own, count)?)?;
+        print(rt, name, 1, count, alone(rt, rt, table, own, count)?)?;
     }
     Ok(())
 }

@@ -32,19 +32,28 @@ pub trait Runner<S> {
     fn end<R: Wait>(&mut self, _rt: &R, _shared: &S) {}
 }
 
-/// Where threads wait for one another, so that none has all for itself while others are being started. They don't yield
-/// meanwhile: one that is put to sleep here would begin too late.
+/// Where threads wait for one another, so that none has all for itself while others are being started, as often as they come
+/// here. They don't yield meanwhile: one that is put to sleep here would begin too late.
 #[derive(Drop)]
-struct Gate {
+pub struct Gate {
     threads: u64,
     arrived: AtomicU64,
 }
 
 impl Gate {
-    fn pass(&self) {
-        self.arrived.fetch_add(1, Ordering::SeqCst);
+    pub fn new(threads: u32) -> Gate {
+        Gate {
+            threads: u64::from(threads.max(1)),
+            arrived: AtomicU64::new(0),
+        }
+    }
+
+    pub fn pass(&self) {
+        let before = self.arrived.fetch_add(1, Ordering::SeqCst);
+        let round = before.checked_div(self.threads).unwrap_or(0);
+        let wanted = round.wrapping_add(1).wrapping_mul(self.threads);
         for _ in 0..LONGEST_WAIT {
-            if self.arrived.load(Ordering::SeqCst) >= self.threads {
+            if self.arrived.load(Ordering::SeqCst) >= wanted {
                 return;
             }
             spin_loop();
@@ -61,8 +70,8 @@ pub struct Span {
 }
 
 impl Span {
-    // From the earlier beginning to the later end.
-    fn and(self, other: Span) -> Span {
+    /// From the earlier beginning to the later end.
+    pub fn and(self, other: Span) -> Span {
         Span {
             began: self.began.min(other.began),
             ended: self.ended.max(other.ended),
@@ -91,15 +100,16 @@ fn run<R: Wait, S, T: Runner<S>>(rt: &R, shared: &S, runner: &mut T, rounds: u32
 }
 
 /// The calls of one thread, with the clock read right before and right after them.
-fn timed<R: Clock + Wait, S, T: Runner<S> + Drop>(
+fn timed<C: Clock, R: Wait, S, T: Runner<S> + Drop>(
+    clock: &C,
     rt: &R,
     shared: &S,
     mut runner: T,
     rounds: u32,
 ) -> Option<Span> {
-    let began = nanoseconds_now(rt)?;
+    let began = nanoseconds_now(clock)?;
     let lost = run(rt, shared, &mut runner, rounds);
-    let ended = nanoseconds_now(rt)?;
+    let ended = nanoseconds_now(clock)?;
     Some(Span { began, ended, lost })
 }
 
@@ -123,13 +133,14 @@ fn told(span: Option<Span>) -> Result<Span> {
 }
 
 /// Has this thread make so many calls.
-pub fn alone<R: Clock + Wait, S, T: Runner<S> + Drop>(
+pub fn alone<C: Clock, R: Wait, S, T: Runner<S> + Drop>(
+    clock: &C,
     rt: &R,
     shared: &S,
     runner: T,
     rounds: u32,
 ) -> Result<Span> {
-    told(timed(rt, shared, runner, rounds))
+    told(timed(clock, rt, shared, runner, rounds))
 }
 
 /// Has each make so many calls in a thread of its own. What they took goes from the first beginning to the last end: what each
@@ -140,17 +151,13 @@ pub fn race<R: Clock + Threads + Wait + Sync, S: Sync, T: Runner<S> + Send + Dro
     runners: Vec<T>,
     rounds: u32,
 ) -> Result<Span> {
-    let gate = Gate {
-        threads: runners.len() as u64,
-        arrived: AtomicU64::new(0),
-    };
-    let gate = &gate;
+    let gate = &Gate::new(u32::try_from(runners.len())?);
     let spans = map_vec(
         rt,
         runners,
         &|runner| {
             gate.pass();
-            timed(rt, shared, runner, rounds)
+            timed(rt, rt, shared, runner, rounds)
         },
     )?;
     told(from_first(&spans))

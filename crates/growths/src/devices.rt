@@ -1,4 +1,4 @@
-//! The calls of each device of `far_device`, over a device in the process.
+//! The calls of each device of `far_device`, over a device in the process, and of one on a disk.
 
 use crate::trials::{
     Answer, Outcome, Tried, answer, is_appended, is_nine, nine, tell, tell_of, tried,
@@ -7,10 +7,15 @@ use far_device::{
     CannedDevice, Device, DeviceFault, FakeDevice, FaultyDevice, LyingDevice, WatchedDevice,
 };
 use far_object::Memory;
+use file_device::{DiskFault, FileDevice, FileDisk, MemoryDisk};
 use std::alloc::Global;
-use std::io;
+use std::fs::File;
+use std::hash::RandomState;
+use std::random::RandomSource;
+use std::rt::Files;
 use std::sync::Arc;
 use std::sync::atomic::AtomicU64;
+use std::{fs, io};
 
 /// The id that has bytes before a call.
 const KNOWN: u64 = 7;
@@ -147,7 +152,11 @@ fn prepared<'s, D: Device>(
     if device.write(KNOWN, OLD).is_err() {
         return Err(Memory);
     }
-    let seen = Vec::with_capacity(alloc, 100)?;
+    let mut seen = Vec::with_capacity(alloc, 100)?;
+    // A device in files makes the room that a look needs.
+    if device.read(KNOWN, &mut seen).is_err() {
+        return Err(Memory);
+    }
     Ok(Tested {
         device,
         shown,
@@ -178,6 +187,50 @@ fn watched(alloc: Global) -> Result<WatchedDevice<FakeDevice>, Memory> {
     Ok(WatchedDevice::new(FakeDevice::new(alloc), writes, failures))
 }
 
+/// Random bytes that are all 0: what is tried is memory.
+struct Zeros;
+
+impl RandomSource for Zeros {
+    fn fill_bytes(&self, _buf: &mut [u8]) -> io::Result<()> {
+        Ok(())
+    }
+}
+
+fn on_disk(alloc: Global) -> Result<FileDevice<MemoryDisk>, Memory> {
+    match RandomState::new(&Zeros) {
+        Ok(keys) => Ok(FileDevice::new(alloc, MemoryDisk::new(alloc), keys)),
+        Err(_) => Err(Memory),
+    }
+}
+
+/// A folder of its own for scratch files, so that nothing else in it is listed.
+const FOLDER: &str = "/tmp/fazhitta-growths";
+
+/// Opens a device in files.
+fn open_files<R>(rt: &R) -> Result<FileDevice<FileDisk<R>>, DiskFault>
+where
+    R: Files<File = File> + Alloc<A = Global> + RandomSource + Copy + Drop,
+{
+    FileDevice::open(*rt, FOLDER, 0)
+}
+
+fn in_files<R>(rt: &R) -> Result<FileDevice<FileDisk<R>>, Memory>
+where
+    R: Files<File = File> + Alloc<A = Global> + RandomSource + Copy + Drop,
+{
+    open_files(rt).map_err(|_| Memory)
+}
+
+fn open<R>(rt: &R) -> Tried
+where
+    R: Files<File = File> + Alloc<A = Global> + RandomSource + Copy + Drop,
+{
+    Ok(tried!(
+        answer!(open_files(rt), device => device.failures() == 0, DiskFault::Memory),
+        true
+    ))
+}
+
 fn write<D: Device>(alloc: Global, made: Result<D, Memory>, shown: Shown<'_>, id: u64) -> Tried {
     Ok(prepared(alloc, made, shown)?.write(id))
 }
@@ -195,11 +248,12 @@ fn construct<D: Device>(alloc: Global, made: Result<D, Memory>, shown: Shown<'_>
     Ok(prepared(alloc, made, shown)?.construct())
 }
 
-/// Writes one id after another to an empty device, so that its tree gets its first node and, many ids later, more.
-fn append_many(alloc: Global) -> Tried {
+/// Writes one id after another to an empty device, so that its index gets its first room and, many ids later, more.
+fn append_many<D: Device>(alloc: Global, made: Result<D, Memory>) -> Tried {
+    let device = made?;
     let seen = Vec::with_capacity(alloc, 100)?;
     let mut it = Tested {
-        device: FakeDevice::new(alloc),
+        device,
         shown: PLAIN,
         seen,
     };
@@ -208,6 +262,18 @@ fn append_many(alloc: Global) -> Tried {
         outcome = outcome.then(it.append(id));
     }
     Ok(outcome)
+}
+
+/// An empty device in files, which has the room that a look needs.
+fn in_files_with_room<R>(rt: &R) -> Result<FileDevice<FileDisk<R>>, Memory>
+where
+    R: Files<File = File> + Alloc<A = Global> + RandomSource + Copy + Drop,
+{
+    let mut it = prepared(rt.alloc(), in_files(rt), PLAIN)?;
+    match it.remove() {
+        Outcome::Right => Ok(it.device),
+        _ => Err(Memory),
+    }
 }
 
 /// Makes each call on a device that is made so, and tells of it.
@@ -237,7 +303,10 @@ where
 }
 
 /// Makes each call of each device and tells of it.
-pub fn tell_all<R: Alloc<A = Global> + Print>(rt: &R) -> io::Result<()> {
+pub fn tell_all<R>(rt: &R) -> io::Result<()>
+where
+    R: Files<File = File> + Alloc<A = Global> + RandomSource + Print + Copy + Drop,
+{
     // One that lies gives all but the last byte.
     let lied = Shown {
         old: &[1; 19],
@@ -248,9 +317,21 @@ pub fn tell_all<R: Alloc<A = Global> + Print>(rt: &R) -> io::Result<()> {
         written: CANNED,
     };
     tell_device(rt, "FakeDevice::", fake, PLAIN)?;
-    tell(rt, "FakeDevice::write, many ids", append_many(rt.alloc()))?;
+    let many = append_many(rt.alloc(), fake(rt.alloc()));
+    tell(rt, "FakeDevice::write, many ids", many)?;
     tell_device(rt, "FaultyDevice::", faulty, PLAIN)?;
     tell_device(rt, "LyingDevice::", lying, lied)?;
     tell_device(rt, "CannedDevice::", canned, given)?;
-    tell_device(rt, "WatchedDevice::", watched, PLAIN)
+    tell_device(rt, "WatchedDevice::", watched, PLAIN)?;
+    tell_device(rt, "FileDevice::", on_disk, PLAIN)?;
+    let many = append_many(rt.alloc(), on_disk(rt.alloc()));
+    tell(rt, "FileDevice::write, many ids", many)?;
+    // Where it is there already, it serves too.
+    let _ = fs::create_dir(rt, FOLDER);
+    tell(rt, "FileDevice::open", open(rt))?;
+    tell_device(rt, "FileDevice::open, then ", |_| in_files(rt), PLAIN)?;
+    let many = append_many(rt.alloc(), in_files_with_room(rt));
+    tell(rt, "FileDevice::open, then write, many ids", many)?;
+    let _ = fs::remove_dir(rt, FOLDER);
+    Ok(())
 }

@@ -3,10 +3,11 @@
 
 pub mod worker;
 
+use crate::tables::Taker;
 use crate::tables::user::Place;
 use crate::trials::{Answer, Outcome, Tried, tell, tell_of};
 use far_device::FakeDevice;
-use far_map::{RunFault, Settings, run, run_apart};
+use far_map::{RunFault, Settings, run, run_apart, run_bundled, run_through};
 use far_object::Memory;
 use std::alloc::Global;
 use std::io;
@@ -105,6 +106,45 @@ fn run_apart_once<R: Threads + Wait + Sync>(rt: &R, alloc: Global) -> Result<Ans
     }
 }
 
+/// The same of a run whose pairs come as they are written.
+fn run_bundled_once<R: Threads + Wait + Sync>(rt: &R, alloc: Global) -> Result<Answer, Memory> {
+    let devices = devices(alloc)?;
+    match run_bundled(rt, alloc, settings(), devices, 1, &Putting) {
+        Ok((told, ended)) => {
+            if let Some(Err(Memory)) = told.first() {
+                return Err(Memory);
+            }
+            Ok(match ended {
+                Ok(bundles) => Answer::of(bundles.len() == 1),
+                Err(RunFault::Memory) => Answer::Memory,
+                Err(_) => Answer::Wrong,
+            })
+        }
+        Err(RunFault::Memory) => Ok(Answer::Memory),
+        Err(_) => Ok(Answer::Wrong),
+    }
+}
+
+/// The same of a run that hands its pairs over. A taker that wants memory stops it.
+fn run_through_once<R: Threads + Wait + Sync>(rt: &R, alloc: Global) -> Result<Answer, Memory> {
+    let devices = devices(alloc)?;
+    let mut taker = Taker::new(alloc);
+    match run_through(rt, alloc, settings(), devices, 1, &Putting, &mut taker) {
+        Ok((told, ended)) => {
+            if let Some(Err(Memory)) = told.first() {
+                return Err(Memory);
+            }
+            Ok(match ended {
+                Ok(()) => Answer::of(told.len() == 1 && is_pair(&taker.pairs)),
+                Err(RunFault::Memory | RunFault::Stopped) => Answer::Memory,
+                Err(_) => Answer::Wrong,
+            })
+        }
+        Err(RunFault::Memory) => Ok(Answer::Memory),
+        Err(_) => Ok(Answer::Wrong),
+    }
+}
+
 /// What became of a run, which is gone after a refusal, and of another one then.
 fn told_of<F: Fn() -> Result<Answer, Memory>>(run: F) -> Tried
     requires { F.IsAlwaysCallable run }
@@ -123,6 +163,8 @@ where
     let alloc = rt.alloc();
     tell(rt, "run", told_of(|| run_once(rt, alloc)))?;
     tell(rt, "run_apart", told_of(|| run_apart_once(rt, alloc)))?;
+    tell(rt, "run_bundled", told_of(|| run_bundled_once(rt, alloc)))?;
+    tell(rt, "run_through", told_of(|| run_through_once(rt, alloc)))?;
     for (name, call, place) in CALLS {
         tell_of(rt, "Calls::", name, made(rt, alloc, call, place))?;
     }

@@ -9,7 +9,7 @@ pub mod user;
 use crate::evicting;
 use crate::trials::{Answer, Outcome, Tried, answer, tell, tell_of};
 use far_device::FakeDevice;
-use far_object::{Memory, Text};
+use far_object::{FarObject, Memory, Text};
 use hash_table::{
     Caller, CloseFault, Config, FarTable, HandFault, OpenFault, Opening, Stopped, TakesPairs,
 };
@@ -126,15 +126,18 @@ fn opened(alloc: Global) -> Result<TableOpening, Memory> {
     TableOpening::open(alloc, SETTINGS, devices(alloc)?).map_err(|_| Memory)
 }
 
-fn open_over(alloc: Global, devices: Vec<FakeDevice>) -> Answer {
+fn open_over(alloc: Global, devices: Vec<FakeDevice>, wide: bool) -> Answer {
+    if wide {
+        return answer!(TableOpening::open_wide(alloc, SETTINGS, devices), _ => true, OpenFault::Memory);
+    }
     answer!(TableOpening::open(alloc, SETTINGS, devices), _ => true, OpenFault::Memory)
 }
 
 /// Opens a table, and after a refusal, which drops its device, one over another device.
-fn open(alloc: Global) -> Tried {
+fn open(alloc: Global, wide: bool) -> Tried {
     let (first, second) = (devices(alloc)?, devices(alloc)?);
-    Ok(match open_over(alloc, first) {
-        Answer::Memory => Outcome::after_memory(true, open_over(alloc, second)),
+    Ok(match open_over(alloc, first, wide) {
+        Answer::Memory => Outcome::after_memory(true, open_over(alloc, second, wide)),
         answer => Outcome::at_once(answer),
     })
 }
@@ -201,11 +204,19 @@ fn close<R: Wait, J: Naming>(rt: &R, alloc: Global, table: Table<J>) -> Tried {
 
 /// Takes pairs, and stops where that is refused memory.
 #[derive(Drop)]
-struct Taker {
-    pairs: Vec<(u64, Text)>,
+pub struct Taker<K: FarObject> {
+    pub pairs: Vec<(K, Text)>,
 }
 
-impl TakesPairs<u64, Text> for Taker {
+impl<K: FarObject> Taker<K> {
+    pub fn new(alloc: Global) -> Taker<K> {
+        Taker {
+            pairs: Vec::new(alloc),
+        }
+    }
+}
+
+impl<K: FarObject> TakesPairs<K, Text> for Taker<K> {
     ghost use Rattle.std.specs.Prelude.{◌≡◌, ◌++◌, ⊤, MatchResult};
     ghost use Rattle.std.proofs.Common.{ap, sym, ◌∙◌};
     ghost use Rattle.std.proofs.lemmas.List.{append-nil, append_assoc};
@@ -218,7 +229,7 @@ impl TakesPairs<u64, Text> for Taker {
 
     ghost takes_both = { λ x y z first last one other. other ∙ (ap (λ items. items ++ last) one ∙ append_assoc x.pairs.items first last) };
 
-    fn take(&mut self, mut pairs: Vec<(u64, Text)>) -> Result<(), Stopped>
+    fn take(&mut self, mut pairs: Vec<(K, Text)>) -> Result<(), Stopped>
         ensures { MatchResult result (λ _. self.new.pairs.items ≡ self.old.pairs.items ++ pairs.items) (λ _. ⊤) }
     {
         match self.pairs.append(&mut pairs) {
@@ -231,9 +242,7 @@ impl TakesPairs<u64, Text> for Taker {
 /// Hands over the pairs of the table as it ends. After a refusal it is closed, and all callers have come back.
 fn close_through<R: Wait, J: Naming>(rt: &R, alloc: Global, table: Table<J>) -> Tried {
     let callers = callers(rt, alloc, &table)?;
-    let mut taker = Taker {
-        pairs: Vec::new(alloc),
-    };
+    let mut taker = Taker::new(alloc);
     match table.close_through(rt, alloc, callers, &mut taker) {
         Ok(()) => Ok(Outcome::at_once(Answer::of(taker.pairs.len() == 2))),
         Err((HandFault::Close(CloseFault::Memory) | HandFault::Stopped, table, callers)) => {
@@ -280,7 +289,8 @@ pub fn made<R: Wait>(rt: &R, alloc: Global, call: Call) -> Tried {
 /// Makes each call and tells of it.
 pub fn tell_all<R: Alloc<A = Global> + Print + Wait>(rt: &R) -> io::Result<()> {
     let alloc = rt.alloc();
-    tell(rt, "Opening::open", open(alloc))?;
+    tell(rt, "Opening::open", open(alloc, false))?;
+    tell(rt, "Opening::open_wide", open(alloc, true))?;
     tell(rt, "Opening::named", named(alloc))?;
     for (name, call) in CALLS {
         let owner = match call {

@@ -5,7 +5,8 @@ use Rattle.std.specs.Option.{option_map}
 use Rattle.std.proofs.lemmas.Bool.Decides.{nat_tests}
 use Rattle.std.proofs.lemmas.Grind.{common_steps}
 use Rattle.hash_table.specs.declared.config.Config.{Config}
-use Rattle.hash_table.specs.Configs.{first_bad, first_bad_with, or_lanes}
+use Rattle.hash_table.specs.Configs.{first_bad, first_bad_with, first_bad_wide_with, or_lanes}
+use Rattle.hash_table.proofs.Settings.{usual_is_wide}
 use Rattle.far_map.specs.Settings.{config_of, setting_of}
 use Rattle.far_map.specs.Settings.{first_bad as first_bad_setting}
 use Rattle.threaded_run.specs.Settings.{settings_of}
@@ -27,4 +28,4 @@ pub config_back : (devices : ℕ) (c : Config) → first_bad_with devices c ≡ 
 config_back devices c h = ap (λ (n : ℕ). record c { lanes = n }) (lanes_are devices c h)
 
 pub none_bad : (devices : ℕ) (c : Config) → first_bad_with devices c ≡ None → first_bad_setting (settings_of c) devices ≡ None
-none_bad devices c h = ap (λ (k : Config). option_map setting_of (first_bad_with devices k)) (config_back devices c h) ∙ ap (option_map setting_of) h
+none_bad devices c h = ap (λ (k : Config). option_map setting_of (first_bad_wide_with devices k)) (config_back devices c h) ∙ ap (option_map setting_of) (usual_is_wide devices c h)

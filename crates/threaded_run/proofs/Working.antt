@@ -1,5 +1,5 @@
 -- A worker, one command after another, and all workers of a run.
-use Rattle.std.proofs.Common.{◌≡◌, ℕ, zero, suc, ◌+◌, ◌<◌, ◌≤◌, IsTrue, Option, None, Result, Ok, Err, IfOk, List, [], ◌∷◌, ◌++◌, length, take, get_or, map, refl, ap, sym, ◌∙◌, subst, arith, add-one, length-append, inl, inr, ◌⊎◌}
+use Rattle.std.proofs.Common.{◌≡◌, ℕ, zero, suc, ◌+◌, ◌<◌, ◌≤◌, IsTrue, Option, None, Result, Ok, Err, IfOk, List, [], ◌∷◌, ◌++◌, length, take, get_or, map, refl, ap, sym, ◌∙◌, subst, arith, add-one, length-append}
 use Rattle.std.specs.Prelude.{slice_index_or}
 use Rattle.std.specs.Global.{Vec}
 use Rattle.std.proofs.lemmas.List.{take_all, map-append}
@@ -18,7 +18,7 @@ use Rattle.threaded_run.specs.declared.fault.WorkFault.{WorkFault}
 use Rattle.threaded_run.specs.declared.fault.WorkFault.TheVariants as work
 use Rattle.threaded_run.specs.Replies.{View, MayReply, RunsTo, RunsOn}
 use Rattle.threaded_run.specs.Runs.{Served as FileRun}
-use Rattle.threaded_run.specs.Runs.{EndedView, IsServed, EndedIs, AreGiven, IsFirstFault, WorkedAll}
+use Rattle.threaded_run.specs.Runs.{EndedView, IsServed, EndedIs, AreGiven, HaveLines, WorkedAll}
 use Rattle.threaded_run.proofs.Stepping.{history_grows, stays, step}
 
 taken : {A : Type 0} (xs : List A) (i : ℕ) (x : A) → i < length xs → x ≡ get_or xs i x → take (i + 1) xs ≡ take i xs ++ x ∷ []
@@ -97,22 +97,21 @@ Lines = Result (Vec ℕ) WorkFault
 abbrev pub Gives : List (List Command) → ℕ → Limits → SessionView → SessionView → Lines → Type 0
 Gives files worker l begun ended out = IfOk out (λ lines. EndedIs l begun.limit begun.pass (slice_index_or files worker []) (record { pass = ended.pass; text = lines.items }))
 
-front : (outs : List Lines) (last : Lines) (fault : WorkFault) → IsFirstFault outs fault → IsFirstFault (outs ++ last ∷ []) fault
-front [] last fault h = absurd h
-front (Ok lines ∷ outs) last fault h = front outs last fault h
-front (Err e ∷ outs) last fault h = h
+lines_front : (outs : List Lines) (last : Lines) → HaveLines (outs ++ last ∷ []) → HaveLines outs
+lines_front [] last h = tt
+lines_front (Ok lines ∷ outs) last h = lines_front outs last h
+lines_front (Err e ∷ outs) last h = absurd h
 
-pub fault_front : (outs all : List Lines) (last : Lines) (fault : WorkFault) → all ≡ outs ++ last ∷ [] → IsFirstFault outs fault ⊎ (fault ≡ work.Memory) → IsFirstFault all fault ⊎ (fault ≡ work.Memory)
-fault_front outs all last fault is (inl h) = inl (subst (λ (os : List Lines). IsFirstFault os fault) (sym is) (front outs last fault h))
-fault_front outs all last fault is (inr h) = inr h
+lines_last : (outs : List Lines) (last : Lines) → HaveLines (outs ++ last ∷ []) → HaveLines (last ∷ [])
+lines_last [] last h = h
+lines_last (Ok lines ∷ outs) last h = lines_last outs last h
+lines_last (Err e ∷ outs) last h = absurd h
 
-behind : (outs : List Lines) (texts : List (List ℕ)) (fault : WorkFault) → AreGiven outs texts → IsFirstFault (outs ++ Err fault ∷ []) fault
-behind [] texts fault h = refl
-behind (Ok lines ∷ outs) texts fault h = behind outs h.0 fault h.2
-behind (Err e ∷ outs) texts fault h = absurd h
+pub have_front : (outs all : List Lines) (last : Lines) → all ≡ outs ++ last ∷ [] → HaveLines all → HaveLines outs
+have_front outs all last is h = lines_front outs last (subst (λ (os : List Lines). HaveLines os) is h)
 
-pub fault_here : (outs all : List Lines) (texts : List (List ℕ)) (fault : WorkFault) → all ≡ outs ++ Err fault ∷ [] → AreGiven outs texts → IsFirstFault all fault
-fault_here outs all texts fault is h = subst (λ (os : List Lines). IsFirstFault os fault) (sym is) (behind outs texts fault h)
+pub have_last : (outs all : List Lines) (last : Lines) → all ≡ outs ++ last ∷ [] → HaveLines all → HaveLines (last ∷ [])
+have_last outs all last is h = lines_last outs last (subst (λ (os : List Lines). HaveLines os) is h)
 
 more : (outs : List Lines) (texts : List (List ℕ)) (lines : Vec ℕ) → AreGiven outs texts → AreGiven (outs ++ Ok lines ∷ []) (texts ++ lines.items ∷ [])
 more [] texts lines h = ([], ap (λ (ts : List (List ℕ)). ts ++ lines.items ∷ []) h, refl)

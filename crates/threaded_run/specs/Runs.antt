@@ -51,6 +51,12 @@ AreGiven [] texts = texts ≡ []
 AreGiven (Ok lines ∷ outs) texts = (more : List (List ℕ)) × (texts ≡ lines.items ∷ more) × AreGiven outs more
 AreGiven (Err e ∷ outs) texts = ⊥
 
+-- no worker has a fault
+abbrev pub HaveLines : {E : Type 0} → List (Result (Vec ℕ) E) → Type 0
+HaveLines [] = ⊤
+HaveLines (Ok lines ∷ outs) = HaveLines outs
+HaveLines (Err e ∷ outs) = ⊥
+
 -- the fault of the first worker that has one
 abbrev pub IsFirstFault : List (Result (Vec ℕ) WorkFault) → WorkFault → Type 0
 IsFirstFault [] fault = ⊥

@@ -1,5 +1,5 @@
 //! From settings, devices and commands to a run: a map's workers run the files, and then all is written.
-ghost use Rattle.std.specs.Prelude.{◌≡◌, ◌<◌, ◌≤◌, ◌⊎◌, IsTrue, None, ℕ, List, vec_len, map, IfOk, OnOk, IfErr};
+ghost use Rattle.std.specs.Prelude.{◌≡◌, ◌<◌, ◌≤◌, ◌⊎◌, IsTrue, None, ℕ, List, vec_len, map, IfOk, OnOk, IfErr, IfSome, IfNone};
 ghost use Rattle.std.specs.Io.KnownBytes.{Appends};
 ghost use Rattle.hash_table.specs.Configs.{first_bad_with};
 ghost use Rattle.hash_table.specs.Openings.{WasOpened};
@@ -7,7 +7,7 @@ ghost use Rattle.run_lines.specs.Runs.{Ran};
 ghost use Rattle.threaded_run.specs.declared.fault.WorkFault.TheVariants.{Memory};
 ghost use Rattle.threaded_run.specs.Replies.{MayReply};
 ghost use Rattle.threaded_run.specs.Settings.{settings_of};
-ghost use Rattle.threaded_run.specs.Runs.{AreGiven, IsFirstFault, WritesBefore};
+ghost use Rattle.threaded_run.specs.Runs.{AreGiven, HaveLines, IsFirstFault, WritesBefore};
 
 use crate::fault::{ThreadedFault, WorkFault, of_run, of_work};
 use crate::finishing::finish;
@@ -33,32 +33,61 @@ fn settings_of(config: &Config) -> Settings
         names: config.names,
         passes: config.passes,
         spares: config.spares,
+        bytes: u64::MAX,
         format: config.format,
     }
 }
 
-/// The lines of all workers. The fault is that of the first worker that has one, or `Memory` where a growth is refused.
-fn lines_of(
+/// The fault of the first worker that has one.
+fn first_fault(outs: &[Result<Vec<u8>, WorkFault>]) -> Option<WorkFault>
+    ensures fault { IfSome result (IsFirstFault outs.now) }
+    ensures none { IfNone result (HaveLines outs.now) }
+{
+    let (first, rest) = outs.split_first()?;
+    match first {
+        Ok(_) => first_fault(rest),
+        Err(fault) => Some(*fault),
+    }
+}
+
+/// The lines of all workers, where none has a fault. `Memory` comes where a growth is refused.
+fn all_lines(
     alloc: Global,
     mut outs: Vec<Result<Vec<u8>, WorkFault>>,
 ) -> Result<Vec<Vec<u8>>, WorkFault>
+    requires { HaveLines outs.items }
     ensures given { IfOk result (λ texts. AreGiven outs.items (map (λ t. t.items) texts.items)) }
-    ensures fault { IfErr result (λ fault. IsFirstFault outs.items fault ⊎ (fault ≡ Memory)) }
+    ensures fault { IfErr result (λ fault. fault ≡ Memory) }
 {
     let Some(last) = outs.pop() else {
         return Ok(Vec::new(alloc));
     };
-    let mut texts = match lines_of(alloc, outs) {
-        Ok(texts) => texts,
-        Err(first) => return Err(first),
-    };
     let lines = match last {
         Ok(lines) => lines,
-        Err(fault) => return Err(fault),
+        Err(_fault) => unreachable!(),
+    };
+    let mut texts = match all_lines(alloc, outs) {
+        Ok(texts) => texts,
+        Err(refused) => return Err(refused),
     };
     match texts.push(lines) {
         Ok(()) => Ok(texts),
         Err(_) => Err(WorkFault::Memory),
+    }
+}
+
+/// The lines of all workers. The fault is that of the first worker that has one, and `Memory` where none has one and a growth is
+/// refused.
+fn lines_of(alloc: Global, outs: Vec<Result<Vec<u8>, WorkFault>>) -> Result<Vec<Vec<u8>>, WorkFault>
+    ensures given { IfOk result (λ texts. AreGiven outs.items (map (λ t. t.items) texts.items)) }
+    ensures fault { IfErr result (λ fault. IsFirstFault outs.items fault ⊎ ((fault ≡ Memory) × HaveLines outs.items)) }
+{
+    match first_fault(&outs) {
+        Some(fault) => Err(fault),
+        None => match all_lines(alloc, outs) {
+            Ok(texts) => Ok(texts),
+            Err(refused) => Err(refused),
+        },
     }
 }
 

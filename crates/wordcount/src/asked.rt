@@ -35,15 +35,15 @@ pub fn command<'a>(alloc: Global) -> Result<Command<'a>, Error> {
             alloc,
             "buckets",
             1,
-            65_536,
-            "Buckets of the map, 1 to 65536 [65536]",
+            4_194_304,
+            "Buckets of the map, 1 to 4194304 [65536]",
         ))?
         .arg(number(
             alloc,
             "frames",
             1,
-            65_536,
-            "Buckets that lie in memory, 1 to 65536 [4096]",
+            4_194_304,
+            "Buckets that lie in memory, 1 to 4194304 [4096]",
         ))?
         .arg(number(
             alloc,

@@ -199,6 +199,16 @@ const MOST_PAIRS: &[(Step, Said)] = &[
     (Step::Waiting, Said::Count(1)),
 ];
 
+/// Where the limit of a wide table has room for more, it is the pairs that are too many.
+const MOST_PAIRS_OF_WIDE: &[(Step, Said)] = &[
+    (Step::Put(b'a', 1), Said::Nothing),
+    (Step::SwapOut(0), Said::Is(true)),
+    (Step::Put(b'a', 2), Said::Refused(Refusal::Memory)),
+    (Step::PutIf(b'a', None, 2), Said::Refused(Refusal::Memory)),
+    (Step::State(b'a'), Said::In(BucketState::Far(2))),
+    (Step::Waiting, Said::Count(1)),
+];
+
 #[test]
 fn an_object_of_the_most_pairs_takes_no_more(rt: HostRuntime) {
     let config = Config {
@@ -208,4 +218,12 @@ fn an_object_of_the_most_pairs_takes_no_more(rt: HostRuntime) {
     let bytes = longest(&rt, rt.alloc());
     let opening = table_over(&rt, config, giving(&rt, bytes.as_slice()));
     plays(&rt, opening, Scene::Script(MOST_PAIRS));
+    let config = Config {
+        limit: 16_777_216,
+        ..settings()
+    };
+    let mut devices = Vec::new(rt.alloc());
+    made(&rt, devices.push(giving(&rt, bytes.as_slice())));
+    let opening = made(&rt, Opening::open_wide(rt.alloc(), config, devices));
+    plays(&rt, opening, Scene::Script(MOST_PAIRS_OF_WIDE));
 }

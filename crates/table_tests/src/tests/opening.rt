@@ -3,11 +3,12 @@
 use super::devices::BrokenDevice;
 use super::expect::{equal, made, prints};
 use super::scene::{Scene, plays};
+use super::script::{Said, Step};
 use super::users::{MANY, entered, settings, table_over};
 use far_device::{Device, FakeDevice};
 use far_object::Text;
 use hash_table::{
-    CloseFault, Config, FarTable, HandFault, OpenFault, Opening, ReclaimFault, Refusal,
+    BucketState, CloseFault, Config, FarTable, HandFault, OpenFault, Opening, ReclaimFault, Refusal,
 };
 use std::alloc::Global;
 use std::marker::Brand;
@@ -29,6 +30,15 @@ fn fault<R: Alloc<A = Global> + Abort>(
     devices: usize,
 ) -> Option<OpenFault> {
     Opening::<Text, Text, FakeDevice>::open(rt.alloc(), config, fakes(rt, devices)).err()
+}
+
+/// The same of a wide table.
+fn fault_of_wide<R: Alloc<A = Global> + Abort>(
+    rt: &R,
+    config: Config,
+    devices: usize,
+) -> Option<OpenFault> {
+    Opening::<Text, Text, FakeDevice>::open_wide(rt.alloc(), config, fakes(rt, devices)).err()
 }
 
 /// The settings with one field, by its number, at this value.
@@ -86,6 +96,44 @@ fn the_first_bad_setting_is_named(rt: HostRuntime) {
     }
 }
 
+/// The same of a wide table: three fields may be greater there.
+const OUTSIDE_WIDE: [(u32, u64, usize); 17] = [
+    (1, 0, 1),
+    (1, 4_194_305, 1),
+    (2, 0, 1),
+    (2, 4_194_305, 1),
+    (3, 3, 1),
+    (3, 16_777_217, 1),
+    (4, 0, 1),
+    (4, 1 << 40, 1),
+    (5, 0, 1),
+    (5, 65_536, 1),
+    (6, 0, 0),
+    (6, 2, 1),
+    (6, 65, 65),
+    (7, 0, 1),
+    (7, 4_097, 1),
+    (8, 0, 1),
+    (8, 3, 1),
+];
+
+#[test]
+fn the_first_bad_setting_of_a_wide_table_is_named(rt: HostRuntime) {
+    for (field, value, devices) in OUTSIDE_WIDE {
+        let wanted = Some(OpenFault::BadConfig(field));
+        equal(&rt, fault_of_wide(&rt, with(field, value), devices), wanted);
+        let first = Config {
+            buckets: 0,
+            ..with(field, value)
+        };
+        equal(
+            &rt,
+            fault_of_wide(&rt, first, devices),
+            Some(OpenFault::BadConfig(1)),
+        );
+    }
+}
+
 /// So many callers can enter, and no other; and so many frames are free.
 pub fn enters<J: Naming, D: Device, R: Abort>(
     rt: &R,
@@ -126,6 +174,56 @@ fn settings_at_their_limits(rt: HostRuntime) {
     plays(&rt, opening, Scene::Enters(65_535, 65_536));
     let opening = made(&rt, Opening::open(rt.alloc(), least, fakes(&rt, 1)));
     plays(&rt, opening, Scene::Enters(1, 1));
+}
+
+/// Opens a wide table with these settings over a device in the process.
+fn wide<R: Alloc<A = Global> + Abort>(rt: &R, config: Config) -> Opening<Text, Text, FakeDevice> {
+    made(rt, Opening::open_wide(rt.alloc(), config, fakes(rt, 1)))
+}
+
+/// Its second caller who recycles begins in the middle of the frames.
+const FRAMES_ABOVE_65_536: &[(Step, Said)] = &[
+    (Step::Put(b'a', 1), Said::Nothing),
+    (Step::PutByRecycler(b'b', 2), Said::Nothing),
+    (Step::Seen(0), Said::Frame(128, 1)),
+    (Step::Seen(524_288), Said::Frame(129, 2)),
+    (Step::Get(b'b'), Said::Value(2)),
+    (Step::Touched(524_288), Said::Is(true)),
+    (Step::SwapOut(524_288), Said::Is(true)),
+    (Step::State(b'b'), Said::In(BucketState::Far(3))),
+    (Step::ReadThrough(b'b'), Said::Value(2)),
+    (Step::Reclaim, Said::Is(true)),
+    (Step::Seen(524_288), Said::Nothing),
+    (Step::Get(b'b'), Said::Value(2)),
+    (Step::Seen(1), Said::Frame(129, 4)),
+    (Step::Remove(b'b'), Said::Value(2)),
+    (Step::Get(b'b'), Said::Nothing),
+];
+
+#[test]
+fn a_wide_table_has_many_buckets_and_frames(rt: HostRuntime) {
+    let config = Config {
+        buckets: 1_048_576,
+        frames: 1_048_576,
+        limit: 16_777_216,
+        ..settings()
+    };
+    plays(&rt, wide(&rt, config), Scene::Script(FRAMES_ABOVE_65_536));
+}
+
+#[test]
+fn a_wide_table_may_be_small(rt: HostRuntime) {
+    let least = Config {
+        buckets: 1,
+        frames: 1,
+        limit: 4,
+        names: 1,
+        passes: 1,
+        lanes: 1,
+        spares: 1,
+        format: 1,
+    };
+    plays(&rt, wide(&rt, least), Scene::Enters(1, 1));
 }
 
 #[test]

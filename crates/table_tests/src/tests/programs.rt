@@ -1,5 +1,6 @@
 //! The map as programs use it: the one that the docs show, a crowd over few frames, and each refusal and fault.
 
+mod bounded;
 mod crowded;
 mod holds;
 mod moves;
@@ -7,5 +8,6 @@ mod numbers;
 mod planets;
 mod refusals;
 mod removals;
+mod through;
 mod updates;
 mod visits;

@@ -5,15 +5,15 @@ use Rattle.far_map.proofs.Trying.{read_none, read_some, read_scope, refused_from
 use Rattle.far_map.proofs.Losses.{loses_trans, came}
 use Rattle.far_map.proofs.reading.read_value.Goals as goal
 
-pub returns-in-Ok-None-answer-clause-read : goal.returns-in-Ok-None-answer-clause-read
-returns-in-Ok-None-answer-clause-read g c =
-    read_none g.J.Naming.limits c.args.map.now.table.limit c.args.seated.now.caller.pass c.open_near.new.caller.pass c.answer.new.seated.caller.pass c.args.key.now c.in-Ok-None-answer.field-0 (search rules)
-    c.in-Err.ensures.tries.goes c.in-Ok-None-answer.ensures.answers
+pub returns-in-Ok-None-copy_value-clause-read : goal.returns-in-Ok-None-copy_value-clause-read
+returns-in-Ok-None-copy_value-clause-read g c =
+    read_none g.J.Naming.limits c.args.map.now.table.limit c.args.seated.now.caller.pass c.open_near.new.caller.pass c.copy_value.new.caller.pass c.args.key.now c.in-Ok-None-copy_value.field-0 (search rules)
+    c.in-Err.ensures.tries.goes c.in-Ok-None-copy_value.ensures.answers
 
-pub returns-in-Ok-Some-answer-clause-read : goal.returns-in-Ok-Some-answer-clause-read
-returns-in-Ok-Some-answer-clause-read g c =
-    read_some g.J.Naming.limits c.args.map.now.table.limit c.args.seated.now.caller.pass c.open_near.new.caller.pass c.answer.new.seated.caller.pass c.args.key.now (FnOnceReturnsAt g.F.FnOnce c.args.read)
-    c.in-Ok-Some-answer.field-0 c.in-Ok-Some-answer.text c.as_bytes.result.now c.read_bytes.result (search rules) (search rules) c.in-Err.ensures.tries.goes c.in-Ok-Some-answer.ensures.answers c.read_bytes.ensures
+pub returns-in-Ok-Some-copy_value-clause-read : goal.returns-in-Ok-Some-copy_value-clause-read
+returns-in-Ok-Some-copy_value-clause-read g c =
+    read_some g.J.Naming.limits c.args.map.now.table.limit c.args.seated.now.caller.pass c.open_near.new.caller.pass c.copy_value.new.caller.pass c.args.key.now (FnOnceReturnsAt g.F.FnOnce c.args.read)
+    c.in-Ok-Some-copy_value.field-0 c.in-Ok-Some-copy_value.text c.as_bytes.result.now c.read_bytes.result (search rules) (search rules) c.in-Err.ensures.tries.goes c.in-Ok-Some-copy_value.ensures.answers c.read_bytes.ensures
 
 pub returns-in-Ok-None-clause-none_lost : goal.returns-in-Ok-None-clause-none_lost
 returns-in-Ok-None-clause-none_lost g c = came _ _ _ c.open_near.ensures.limbo
@@ -21,14 +21,14 @@ returns-in-Ok-None-clause-none_lost g c = came _ _ _ c.open_near.ensures.limbo
 pub returns-in-Ok-Some-clause-none_lost : goal.returns-in-Ok-Some-clause-none_lost
 returns-in-Ok-Some-clause-none_lost g c = came _ _ _ c.open_near.ensures.limbo
 
-pub returns-in-Ok-None-answer-clause-none_lost : goal.returns-in-Ok-None-answer-clause-none_lost
-returns-in-Ok-None-answer-clause-none_lost g c = loses_trans _ _ _ _ _ _ (came _ _ _ c.open_near.ensures.limbo) c.answer.ensures.none_lost
+pub returns-in-Ok-None-copy_value-clause-none_lost : goal.returns-in-Ok-None-copy_value-clause-none_lost
+returns-in-Ok-None-copy_value-clause-none_lost g c = loses_trans _ _ _ _ _ _ (came _ _ _ c.open_near.ensures.limbo) (came _ _ _ c.copy_value.ensures.limbo)
 
-pub returns-in-Ok-Some-answer-clause-none_lost : goal.returns-in-Ok-Some-answer-clause-none_lost
-returns-in-Ok-Some-answer-clause-none_lost g c = loses_trans _ _ _ _ _ _ (came _ _ _ c.open_near.ensures.limbo) c.answer.ensures.none_lost
+pub returns-in-Ok-Some-copy_value-clause-none_lost : goal.returns-in-Ok-Some-copy_value-clause-none_lost
+returns-in-Ok-Some-copy_value-clause-none_lost g c = loses_trans _ _ _ _ _ _ (came _ _ _ c.open_near.ensures.limbo) (came _ _ _ c.copy_value.ensures.limbo)
 
-pub returns-in-Err-answer-clause-none_lost : goal.returns-in-Err-answer-clause-none_lost
-returns-in-Err-answer-clause-none_lost g c = loses_trans _ _ _ _ _ _ (came _ _ _ c.open_near.ensures.limbo) c.answer.ensures.none_lost
+pub returns-in-Err-copy_value-clause-none_lost : goal.returns-in-Err-copy_value-clause-none_lost
+returns-in-Err-copy_value-clause-none_lost g c = loses_trans _ _ _ _ _ _ (came _ _ _ c.open_near.ensures.limbo) (came _ _ _ c.copy_value.ensures.limbo)
 
 pub returns-in-Ok-Some-clause-read : goal.returns-in-Ok-Some-clause-read
 returns-in-Ok-Some-clause-read g c = (
@@ -37,6 +37,6 @@ returns-in-Ok-Some-clause-read g c = (
   c.read_held.ensures.2,
 )
 
-pub returns-in-Err-answer-clause-read : goal.returns-in-Err-answer-clause-read
-returns-in-Err-answer-clause-read g c =
-    refused_from g.J.Naming.limits c.args.map.now.table.limit c.args.seated.now.caller.pass c.open_near.new.caller.pass c.answer.new.seated.caller.pass (Get c.args.key.now) c.in-Err-answer.refusal c.in-Err.ensures.tries.goes c.in-Err-answer.ensures.answers
+pub returns-in-Err-copy_value-clause-read : goal.returns-in-Err-copy_value-clause-read
+returns-in-Err-copy_value-clause-read g c =
+    refused_from g.J.Naming.limits c.args.map.now.table.limit c.args.seated.now.caller.pass c.open_near.new.caller.pass c.copy_value.new.caller.pass (Get c.args.key.now) c.in-Err-copy_value.refusal c.in-Err.ensures.tries.goes c.in-Err-copy_value.ensures.answers
