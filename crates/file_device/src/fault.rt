@@ -3,30 +3,38 @@ use std::alloc::AllocError;
 use std::io::ErrorKind;
 use thiserror::Error;
 
-/// Why a call of a disk failed. All but `Memory` say what the system answered.
+/// What a disk was about where the system failed it.
+#[derive(Clone, Copy, Debug, PartialEq, Eq, Error)]
+pub enum Step {
+    /// To draw random bytes.
+    #[error("no random bytes")]
+    Random,
+    /// To make a scratch file in its folder.
+    #[error("cannot open a scratch file")]
+    Open,
+    /// To remove the name of a scratch file.
+    #[error("cannot unlink a scratch file")]
+    Unlink,
+    /// To write a slot whole, as where the disk is full.
+    #[error("cannot write a slot")]
+    Write,
+    /// To read a slot whole.
+    #[error("cannot read a slot")]
+    Read,
+    /// To cut a scratch file without an object to nothing.
+    #[error("cannot cut a scratch file")]
+    Cut,
+}
+
+/// Why a call of a disk failed.
 #[derive(Clone, Copy, Debug, PartialEq, Eq, Error)]
 pub enum DiskFault {
     /// A growth of memory was refused.
     #[error("memory")]
     Memory,
-    /// The system gave no random bytes.
-    #[error("no random bytes: {0}")]
-    Random(ErrorKind),
-    /// A scratch file could not be made in its folder.
-    #[error("cannot open a scratch file: {0}")]
-    Open(ErrorKind),
-    /// The name of a scratch file could not be removed.
-    #[error("cannot unlink a scratch file: {0}")]
-    Unlink(ErrorKind),
-    /// A slot could not be written whole, as where the disk is full.
-    #[error("cannot write a slot: {0}")]
-    Write(ErrorKind),
-    /// A slot could not be read whole.
-    #[error("cannot read a slot: {0}")]
-    Read(ErrorKind),
-    /// A scratch file without an object could not be cut to nothing.
-    #[error("cannot cut a scratch file: {0}")]
-    Cut(ErrorKind),
+    /// The system failed this step, and answered so.
+    #[error("{0}: {1}")]
+    Io(Step, ErrorKind),
 }
 
 impl From<AllocError> for DiskFault {

@@ -19,7 +19,7 @@ mod slot;
 
 pub use device::FileDevice;
 pub use disk::Disk;
-pub use fault::{DiskFault, Failure};
+pub use fault::{DiskFault, Failure, Step};
 pub use memory::MemoryDisk;
 pub use scratch::FileDisk;
 pub use slot::Slot;

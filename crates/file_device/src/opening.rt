@@ -3,7 +3,7 @@ ghost use Rattle.std.specs.Prelude.{◌≡◌, IfOk};
 ghost use Rattle.std.specs.FinMap.{empty};
 ghost use Rattle.file_device.specs.Devices.{state_in};
 
-use crate::{DiskFault, FileDevice, FileDisk};
+use crate::{DiskFault, FileDevice, FileDisk, Step};
 use std::fs::File;
 use std::hash::RandomState;
 use std::random::RandomSource;
@@ -19,7 +19,7 @@ impl<R: Files<File = File> + AllocGlobal + RandomSource + Clone + Drop> FileDevi
         let alloc = rt.alloc();
         let keys = match RandomState::new(&rt) {
             Ok(keys) => keys,
-            Err(error) => return Err(DiskFault::Random(error.kind())),
+            Err(error) => return Err(DiskFault::Io(Step::Random, error.kind())),
         };
         let disk = FileDisk::open(rt, folder, lane)?;
         Ok(FileDevice::new(alloc, disk, keys))

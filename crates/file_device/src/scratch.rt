@@ -16,7 +16,7 @@ ghost use Rattle.std.specs.Prelude.{◌≡◌, ◌≤◌, ◌<◌, false, [], le
 
 use crate::class::CLASSES;
 use crate::names::{BEFORE, BEHIND, is_scratch};
-use crate::{Disk, DiskFault, Slot};
+use crate::{Disk, DiskFault, Slot, Step};
 use std::alloc::Global;
 use std::fs::{File, OpenOptions};
 use std::io::ErrorKind;
@@ -44,13 +44,13 @@ pub struct FileDisk<R> {
 impl<R: Files<File = File> + AllocGlobal + RandomSource + Clone + Drop> FileDisk<R> {
     /// An empty disk in the folder, for this lane. Removes the names of scratch files there that
     /// killed processes left, as far as it may. It opens the file of class 0 too, so that a folder that
-    /// can't be used is found here: `Open`, or `Unlink`.
+    /// can't be used is found here.
     pub fn open(rt: R, folder: &str, lane: u32) -> Result<Self, DiskFault> {
         let alloc = rt.alloc();
         remove_left(&rt, folder)?;
         let mut token = [0; 8];
         if let Err(error) = rt.fill_bytes(&mut token) {
-            return Err(DiskFault::Random(error.kind()));
+            return Err(DiskFault::Io(Step::Random, error.kind()));
         }
         let token = u64::from_le_bytes(token);
         let mut disk = FileDisk {
@@ -73,7 +73,7 @@ impl<R: Files<File = File>> FileDisk<R> {
             if let Some(file) = place {
                 match file.metadata() {
                     Ok(metadata) => sum = sum.saturating_add(metadata.len()),
-                    Err(error) => return Err(DiskFault::Read(error.kind())),
+                    Err(error) => return Err(DiskFault::Io(Step::Read, error.kind())),
                 }
             }
         }
@@ -91,7 +91,7 @@ impl<R: Files<File = File>> FileDisk<R> {
         }
         match place {
             Some(file) => Ok(file),
-            None => Err(DiskFault::Open(ErrorKind::NotFound)),
+            None => Err(DiskFault::Io(Step::Open, ErrorKind::NotFound)),
         }
     }
 }
@@ -137,12 +137,12 @@ fn open_unnamed<R: Files<File = File>>(rt: &R, name: &str) -> Result<File, DiskF
         .open(rt, name);
     let file = match opened {
         Ok(file) => file,
-        Err(error) => return Err(DiskFault::Open(error.kind())),
+        Err(error) => return Err(DiskFault::Io(Step::Open, error.kind())),
     };
     match fs::remove_file(rt, name) {
         Ok(()) => Ok(file),
         Err(error) if error.kind() == ErrorKind::NotFound => Ok(file),
-        Err(error) => Err(DiskFault::Unlink(error.kind())),
+        Err(error) => Err(DiskFault::Io(Step::Unlink, error.kind())),
     }
 }
 
@@ -172,7 +172,7 @@ impl<R: Files<File = File> + Drop> Disk for FileDisk<R> {
         let file = self.file(slot.class)?;
         match file.write_all_at(bytes, offset_of(slot)) {
             Ok(()) => Ok(()),
-            Err(error) => Err(DiskFault::Write(error.kind())),
+            Err(error) => Err(DiskFault::Io(Step::Write, error.kind())),
         }
     }
 
@@ -181,10 +181,10 @@ impl<R: Files<File = File> + Drop> Disk for FileDisk<R> {
         grow(&mut self.room, count)?;
         let part = &mut self.room[..count];
         let Some(file) = &self.opened[slot.class as usize] else {
-            return Err(DiskFault::Read(ErrorKind::NotFound));
+            return Err(DiskFault::Io(Step::Read, ErrorKind::NotFound));
         };
         if let Err(error) = file.read_exact_at(part, offset_of(slot)) {
-            return Err(DiskFault::Read(error.kind()));
+            return Err(DiskFault::Io(Step::Read, error.kind()));
         }
         out.extend_from_slice(part)?;
         Ok(())
@@ -196,7 +196,7 @@ impl<R: Files<File = File> + Drop> Disk for FileDisk<R> {
         };
         match file.set_len(0) {
             Ok(()) => Ok(()),
-            Err(error) => Err(DiskFault::Cut(error.kind())),
+            Err(error) => Err(DiskFault::Io(Step::Cut, error.kind())),
         }
     }
 }

@@ -228,7 +228,12 @@ fn devices_nest_and_move_into_locks(rt: HostRuntime) {
 }
 
 /// Writes and reads, and again where a growth was refused: the refused call has changed nothing.
-pub(super) fn expect_recovery<D: Device>(rt: &impl Abort, alloc: Global, device: &mut D, want: &[u8]) {
+pub(super) fn expect_recovery<D: Device>(
+    rt: &impl Abort,
+    alloc: Global,
+    device: &mut D,
+    want: &[u8],
+) {
     let mut out = Vec::new(alloc);
     if device.write(7, &[1, 2]) == Err(DeviceFault::Memory) {
         equal(rt, device.read(7, &mut out), Ok(false));

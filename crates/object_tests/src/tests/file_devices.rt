@@ -3,7 +3,7 @@ use super::common::{equal, holds, list, made};
 use super::devices::{Call, FAILED, MAP, Row, expect_recovery, locked, play};
 use super::file_disks::{Flaw, FlawedDisk};
 use far_device::{Device, DeviceFault};
-use file_device::{DiskFault, Failure, FileDevice, FileDisk, MemoryDisk};
+use file_device::{DiskFault, Failure, FileDevice, FileDisk, MemoryDisk, Step};
 use std::alloc::Global;
 use std::hash::RandomState;
 use std::io::ErrorKind;
@@ -13,19 +13,16 @@ use std::rt::Files;
 use std::{env, fs};
 
 /// A device in the process.
-pub(super) fn in_memory(
-    rt: &(impl Abort + RandomSource),
-    alloc: Global,
-) -> FileDevice<MemoryDisk> {
-    FileDevice::new(alloc, MemoryDisk::new(alloc), made(rt, RandomState::new(rt)))
+pub(super) fn in_memory(rt: &(impl Abort + RandomSource), alloc: Global) -> FileDevice<MemoryDisk> {
+    FileDevice::new(
+        alloc,
+        MemoryDisk::new(alloc),
+        made(rt, RandomState::new(rt)),
+    )
 }
 
 /// A device on a disk with a flaw.
-fn flawed(
-    rt: &(impl Abort + RandomSource),
-    alloc: Global,
-    flaw: Flaw,
-) -> FileDevice<FlawedDisk> {
+fn flawed(rt: &(impl Abort + RandomSource), alloc: Global, flaw: Flaw) -> FileDevice<FlawedDisk> {
     FileDevice::new(
         alloc,
         FlawedDisk::new(alloc, flaw),
@@ -104,7 +101,7 @@ fn a_disk_that_fails_leaves_all_as_it_was(rt: HostRuntime) {
     ];
     let mut device = flawed(&rt, rt.alloc(), Flaw::Failing(2));
     play(&rt, rt.alloc(), &mut device, &rows);
-    let why = Failure::Disk(DiskFault::Write(ErrorKind::StorageFull));
+    let why = Failure::Disk(DiskFault::Io(Step::Write, ErrorKind::StorageFull));
     equal(&rt, device.last_failure(), Some(why));
 }
 
@@ -226,7 +223,7 @@ fn a_folder_has_no_names_of_scratch_files(rt: HostRuntime) {
     play(&rt, rt.alloc(), &mut one, &MAP);
     let longer = list(&rt, rt.alloc(), &[1; 100]);
     equal(&rt, one.write(1, &longer), Err(DeviceFault::Failed));
-    let why = DiskFault::Open(ErrorKind::NotFound);
+    let why = DiskFault::Io(Step::Open, ErrorKind::NotFound);
     equal(&rt, one.last_failure(), Some(Failure::Disk(why)));
     let opened = FileDevice::open(rt, folder.as_str(), 0);
     equal(&rt, opened.err(), Some(why));

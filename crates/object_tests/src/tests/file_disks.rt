@@ -1,5 +1,5 @@
 //! Disks that misbehave, over one in the process.
-use file_device::{Disk, DiskFault, MemoryDisk, Slot};
+use file_device::{Disk, DiskFault, MemoryDisk, Slot, Step};
 use std::alloc::Global;
 use std::io::ErrorKind;
 
@@ -84,7 +84,7 @@ impl Disk for FlawedDisk {
 
     fn write_slot(&mut self, slot: Slot, bytes: &[u8]) -> Result<(), DiskFault> {
         if self.fails() {
-            return Err(DiskFault::Write(ErrorKind::StorageFull));
+            return Err(DiskFault::Io(Step::Write, ErrorKind::StorageFull));
         }
         if self.forgets() {
             return Ok(());
@@ -94,7 +94,7 @@ impl Disk for FlawedDisk {
 
     fn read_slot(&mut self, slot: Slot, len: u32, out: &mut Vec<u8>) -> Result<(), DiskFault> {
         if self.fails() {
-            return Err(DiskFault::Read(ErrorKind::Other));
+            return Err(DiskFault::Io(Step::Read, ErrorKind::Other));
         }
         self.room.clear();
         self.inner.read_slot(slot, len, &mut self.room)?;
@@ -105,7 +105,7 @@ impl Disk for FlawedDisk {
 
     fn clear(&mut self, class: u8) -> Result<(), DiskFault> {
         if self.fails() {
-            return Err(DiskFault::Cut(ErrorKind::Other));
+            return Err(DiskFault::Io(Step::Cut, ErrorKind::Other));
         }
         self.inner.clear(class)
     }

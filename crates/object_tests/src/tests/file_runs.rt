@@ -78,7 +78,13 @@ impl Wanted {
     }
 
     /// Writes an object, and finds it in one of the first slots: none is lost.
-    fn write<K: Disk>(&mut self, rt: &impl Abort, device: &mut FileDevice<K>, id: usize, object: (u32, u32)) {
+    fn write<K: Disk>(
+        &mut self,
+        rt: &impl Abort,
+        device: &mut FileDevice<K>,
+        id: usize,
+        object: (u32, u32),
+    ) {
         fill(rt, &mut self.written, object);
         equal(rt, device.write(id as u64, &self.written), Ok(()));
         self.set(id, Some(object));
