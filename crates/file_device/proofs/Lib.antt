@@ -3,3 +3,4 @@ mod Owned
 mod Kept
 mod Contents
 mod Read
+pub mod Sent

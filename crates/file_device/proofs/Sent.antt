@@ -1,0 +1,50 @@
+-- Which devices may go to another thread: those whose disk may.
+use denote.RattleType.{RattleType}
+use denote.Param.Send.{IsSend, sendable}
+use denote.Param.SendFields.{declared_send, FieldsHave}
+use Rattle.std.proofs.Crossing as vecs
+use Rattle.std.proofs.MapsCrossing as maps
+use Rattle.file_device.specs.declared.disk.Disk.{Ghosts}
+use Rattle.file_device.specs.contracts.ledger.Ledger as Ledger
+use Rattle.file_device.specs.contracts.owners.Owners as Owners
+use Rattle.file_device.specs.contracts.place.Place as Place
+use Rattle.file_device.specs.contracts.catalog.Catalog as Catalog
+use Rattle.file_device.specs.contracts.failures.Failures as Failures
+use Rattle.file_device.specs.contracts.fault.DiskFault as DiskFault
+use Rattle.file_device.specs.contracts.fault.Failure as Failure
+use Rattle.file_device.specs.contracts.fault.Step as Step
+use Rattle.std.specs.contracts.io.ErrorKind as ErrorKind
+use Rattle.file_device.specs.contracts.device.FileDevice as FileDevice
+
+ledger_send : IsSend Ledger.the_row
+ledger_send = search (sendable, vecs.crosses, maps.crosses) depth 20
+
+owners_send : IsSend Owners.the_row
+owners_send = let ledger = ledger_send in search (sendable, vecs.crosses, maps.crosses) depth 20
+
+place_send : IsSend Place.the_row
+place_send = search (sendable, vecs.crosses, maps.crosses) depth 20
+
+catalog_send : IsSend Catalog.the_row
+catalog_send = let owners = owners_send in let place = place_send in search (sendable, vecs.crosses, maps.crosses) depth 20
+
+-- Step by step, since a search that goes down through all of it runs out of steps.
+kind_send : IsSend ErrorKind.the_row
+kind_send = search sendable depth 120 fits 100000
+
+step_send : IsSend Step.the_row
+step_send = search sendable depth 20
+
+fault_send : IsSend DiskFault.the_row
+fault_send = search sendable depth 200 fits 100000
+
+failure_send : IsSend Failure.the_row
+failure_send = search sendable depth 200 fits 100000
+
+failures_send : IsSend Failures.the_row
+failures_send = let failure = failure_send in search sendable depth 200 fits 100000
+
+pub device_send : (K : RattleType) (g : Ghosts K.Denot) → IsSend K → IsSend (FileDevice.the_row K g)
+device_send K g disk =
+    let all : FieldsHave IsSend (FileDevice.the_type K g).parts = (search (sendable, disk), (search sendable, (catalog_send, (search (sendable, vecs.crosses), (failures_send, tt))))) in
+    declared_send (FileDevice.the_type K g) all
