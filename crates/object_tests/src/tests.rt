@@ -11,5 +11,4 @@ mod many;
 mod objects;
 mod orders;
 mod pairs;
-mod sendable;
 mod tampered;
