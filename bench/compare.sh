@@ -105,7 +105,7 @@ run_once() {
     local kind=$1 folder=$2 value=$3 share=$4 where=far words
     if [ "$share" = 1 ]; then where=local; fi
     if [ "$kind" = table ]; then
-        words=("$program" mixed "$value" $((buckets / share)))
+        words=("$program" mixed "$value" "$buckets" $((buckets / share)))
     else
         # Its shards are not all of one size: twice the pairs is room for all of them.
         local kept=$((share == 1 ? 2 * counts[$folder] : counts[$folder] / share))

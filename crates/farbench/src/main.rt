@@ -23,7 +23,15 @@ const USAGE: &str = "usage: farbench words ROUNDS
        farbench table BUCKETS ROUNDS
        farbench evicting FRAMES
        farbench plain BUCKETS <FILE
-       farbench mixed VALUE FRAMES";
+       farbench mixed VALUE BUCKETS FRAMES";
+
+/// The number that a word is, where there is one.
+fn number(word: Option<String>) -> Result<Option<u32>> {
+    match word {
+        Some(word) => Ok(Some(word.as_str().parse::<u32>()?)),
+        None => Ok(None),
+    }
+}
 
 /// Runs the benchmark that the program's words ask for. A map's workers read the clock by the program's own handle.
 fn run<R>(rt: &R, host: &HostRuntime) -> Result<()>
@@ -36,15 +44,16 @@ where
         return Ok(());
     };
     let count = count.as_str().parse::<u32>()?;
-    match (layer.as_str(), words.next()) {
-        ("words", None) => words::measure(rt, count),
-        ("frames", Some(rounds)) => frames::measure(rt, count, rounds.as_str().parse::<u32>()?),
-        ("lanes", None) => lanes::measure(rt, count),
-        ("table", Some(rounds)) => table::measure(rt, count, rounds.as_str().parse::<u32>()?),
-        ("evicting", None) => evicting::measure(rt, count),
-        ("plain", None) => plain::run(rt, count),
-        ("mixed", Some(frames)) => {
-            mixed::measure(rt, host, count, frames.as_str().parse::<u32>()?)
+    let second = number(words.next())?;
+    match (layer.as_str(), second, number(words.next())?) {
+        ("words", None, None) => words::measure(rt, count),
+        ("frames", Some(rounds), None) => frames::measure(rt, count, rounds),
+        ("lanes", None, None) => lanes::measure(rt, count),
+        ("table", Some(rounds), None) => table::measure(rt, count, rounds),
+        ("evicting", None, None) => evicting::measure(rt, count),
+        ("plain", None, None) => plain::run(rt, count),
+        ("mixed", Some(buckets), Some(frames)) => {
+            mixed::measure(rt, host, count, buckets, frames)
         }
         _ => bail!("no such benchmark: without arguments their usage is printed"),
     }

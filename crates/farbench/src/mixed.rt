@@ -17,9 +17,6 @@ use std::sync::Wait;
 use std::thread::Threads;
 use user::User;
 
-/// Buckets of the map.
-const BUCKETS: u32 = 65_536;
-
 /// The most bytes of a bucket's pairs.
 const LIMIT: u32 = 65_536;
 
@@ -35,12 +32,15 @@ const MIXES: [u32; 3] = [95, 50, 0];
 /// The files of draws.
 const SKEWS: [&str; 2] = ["uniform", "zipf"];
 
-/// What a map is measured with: keys of 16 bytes, the value of each, draws of each skew, and the bytes that were resident before.
+/// What a map is measured with: keys of 16 bytes, the value of each, draws of each skew, its buckets and frames, and the bytes that
+/// were resident before.
 #[derive(Drop)]
 struct Setting {
     keys: Vec<u8>,
     value: Text,
     draws: Vec<Vec<u8>>,
+    buckets: u32,
+    frames: u32,
     before: u64,
 }
 
@@ -149,17 +149,16 @@ impl Work for Mixed<'_> {
     }
 }
 
-/// What each of so many workers saw on a map of its own with so many frames.
+/// What each of so many workers saw on a map of its own.
 fn work_on_map<R: Threads + Wait + Sync>(
     rt: &R,
     host: &HostRuntime,
     setting: &Setting,
-    frames: u32,
     threads: u32,
 ) -> Result<Vec<Seen>> {
     let alloc = host.alloc();
     let devices = vec_from_fn(alloc, LANES, |_| Ok(FakeDevice::new(alloc)))?;
-    let settings = Settings::new(BUCKETS, frames, LIMIT);
+    let settings = Settings::new(setting.buckets, setting.frames, LIMIT);
     let work = Mixed {
         host,
         setting,
@@ -205,14 +204,14 @@ fn print_all<R: Print>(rt: &R, setting: &Setting, threads: u32, all: &[Seen]) ->
     Ok(())
 }
 
-/// Runs gets and puts on a map of so many frames, with values of so many bytes, over the files of the folder in which the
+/// Runs gets and puts on a map of so many buckets and frames, with values of so many bytes, over the files of the folder in which the
 /// program was started: `keys`, 16 bytes each, and the draws `uniform` and `zipf`, of four bytes each: a key's number, and above
 /// 24 bits a number below 100, which is compared with how many gets there are in a hundred calls. A line for each run tells the
 /// skew, the gets, the threads, the calls, their nanoseconds, and how many were not done; the first line tells how many bytes more
 /// are resident than before, when the map of one thread is open, and when it is filled.
 ///
 /// An error comes where memory, a file, a thread, the clock or the output fails, or a number is outside its limits.
-pub fn measure<R>(rt: &R, host: &HostRuntime, value: u32, frames: u32) -> Result<()>
+pub fn measure<R>(rt: &R, host: &HostRuntime, value: u32, buckets: u32, frames: u32) -> Result<()>
 where
     R: Alloc<A = Global> + Files + Print + Threads + Wait + Sync,
 {
@@ -226,10 +225,12 @@ where
         keys: fs::read(rt, "keys")?,
         value: Text::new(alloc, bytes.as_slice())?,
         draws,
+        buckets,
+        frames,
         before: resident(rt)?,
     };
     for threads in THREADS {
-        let all = work_on_map(rt, host, &setting, frames, threads)?;
+        let all = work_on_map(rt, host, &setting, threads)?;
         if let ([alone], 1) = (all.as_slice(), threads) {
             let (opened, filled) = (alone.opened, alone.filled);
             println!(rt; "memory {opened} {filled}")?;
