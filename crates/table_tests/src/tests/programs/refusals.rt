@@ -170,7 +170,7 @@ fn bad_settings_are_named(rt: HostRuntime) {
         (Settings { buckets: 0, ..good }, Setting::Buckets),
         (
             Settings {
-                frames: 65_537,
+                frames: 4_194_305,
                 ..good
             },
             Setting::Frames,
