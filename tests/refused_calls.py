@@ -15,10 +15,12 @@ from refused_growths import run_refused
 # The program makes fewer requests.
 MOST_GROWTHS = 6_000
 
-# The calls that take no memory. For the devices that wrap another, for lanes and for the table no clause says so.
+# The calls that take no memory. For the devices that wrap another, for lanes and for the table no clause says so. A caller that
+# recycles puts in the memory of what it let go.
 WITHOUT_GROWTH = {
     "Machine::enter", "Machine::move_to", "Lane::open", "Lane::remove", "LaneStore::remove", "FarTable::enter",
-    "FarTable::open_scope", "FarTable::reclaim, a frame", "FarTable::reclaim, the device", "Calls::with, a frame",
+    "FarTable::open_scope", "FarTable::reclaim, a frame", "FarTable::reclaim, the device", "FarTable::put, recycled",
+    "Calls::with, a frame",
     "Calls::contains, a frame", "Calls::hold, a frame",
 } | {
     f"{device}Device::{call}"

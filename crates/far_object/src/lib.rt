@@ -9,6 +9,7 @@
 //! name before it, so that bytes from a wrong place are told from the right ones.
 #![tactic(auto)]
 
+mod buffers;
 mod fault;
 mod format;
 mod keys;
@@ -19,6 +20,7 @@ mod order;
 mod text;
 mod traits;
 
+pub use buffers::Buffers;
 pub use fault::{Memory, ObjectFault, TextFault};
 pub use format::Format;
 pub use keys::bucket_of;

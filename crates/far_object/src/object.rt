@@ -80,6 +80,11 @@ impl<K: FarObject, V: FarObject> Object<K, V> {
         &self.bytes[self.start..]
     }
 
+    // The list that the object lies in, with what stands before it.
+    pub(crate) fn into_bytes(self) -> Vec<u8> {
+        self.bytes
+    }
+
     /// How many pairs there are, at most `MOST_PAIRS`. It is read from the first four bytes.
     pub fn count(&self) -> u32
         ensures { result ≡ length self.now }

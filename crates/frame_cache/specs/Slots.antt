@@ -30,3 +30,11 @@ module _ {K V : Type 0} (ek : K → List ℕ) (ev : V → List ℕ) (l : Limits)
     pub own : IsOwn ek ev l version
     pub bucket : version.bucket ≡ b
     pub name : version.name ≡ n
+
+  -- the pairs are those of such a version
+  pub record IsObjectOf (b n : ℕ) (es : List (K × V)) : Type 0 where
+    pub version : Shown K V
+    pub own : IsOwn ek ev l version
+    pub object : es ≡ version.object
+    pub bucket : version.bucket ≡ b
+    pub name : version.name ≡ n

@@ -26,8 +26,8 @@
 //! the frames that it emptied itself need not: `reclaim_kept` empties a frame without naming it, and `reserve_kept` takes
 //! that frame.
 ghost use Rattle.std.specs.Prelude.{◌≡◌, ◌<◌, ◌≤◌, IfOk, IfErr, IfSome, IsTrue};
-ghost use Rattle.table_core.specs.BucketWords.{place_of, empty_place};
-ghost use Rattle.frame_cache.specs.Slots.{most_frames, IsOfVersion};
+ghost use Rattle.table_core.specs.BucketWords.{name_of, place_of, empty_place};
+ghost use Rattle.frame_cache.specs.Slots.{most_frames, IsOfVersion, IsObjectOf};
 
 use crate::bits::Bits;
 use crate::fault::Missed;
@@ -38,7 +38,7 @@ use crate::slot::{Slot, SlotClaim, read, reader_count, take, unread, word_of};
 use crate::vacant::Vacant;
 use crate::version::{Lodged, Version};
 use counted_slot::{Counted, FREE};
-use far_object::{FarObject, Memory};
+use far_object::{FarObject, Memory, Object};
 use std::alloc::Global;
 use std::marker::Model;
 use std::mem::{forget, size_of};
@@ -197,37 +197,52 @@ impl<K: FarObject, V: FarObject, J: Naming> Frames<K, V, J> {
         ensures back { IfErr result (λ s. s ≡ spare) }
         ensures here { IfOk result (λ emptied. IsTrue emptied → place_of spare.word < self.now) }
     {
-        self.reclaim_as(spare, false)
+        match self.reclaim_as(spare, false) {
+            Ok(emptied) => Ok(emptied.is_some()),
+            Err(spare) => Err(spare),
+        }
     }
 
     /// As `reclaim`, and an emptied frame is not named as free: `free` does not count it, and `reserve` finds it only where
     /// no free frame is named, and only when its turn comes. `reserve_kept` takes it; where it is cancelled then, it is named.
-    pub fn reclaim_kept(&self, spare: Spare<K, V, J>) -> Result<bool, Spare<K, V, J>>
+    ///
+    /// What is handed out is the object that lay there, which nobody reads any more: another one can be built in its memory.
+    /// None comes where `reclaim` answers false.
+    pub fn reclaim_kept(
+        &self,
+        spare: Spare<K, V, J>,
+    ) -> Result<Option<Object<K, V>>, Spare<K, V, J>>
         requires frame { place_of spare.word < empty_place }
         ensures back { IfErr result (λ s. s ≡ spare) }
-        ensures here { IfOk result (λ emptied. IsTrue emptied → place_of spare.word < self.now) }
+        ensures here { IfOk result (λ emptied. IfSome emptied (λ _. place_of spare.word < self.now)) }
+        ensures object { IfOk result (λ emptied. IfSome emptied (λ object. IsObjectOf K.enc V.enc J.limits spare.bucket (name_of spare.word) object)) }
     {
         self.reclaim_as(spare, true)
     }
 
     // The frame is kept, or else named as free.
-    fn reclaim_as(&self, spare: Spare<K, V, J>, kept: bool) -> Result<bool, Spare<K, V, J>>
+    fn reclaim_as(
+        &self,
+        spare: Spare<K, V, J>,
+        kept: bool,
+    ) -> Result<Option<Object<K, V>>, Spare<K, V, J>>
         requires frame { place_of spare.word < empty_place }
         ensures back { IfErr result (λ s. s ≡ spare) }
-        ensures here { IfOk result (λ emptied. IsTrue emptied → place_of spare.word < self.now) }
+        ensures here { IfOk result (λ emptied. IfSome emptied (λ _. place_of spare.word < self.now)) }
+        ensures object { IfOk result (λ emptied. IfSome emptied (λ object. IsObjectOf K.enc V.enc J.limits spare.bucket (name_of spare.word) object)) }
     {
         let frame = place_of(spare.word());
         let name = name_of(spare.word());
         let word = word_of(name);
         let Some(slot) = self.slot(frame) else {
-            return Ok(false);
+            return Ok(None);
         };
         let seen = slot.load();
         if unread(seen) == word && reader_count(seen) != 0 {
             return Err(spare);
         }
         let Ok(scope) = self.enter(frame, name) else {
-            return Ok(false);
+            return Ok(None);
         };
         scope.close();
         match take(slot, word) {
@@ -240,33 +255,47 @@ impl<K: FarObject, V: FarObject, J: Naming> Frames<K, V, J> {
                 if unread(found) == word {
                     return Err(spare);
                 }
-                Ok(false)
+                Ok(None)
             }
         }
     }
 
     // As `take_out`, and the frame is named as free.
-    fn empty(&self, claim: SlotClaim<'_, K, V, J>, spare: Spare<K, V, J>, frame: u32) -> bool
+    fn empty(
+        &self,
+        claim: SlotClaim<'_, K, V, J>,
+        spare: Spare<K, V, J>,
+        frame: u32,
+    ) -> Option<Object<K, V>>
         requires writes { claim.right ≡ 2 }
         requires number { claim.tag ≡ frame }
+        ensures object { IfSome result (λ object. IsObjectOf K.enc V.enc J.limits spare.bucket (name_of spare.word) object) }
     {
         self.announce(frame);
         self.take_out(claim, spare, frame)
     }
 
-    // Takes out what lies there, and ends it where it is the spare's. Else it is put back.
-    fn take_out(&self, claim: SlotClaim<'_, K, V, J>, spare: Spare<K, V, J>, frame: u32) -> bool
+    // Takes out what lies there, and ends it where it is the spare's, whose object is handed out then. Else it is put back.
+    fn take_out(
+        &self,
+        claim: SlotClaim<'_, K, V, J>,
+        spare: Spare<K, V, J>,
+        frame: u32,
+    ) -> Option<Object<K, V>>
         requires writes { claim.right ≡ 2 }
         requires number { claim.tag ≡ frame }
+        ensures object { IfSome result (λ object. IsObjectOf K.enc V.enc J.limits spare.bucket (name_of spare.word) object) }
     {
         let Some(lodged) = claim.put(None, FREE) else {
-            return false;
+            return None;
         };
-        match retire(lodged.into_version(), &spare) {
-            Ok(()) => true,
+        let version = lodged.into_version();
+        let _own = version.object();
+        match retire(version, &spare) {
+            Ok(object) => Some(object),
             Err(other) => {
                 self.put_back(other, frame);
-                false
+                None
             }
         }
     }

@@ -10,6 +10,7 @@ mod lanes;
 mod machine;
 mod maps;
 mod objects;
+mod recycling;
 mod rows;
 mod tables;
 mod trials;
@@ -23,6 +24,7 @@ fn main(rt: HostRuntime) -> io::Result<()> {
     rows::tell_all(&rt)?;
     lanes::tell_all(&rt)?;
     tables::tell_all(&rt)?;
+    recycling::tell_all(&rt)?;
     evicting::tell_all(&rt)?;
     maps::tell_all(&rt)
 }

@@ -27,7 +27,7 @@ pub const FRAMES: u32 = 4;
 pub const SPARES: u32 = 4;
 
 /// More of each than a call needs.
-const SETTINGS: Config = Config {
+pub const SETTINGS: Config = Config {
     buckets: 4,
     frames: FRAMES,
     limit: 4_096,

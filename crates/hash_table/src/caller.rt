@@ -5,7 +5,7 @@ ghost use Rattle.hash_table.specs.Calls.{most_spares};
 
 use crate::limbo::Limbo;
 use crate::traffic::Traffic;
-use far_object::FarObject;
+use far_object::{Buffers, FarObject};
 use version_words::{Mark, Naming, Pass, PassHolder, Spare, Words};
 
 /// A pass, and the spares that its calls left. Contracts see the pass, and the list of the spares from the oldest on.
@@ -13,6 +13,8 @@ use version_words::{Mark, Naming, Pass, PassHolder, Spare, Words};
 pub struct Caller<K: FarObject, V: FarObject, J: Naming> {
     pub(crate) pass: Pass<K, V, J>,
     pub(crate) limbo: Limbo<K, V, J>,
+    // Of versions that it reclaimed while it recycles: its changes build their objects in these.
+    pub(crate) buffers: Buffers,
 }
 
 impl<K: FarObject, V: FarObject, J: Naming> Caller<K, V, J> {
@@ -60,7 +62,7 @@ impl<K: FarObject, V: FarObject, J: Naming> PassHolder<K, V, J> for Caller<K, V,
 
     ghost pass_of = { λ caller. caller.pass };
 
-    ghost with_pass = { λ caller pass. record { pass = pass; limbo = caller.limbo } };
+    ghost with_pass = { λ caller pass. record { pass = pass; limbo = caller.limbo; buffers = caller.buffers } };
 
     ghost put_back = { λ _. refl };
 

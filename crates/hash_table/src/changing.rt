@@ -24,7 +24,7 @@ use crate::stages::seen::{Place, split};
 use crate::table::FarTable;
 use crate::traffic::Counted;
 use far_device::Device;
-use far_object::FarObject;
+use far_object::{Buffers, FarObject};
 use std::alloc::Global;
 use std::sync::Wait;
 use table_core::Operation;
@@ -35,6 +35,7 @@ impl<K: FarObject, V: FarObject, J: Naming, D: Device> FarTable<K, V, J, D> {
     fn build_local<'a>(
         &self,
         alloc: Global,
+        buffers: &mut Buffers,
         pass: &Pass<K, V, J>,
         b: u32,
         old: u64,
@@ -52,7 +53,7 @@ impl<K: FarObject, V: FarObject, J: Naming, D: Device> FarTable<K, V, J, D> {
             Place::Device => Err(Refusal::Far),
             Place::Nothing => {
                 empty_holds::<K, V>();
-                match build_first(alloc, operation, self.limit) {
+                match build_first(alloc, buffers, operation, self.limit) {
                     Ok(built) => Ok(built),
                     Err(refusal) => Err(refusal),
                 }
@@ -62,7 +63,7 @@ impl<K: FarObject, V: FarObject, J: Naming, D: Device> FarTable<K, V, J, D> {
                     return Err(Refusal::Missed);
                 };
                 let replaced = scope.object().as_bytes().len();
-                let built = build(alloc, scope.object(), operation, self.limit);
+                let built = build(alloc, buffers, scope.object(), operation, self.limit);
                 scope.close();
                 match built {
                     Ok(built) => Ok(Built { replaced, ..built }),
@@ -95,7 +96,14 @@ impl<K: FarObject, V: FarObject, J: Naming, D: Device> FarTable<K, V, J, D> {
         }
         let b = self.bucket(operation.key());
         let word = self.words.look(&mut caller.pass, b);
-        let built = match self.build_local(alloc, &caller.pass, b, word, operation) {
+        let built = match self.build_local(
+            alloc,
+            &mut caller.buffers,
+            &caller.pass,
+            b,
+            word,
+            operation,
+        ) {
             Ok(built) => built,
             Err(refusal) => return Err(refusal),
         };
@@ -117,6 +125,7 @@ impl<K: FarObject, V: FarObject, J: Naming, D: Device> FarTable<K, V, J, D> {
         &self,
         rt: &R,
         alloc: Global,
+        buffers: &mut Buffers,
         pass: &Pass<K, V, J>,
         b: u32,
         old: u64,
@@ -133,13 +142,13 @@ impl<K: FarObject, V: FarObject, J: Naming, D: Device> FarTable<K, V, J, D> {
         match split(old) {
             Place::Device => {}
             Place::Nothing => {
-                return match self.build_local(alloc, pass, b, old, operation) {
+                return match self.build_local(alloc, buffers, pass, b, old, operation) {
                     Ok(built) => Ok(built),
                     Err(refusal) => Err(refusal),
                 };
             }
             Place::Frame(_) => {
-                return match self.build_local(alloc, pass, b, old, operation) {
+                return match self.build_local(alloc, buffers, pass, b, old, operation) {
                     Ok(built) => Ok(built),
                     Err(refusal) => Err(refusal),
                 };
@@ -149,7 +158,7 @@ impl<K: FarObject, V: FarObject, J: Naming, D: Device> FarTable<K, V, J, D> {
             Ok(object) => object,
             Err(refusal) => return Err(refusal),
         };
-        match build(alloc, &object, operation, self.limit) {
+        match build(alloc, buffers, &object, operation, self.limit) {
             Ok(built) => Ok(built),
             Err(refusal) => Err(refusal),
         }
@@ -183,7 +192,15 @@ impl<K: FarObject, V: FarObject, J: Naming, D: Device> FarTable<K, V, J, D> {
         }
         let b = self.bucket(operation.key());
         let word = self.words.look(&mut caller.pass, b);
-        let built = match self.build_anywhere(rt, alloc, &caller.pass, b, word, operation) {
+        let built = match self.build_anywhere(
+            rt,
+            alloc,
+            &mut caller.buffers,
+            &caller.pass,
+            b,
+            word,
+            operation,
+        ) {
             Ok(built) => built,
             Err(refusal) => {
                 caller.limbo.count(Counted::Refused(refusal));

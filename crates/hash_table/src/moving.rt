@@ -164,7 +164,7 @@ impl<K: FarObject, V: FarObject, J: Naming, D: Device> FarTable<K, V, J, D> {
                     Err((spare, ReclaimFault::Device))
                 }
             },
-            _ => match self.reclaim_frame(&mut caller.limbo, spare) {
+            _ => match self.reclaim_frame(&mut caller.limbo, &mut caller.buffers, spare) {
                 Ok(there) => Ok(there),
                 Err(back) => Err((back, ReclaimFault::Held)),
             },

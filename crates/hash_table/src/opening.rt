@@ -15,7 +15,7 @@ use crate::limbo::Limbo;
 use crate::refusal::OpenFault;
 use crate::table::FarTable;
 use far_device::Device;
-use far_object::{FarObject, Format};
+use far_object::{Buffers, FarObject, Format};
 use frame_cache::Frames;
 use lane_store::{LaneFault, LaneStore};
 use std::alloc::Global;
@@ -169,6 +169,7 @@ impl<K: FarObject, V: FarObject, J: Naming, D: Device> FarTable<K, V, J, D> {
             Ok(pass) => Ok(Caller {
                 pass,
                 limbo: Limbo::new(),
+                buffers: Buffers::new(),
             }),
             Err(fault) => Err(fault),
         }

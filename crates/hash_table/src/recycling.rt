@@ -4,6 +4,9 @@
 //! and the next one is looked for among those, all callers write the same few words at every change, and wait for one
 //! another. A caller who recycles fills the frame that it emptied, and writes none of these words.
 //!
+//! So it is with the memory of the version that it took out: nobody reads it any more, and the caller's next object is built in it
+//! (`far_object::Buffers`). A caller whose objects keep their sizes takes no memory for them then.
+//!
 //! A kept frame is free, and reserved for nobody. It is not named: once one was kept, a call for which no frame that is named
 //! was free looks at the next 64 frames, in turn. It may find the kept one there, and its caller then finds it gone and looks
 //! for another one; or it answers `NoFrame` while the kept one is free.
@@ -14,7 +17,7 @@ use crate::caller::Caller;
 use crate::limbo::Limbo;
 use crate::table::FarTable;
 use far_device::Device;
-use far_object::FarObject;
+use far_object::{Buffers, FarObject};
 use frame_cache::{NoFrame, Reserved};
 use table_core::word::place_of;
 use version_words::{Naming, Spare};
@@ -54,8 +57,9 @@ fn frame_behind(part: u32, frames: u32) -> u32 {
 
 impl<K: FarObject, V: FarObject, J: Naming> Caller<K, V, J> {
     /// From now on the caller keeps one of the frames that it empties by `FarTable::reclaim`, and fills it by the next of
-    /// its calls that needs a frame. For a caller that reclaims its own spares: several such callers don't contend for the
-    /// same free frames. No contract speaks of it, since none says which frame is filled.
+    /// its calls that needs a frame; the memory of what lay there is used for its next objects. For a caller that reclaims its
+    /// own spares: several such callers don't contend for the same free frames. No contract speaks of it, since none says which
+    /// frame is filled.
     ///
     /// While it is kept, `FarTable::free` does not count the frame, and others find it only where no frame that is named was
     /// free, when a look at 64 frames in turn comes to it: until then their calls answer `NoFrame`. So it stays also where the
@@ -79,7 +83,8 @@ impl<K: FarObject, V: FarObject, J: Naming> Caller<K, V, J> {
 }
 
 impl<K: FarObject, V: FarObject, J: Naming, D: Device> FarTable<K, V, J, D> {
-    /// From now on the caller keeps no frame that it empties. The one that it has is free for all.
+    /// From now on the caller keeps no frame that it empties, and no memory of what lay there. The frame that it has is free for
+    /// all.
     pub fn stop_recycling(&self, caller: &mut Caller<K, V, J>)
         ensures pass { caller.new.pass ≡ caller.old.pass }
         ensures limbo { caller.new.limbo ≡ caller.old.limbo }
@@ -90,6 +95,7 @@ impl<K: FarObject, V: FarObject, J: Naming, D: Device> FarTable<K, V, J, D> {
             }
         }
         caller.limbo.set_recycling(Recycling::Off);
+        caller.buffers = Buffers::new();
     }
 
     /// A free frame: the one that the caller has, where it still is free, or else one that is named behind the last that it had,
@@ -129,10 +135,12 @@ impl<K: FarObject, V: FarObject, J: Naming, D: Device> FarTable<K, V, J, D> {
         }
     }
 
-    /// Empties the frame of the spare's word. The caller has it afterwards where it keeps the next one.
+    /// Empties the frame of the spare's word. The caller has it afterwards where it keeps the next one, and the memory of the
+    /// object that lay there.
     pub(crate) fn reclaim_frame(
         &self,
         limbo: &mut Limbo<K, V, J>,
+        buffers: &mut Buffers,
         spare: Spare<K, V, J>,
     ) -> Result<bool, Spare<K, V, J>>
         requires frame { place_of spare.word < empty_place }
@@ -144,12 +152,12 @@ impl<K: FarObject, V: FarObject, J: Naming, D: Device> FarTable<K, V, J, D> {
         }
         let frame = place_of(spare.word());
         match self.frames.reclaim_kept(spare) {
-            Ok(emptied) => {
-                if emptied {
-                    limbo.set_recycling(Recycling::Kept(frame));
-                }
-                Ok(emptied)
+            Ok(Some(object)) => {
+                limbo.set_recycling(Recycling::Kept(frame));
+                buffers.keep(object);
+                Ok(true)
             }
+            Ok(None) => Ok(false),
             Err(spare) => Err(spare),
         }
     }

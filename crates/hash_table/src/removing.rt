@@ -77,7 +77,15 @@ impl<K: FarObject, V: FarObject, J: Naming, D: Device> FarTable<K, V, J, D> {
         let b = self.bucket(key);
         let word = self.words.look(&mut caller.pass, b);
         let removal = Operation::Remove(key);
-        let built = match self.build_anywhere(rt, alloc, &caller.pass, b, word, &removal) {
+        let built = match self.build_anywhere(
+            rt,
+            alloc,
+            &mut caller.buffers,
+            &caller.pass,
+            b,
+            word,
+            &removal,
+        ) {
             Ok(built) => built,
             Err(refusal) => {
                 caller.limbo.count(Counted::Refused(refusal));

@@ -5,6 +5,7 @@ ghost use Rattle.std.specs.BTreeMap.{is_at, insert_entry};
 ghost use Rattle.far_object.specs.Buckets.{key_cmp};
 ghost use Rattle.far_object.specs.Objects.{cut, most_pairs};
 
+use crate::buffers::Buffers;
 use crate::fault::Memory;
 use crate::object::Object;
 use crate::object::locate::Spot;
@@ -63,13 +64,34 @@ impl<'a, K: FarObject, V: FarObject> Entry<'a, K, V> {
         requires { length self.now.pairs < most_pairs }
         ensures { IfOk result (λ o. o ≡ insert_entry (key_cmp K.enc) self.now.pairs self.now.key value.now) }
     {
-        self.object.with_at(alloc, self.key, self.spot, value)
+        self.with_in(alloc, &mut Buffers::new(), value)
+    }
+
+    /// As `with`, in one of the buffers where the new object has room there.
+    pub fn with_in(
+        &self,
+        alloc: Global,
+        buffers: &mut Buffers,
+        value: &V,
+    ) -> Result<Object<K, V>, Memory>
+        requires { length self.now.pairs < most_pairs }
+        ensures { IfOk result (λ o. o ≡ insert_entry (key_cmp K.enc) self.now.pairs self.now.key value.now) }
+    {
+        self.object
+            .with_at(alloc, buffers, self.key, self.spot, value)
     }
 
     /// The object without the key, as `Object::without` gives it.
     pub fn without(&self, alloc: Global) -> Result<Object<K, V>, Memory>
         ensures { IfOk result (λ o. o ≡ cut (key_cmp K.enc) self.now.key self.now.pairs) }
     {
-        self.object.without_at(alloc, self.key, self.spot)
+        self.without_in(alloc, &mut Buffers::new())
+    }
+
+    /// As `without`, in one of the buffers where the new object has room there.
+    pub fn without_in(&self, alloc: Global, buffers: &mut Buffers) -> Result<Object<K, V>, Memory>
+        ensures { IfOk result (λ o. o ≡ cut (key_cmp K.enc) self.now.key self.now.pairs) }
+    {
+        self.object.without_at(alloc, buffers, self.key, self.spot)
     }
 }

@@ -10,7 +10,7 @@ ghost use Rattle.hash_table.specs.Changes.{MayMake, Leaves, Fits};
 ghost use Rattle.hash_table.specs.Stages.{IsUnmade};
 
 use crate::refusal::Refusal;
-use far_object::{Entry, FarObject, MOST_PAIRS, Object, full_objects_grow_too_long};
+use far_object::{Buffers, Entry, FarObject, MOST_PAIRS, Object, full_objects_grow_too_long};
 use std::alloc::Global;
 use table_core::Operation;
 
@@ -37,6 +37,7 @@ pub(crate) fn is_met<V: FarObject>(expected: Option<&V>, found: &Option<V>) -> b
 // The object with the value at the key of the entry, where it is no longer than the limit.
 fn with<K: FarObject, V: FarObject>(
     alloc: Global,
+    buffers: &mut Buffers,
     object: &Object<K, V>,
     entry: &Entry<'_, K, V>,
     value: &V,
@@ -57,7 +58,7 @@ fn with<K: FarObject, V: FarObject>(
         }
         return Err(Refusal::TooLong);
     }
-    let object = match entry.with(alloc, value) {
+    let object = match entry.with_in(alloc, buffers, value) {
         Ok(object) => object,
         Err(_) => return Err(Refusal::Memory),
     };
@@ -70,6 +71,7 @@ fn with<K: FarObject, V: FarObject>(
 // The object of this one pair, where it is no longer than the limit.
 fn only<K: FarObject, V: FarObject>(
     alloc: Global,
+    buffers: &mut Buffers,
     key: &K,
     value: &V,
     limit: u32,
@@ -79,7 +81,7 @@ fn only<K: FarObject, V: FarObject>(
     ensures fits { IfOk result (λ o. length (object_of K.enc V.enc o) ≤ limit) }
     ensures why { IfErr result (λ e. IsUnmade K.enc V.enc limit [] (op.Put key.now value.now) e) }
 {
-    let object = match Object::of_pair(alloc, key, value) {
+    let object = match Object::of_pair_in(alloc, buffers, key, value) {
         Ok(object) => object,
         Err(_) => return Err(Refusal::Memory),
     };
@@ -89,10 +91,11 @@ fn only<K: FarObject, V: FarObject>(
     Ok(object)
 }
 
-/// What the operation makes of a bucket without a pair. It takes no memory where it leaves the bucket, and one allocation
-/// where it sets the key.
+/// What the operation makes of a bucket without a pair. It takes no memory where it leaves the bucket, and one buffer or
+/// allocation where it sets the key.
 pub(crate) fn build_first<'a, K: FarObject, V: FarObject>(
     alloc: Global,
+    buffers: &mut Buffers,
     operation: &Operation<&'a K, &'a V>,
     limit: u32,
 ) -> Result<Built<K, V>, Refusal>
@@ -103,7 +106,7 @@ pub(crate) fn build_first<'a, K: FarObject, V: FarObject>(
     ensures why { IfErr result (λ e. IsUnmade K.enc V.enc limit [] (lent operation.now) e) }
 {
     match operation {
-        Operation::Put(key, value) => match only(alloc, *key, *value, limit) {
+        Operation::Put(key, value) => match only(alloc, buffers, *key, *value, limit) {
             Ok(made) => Ok(Built {
                 answer: None,
                 object: Some(made),
@@ -124,7 +127,7 @@ pub(crate) fn build_first<'a, K: FarObject, V: FarObject>(
                     replaced: 0,
                 });
             }
-            match only(alloc, *key, *value, limit) {
+            match only(alloc, buffers, *key, *value, limit) {
                 Ok(made) => Ok(Built {
                     answer: None,
                     object: Some(made),
@@ -136,9 +139,11 @@ pub(crate) fn build_first<'a, K: FarObject, V: FarObject>(
     }
 }
 
-/// What the operation makes of the object, of which it looks for its key once.
+/// What the operation makes of the object, of which it looks for its key once. The new object lies in one of the buffers, where it
+/// has room there.
 pub(crate) fn build<'a, K: FarObject, V: FarObject>(
     alloc: Global,
+    buffers: &mut Buffers,
     object: &Object<K, V>,
     operation: &Operation<&'a K, &'a V>,
     limit: u32,
@@ -155,7 +160,7 @@ pub(crate) fn build<'a, K: FarObject, V: FarObject>(
         Err(_) => return Err(Refusal::Memory),
     };
     match operation {
-        Operation::Put(_, value) => match with(alloc, object, &entry, *value, limit) {
+        Operation::Put(_, value) => match with(alloc, buffers, object, &entry, *value, limit) {
             Ok(made) => Ok(Built {
                 answer,
                 object: Some(made),
@@ -176,7 +181,7 @@ pub(crate) fn build<'a, K: FarObject, V: FarObject>(
                     replaced: 0,
                 });
             }
-            match entry.without(alloc) {
+            match entry.without_in(alloc, buffers) {
                 Ok(made) => Ok(Built {
                     answer,
                     object: Some(made),
@@ -193,7 +198,7 @@ pub(crate) fn build<'a, K: FarObject, V: FarObject>(
                     replaced: 0,
                 });
             }
-            match with(alloc, object, &entry, *value, limit) {
+            match with(alloc, buffers, object, &entry, *value, limit) {
                 Ok(made) => Ok(Built {
                     answer,
                     object: Some(made),

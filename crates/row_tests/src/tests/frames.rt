@@ -104,7 +104,9 @@ fn reclaimed<J: Naming>(
 ) -> Result<bool, Spare<Text, Text, J>> {
     if place_of(spare.word()) < EMPTY_PLACE {
         if kept {
-            frames.reclaim_kept(spare)
+            frames
+                .reclaim_kept(spare)
+                .map(|object| object.is_some())
         } else {
             frames.reclaim(spare)
         }

@@ -102,7 +102,7 @@ fn ends<J: Naming>(
     spare: &Spare<Text, Text, J>,
 ) -> bool {
     match retire(version, spare) {
-        Ok(()) => {
+        Ok(_) => {
             reserved.cancel();
             true
         }

@@ -25,7 +25,7 @@ behind-requires-in-Here-clause-object g c = (
 
 pub returns-in_ok-same-in-Gap : goal.returns-in_ok-same-in-Gap
 returns-in_ok-same-in-Gap g c =
-    c.behind.ensures c.args.self.now (c.in_ok-same-in-Gap.ensures.items ∙ c.as_bytes-bytes.ensures.is) c.as_bytes-bytes.ensures.map ∙ sym (cut_gap g.K.FarObject.enc g.V.FarObject.enc c.args.key.now c.in-Gap.field-0 c.args.self.now (sym (sym c.in-Gap.is ∙ c.requires.located)) c.as_bytes-bytes.ensures.map.rising)
+    c.behind.ensures c.args.self.now (c.in_ok-same-in-Gap.ensures ∙ c.as_bytes-bytes.ensures.is) c.as_bytes-bytes.ensures.map ∙ sym (cut_gap g.K.FarObject.enc g.V.FarObject.enc c.args.key.now c.in-Gap.field-0 c.args.self.now (sym (sym c.in-Gap.is ∙ c.requires.located)) c.as_bytes-bytes.ensures.map.rising)
 
 pub returns-in_ok-rest-in-Here : goal.returns-in_ok-rest-in-Here
 returns-in_ok-rest-in-Here g c =

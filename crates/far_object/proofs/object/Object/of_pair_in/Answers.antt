@@ -1,6 +1,6 @@
 use Rattle.std.proofs.Common.{[], ◌∷◌, refl, arith}
 use Rattle.far_object.proofs.Putting.{with_gap, put_map, empty_map}
-use Rattle.far_object.proofs.object.Object.of_pair.Goals as goal
+use Rattle.far_object.proofs.object.Object.of_pair_in.Goals as goal
 
 pub behind-requires-clause-object : goal.behind-requires-clause-object
 behind-requires-clause-object g c = (
