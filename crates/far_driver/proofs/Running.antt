@@ -25,7 +25,7 @@ ran_words known readers words config count old new asked readers_are opened ran 
   appends = ran.appends;
 }
 
-left : (words : List (List ℕ)) (config : Config) (readers : List (Option (List ℕ))) (old new : Option (List ℕ)) (f : RunFault) → AskFor words config (length readers) → WritesBefore readers old new f → LeavesOutput words old new (program.Run f)
+pub left : (words : List (List ℕ)) (config : Config) (readers : List (Option (List ℕ))) (old new : Option (List ℕ)) (f : RunFault) → AskFor words config (length readers) → WritesBefore readers old new f → LeavesOutput words old new (program.Run f)
 left words config readers old new (fault.BadConfig n) asked h = h
 left words config readers old new (fault.BadLine file line) asked h = h
 left words config readers old new (fault.TooManyLines file) asked h = h

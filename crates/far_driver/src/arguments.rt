@@ -60,10 +60,11 @@ fn number(text: &str) -> Option<u32>
 
 /// What the arguments ask for.
 #[derive(Drop)]
-pub(crate) struct Arguments<'a> {
-    pub(crate) config: Config,
+pub struct Arguments<'a> {
+    /// The settings, with four lanes.
+    pub config: Config,
     /// The names of the files; `-` is standard input.
-    pub(crate) files: &'a [String],
+    pub files: &'a [String],
 }
 
 /// Whether they are 1 to 64 names, and standard input is among them at most once.
@@ -74,8 +75,9 @@ fn are_files(names: &[String]) -> bool
     !names.is_empty() && names.len() <= MOST_FILES && inputs <= 1
 }
 
-/// The arguments: three numbers, and the files.
-pub(crate) fn read_arguments(words: &[String]) -> Option<Arguments<'_>>
+/// The arguments `BUCKETS FRAMES LIMIT FILE...`: three numbers of one to seven decimal digits, and 1 to 64 files, of which one may be
+/// `-`, standard input. None where the words are others.
+pub fn read_arguments(words: &[String]) -> Option<Arguments<'_>>
     ensures arguments { is_some result ≡ are_arguments (map string_bytes words.now) }
     ensures asked { IfSome result (λ a. AskFor (map string_bytes words.now) a.config (length a.files.now)) }
     ensures few { IfSome result (λ a. (0 < length a.files.now) × (length a.files.now ≤ 64)) }

@@ -16,7 +16,7 @@ const READ_BYTES: usize = 32_768;
 
 /// An open file, or standard input.
 #[derive(Drop)]
-pub(crate) enum Source<F, I> {
+pub enum Source<F, I> {
     File(F),
     Input(I),
 }
@@ -46,7 +46,7 @@ fn open_source<R: Files + Input>(rt: &R, name: &str) -> io::Result<Source<R::Fil
 /// The sources of the files of these names, in order, each with a buffer of its own; `-` is standard input.
 ///
 /// `CannotOpen` names the first that can't be opened, counted from 1. Want of memory is `RunFault::Memory`.
-pub(crate) fn open_sources<R: Files + Input + AllocGlobal>(
+pub fn open_sources<R: Files + Input + AllocGlobal>(
     rt: &R,
     names: &[String],
 ) -> Result<Vec<BufReader<Source<R::File, R::Reader>>>, ProgramFault>

@@ -2,6 +2,7 @@ pub mod Classes
 pub mod Counts
 pub mod Devices
 pub mod Digests
+pub mod Folders
 pub mod Ledgers
 pub mod Owners
 pub mod Places

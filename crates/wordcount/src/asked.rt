@@ -23,6 +23,13 @@ fn number<'a>(alloc: Global, name: &'a str, least: i64, most: i64, help: &'a str
 
 /// The command line's grammar.
 pub fn command<'a>(alloc: Global) -> Result<Command<'a>, Error> {
+    let far = Arg::new(alloc, "far")
+        .long("far")
+        .value_name("DIR")
+        .action(ArgAction::Append)
+        .help(
+            "A folder for what lies in no frame; of several, devices take the next in turn [none: it stays in the process]",
+        );
     let files = Arg::new(alloc, "files")
         .value_name("FILE")
         .action(ArgAction::Append)
@@ -52,6 +59,7 @@ pub fn command<'a>(alloc: Global) -> Result<Command<'a>, Error> {
             4_294_967_295,
             "Words that are printed [10]",
         ))?
+        .arg(far)?
         .arg(files)?;
     Ok(command)
 }

@@ -1,6 +1,8 @@
-//! `wordcount [--threads N] [--buckets N] [--frames N] [--top N] FILE...`: counts the words of files in a map that may be larger
-//! than its frames, and prints the most frequent.
+//! `wordcount [--threads N] [--buckets N] [--frames N] [--top N] [--far DIR]... FILE...`: counts the words of files in a map that may
+//! be larger than its frames, and prints the most frequent.
 #![tactic(auto)]
+
+ghost use Rattle.std.specs.Prelude.{◌<◌, length};
 
 mod asked;
 mod counting;
@@ -12,9 +14,10 @@ use anyhow::{Result, bail};
 use asked::{Asked, command};
 use counting::Counting;
 use counts::{count_of, put_in_order};
-use far_device::FakeDevice;
+use far_device::{Device, FakeDevice};
 use far_map::Settings;
 use far_object::Text;
+use file_device::FolderFault;
 use pieces::Pieces;
 use std::env::Env;
 use std::fs::File;
@@ -28,18 +31,18 @@ use std::{env, io};
 /// The most bytes of the pairs of one bucket: the most that there can be.
 const LIMIT: u32 = 1_048_576;
 
-/// How many devices there are, which lie in the process.
+/// How many devices there are, where there are no more folders.
 const DEVICES: u32 = 4;
 
+/// The most folders: as many as a map may have devices.
+const MOST_FOLDERS: usize = 64;
+
 /// The words and their counts.
-fn count<R>(rt: &R, asked: &Asked, files: &[&str]) -> Result<Vec<(Text, Text)>>
+fn count<D, R>(rt: &R, asked: &Asked, files: &[&str], devices: Vec<D>) -> Result<Vec<(Text, Text)>>
 where
+    D: Device + Send,
     R: Files<File = File> + AllocGlobal + Threads + Wait + Sync,
 {
-    let mut devices = Vec::new(rt.alloc());
-    for _ in 0..DEVICES {
-        devices.push(FakeDevice::new(rt.alloc()))?;
-    }
     let settings = Settings::new(asked.buckets, asked.frames, LIMIT);
     let work = Counting::new(Pieces::open(rt, files)?);
     let ran = far_map::run(rt, rt.alloc(), settings, devices, asked.threads, &work);
@@ -64,12 +67,13 @@ fn write<W: Write>(out: &mut W, pairs: &[(Text, Text)]) -> io::Result<()> {
     out.flush()
 }
 
-/// Counts, and prints the most frequent words, and on standard error how many there are.
-fn print_top<R>(rt: &R, asked: &Asked, files: &[&str]) -> Result<()>
+/// Counts over these devices, and prints the most frequent words, and on standard error how many there are.
+fn print_top<D, R>(rt: &R, asked: &Asked, files: &[&str], devices: Vec<D>) -> Result<()>
 where
+    D: Device + Send,
     R: Files<File = File> + AllocGlobal + Print + Eprint + Threads + Wait + Sync,
 {
-    let mut pairs = count(rt, asked, files)?;
+    let mut pairs = count(rt, asked, files, devices)?;
     put_in_order(&mut pairs);
     let top = (asked.top as usize).min(pairs.len());
     let mut out = BufWriter::new(rt.alloc(), io::writer(rt))?;
@@ -79,16 +83,63 @@ where
     Ok(())
 }
 
-/// What these words ask for, and the status: 0, or 2 where they are no such words.
-fn run_words<R>(rt: &R, words: &[String]) -> Result<u8>
+/// The same over devices in the process.
+fn print_in_process<R>(rt: &R, asked: &Asked, files: &[&str]) -> Result<()>
+where
+    R: Files<File = File> + AllocGlobal + Print + Eprint + Threads + Wait + Sync,
+{
+    let mut devices = Vec::new(rt.alloc());
+    for _ in 0..DEVICES {
+        devices.push(FakeDevice::new(rt.alloc()))?;
+    }
+    print_top(rt, asked, files, devices)
+}
+
+/// The same over devices in these folders, and the status: 2 where one can't be used, which is found before a file is opened. They
+/// are opened by the program's own handle: one that is known by its bounds alone may not be sent to threads.
+fn print_far<R>(
+    rt: &R,
+    host: HostRuntime,
+    asked: &Asked,
+    files: &[&str],
+    folders: &[&str],
+) -> Result<u8>
+where
+    R: Files<File = File> + AllocGlobal + Print + Eprint + Threads + Wait + Sync,
+    requires { 0 < length folders.now }
+{
+    if folders.len() > MOST_FOLDERS {
+        eprintln!(rt; "wordcount: more than {MOST_FOLDERS} folders")?;
+        return Ok(2);
+    }
+    match file_device::open_lanes(host, folders, DEVICES.max(folders.len() as u32)) {
+        Ok(devices) => {
+            print_top(rt, asked, files, devices)?;
+            Ok(0)
+        }
+        Err(FolderFault::Memory) => bail!("memory"),
+        Err(fault) => {
+            eprintln!(rt; "wordcount: {fault}")?;
+            Ok(2)
+        }
+    }
+}
+
+/// Does what these words ask for, and gives the status: 0, or 2 where they are no such words or a folder can't be used.
+fn run_words<R>(rt: &R, host: HostRuntime, words: &[String]) -> Result<u8>
 where
     R: Files<File = File> + AllocGlobal + Print + Eprint + Threads + Wait + Sync,
 {
     let command = command(rt.alloc())?;
     match command.try_get_matches_from(words) {
         Ok(matches) => {
+            let asked = Asked::of(&matches);
             let files = matches.get_strs("files").unwrap_or(&[]);
-            print_top(rt, &Asked::of(&matches), files)?;
+            let folders = matches.get_strs("far").unwrap_or(&[]);
+            if !folders.is_empty() {
+                return print_far(rt, host, &asked, files, folders);
+            }
+            print_in_process(rt, &asked, files)?;
             Ok(0)
         }
         Err(error) => {
@@ -99,7 +150,7 @@ where
 }
 
 /// The same of the program's words. Words that are no texts are no such words.
-fn run<R>(rt: &R) -> Result<u8>
+fn run<R>(rt: &R, host: HostRuntime) -> Result<u8>
 where
     R: Env + Files<File = File> + AllocGlobal + Print + Eprint + Threads + Wait + Sync,
 {
@@ -112,11 +163,11 @@ where
         Err(fault) => bail!("{fault}"),
     };
     let words: Vec<String> = words.collect(rt.alloc())?;
-    run_words(rt, words.as_slice())
+    run_words(rt, host, words.as_slice())
 }
 
 fn main(rt: HostRuntime) -> ExitCode {
-    let status = match run(&rt) {
+    let status = match run(&rt, rt) {
         Ok(status) => status,
         Err(fault) => {
             let _ = eprintln!(rt; "wordcount: {fault}");

@@ -1,0 +1,42 @@
+//! Why the program ends early, and the status that it ends with.
+ghost use Rattle.std.specs.Prelude.{◌≡◌};
+ghost use Rattle.farrun.specs.Statuses.{status_of};
+
+use far_driver::{ProgramFault, RunFault};
+use file_device::FolderFault;
+use thiserror::Error;
+
+/// Why the program ends early. Its text is the line on standard error.
+#[derive(Clone, Copy, Debug, PartialEq, Eq, Error)]
+pub enum Fault {
+    /// The words are no three numbers and 1 to 64 files, or there are more than 64 folders.
+    #[error("usage: farrun [--far DIR]... [--lanes N] BUCKETS FRAMES LIMIT FILE...")]
+    Usage,
+    /// A folder that can't be used.
+    #[error("{0}")]
+    Folder(FolderFault),
+    /// What comes of the files and the run.
+    #[error("{0}")]
+    Program(ProgramFault),
+}
+
+/// A growth was refused.
+pub const MEMORY: Fault = Fault::Program(ProgramFault::Run(RunFault::Memory));
+
+/// A write of the output failed.
+pub const WRITE: Fault = Fault::Program(ProgramFault::Run(RunFault::Write));
+
+impl Fault {
+    /// The status that the program ends with: 2 for wrong arguments, folders, settings and command files, and 1 for what the
+    /// system refused.
+    pub fn status(self) -> u8
+        ensures { result ≡ status_of self }
+    {
+        match self {
+            Fault::Usage => 2,
+            Fault::Folder(FolderFault::CannotOpen(_)) => 2,
+            Fault::Folder(FolderFault::Memory) => 1,
+            Fault::Program(fault) => fault.status(),
+        }
+    }
+}

@@ -1,0 +1,80 @@
+//! `farrun [--far DIR]... [--lanes N] BUCKETS FRAMES LIMIT FILE...`: runs command files on a table that threads share, over devices
+//! of one's choice, and prints the replies and the contents.
+#![tactic(auto)]
+
+mod asked;
+mod fault;
+mod running;
+
+use asked::{Asked, command};
+use clap::error::ErrorKind;
+use clap::{ArgMatches, Error};
+use far_driver::{ProgramFault, read_words};
+use fault::{Fault, MEMORY, WRITE};
+use running::run_asked;
+use std::env::Env;
+use std::io;
+use std::io::BufWriter;
+use std::process::ExitCode;
+use std::rt::Files;
+use std::sync::Wait;
+use std::thread::Threads;
+
+/// Runs what these say.
+fn run_matches<R>(rt: &R, host: HostRuntime, matches: &ArgMatches<'_>) -> Result<(), Fault>
+where
+    R: Files + Input + AllocGlobal + Print + Threads + Wait + Sync,
+{
+    let Ok(asked) = Asked::of(rt.alloc(), matches) else {
+        return Err(MEMORY);
+    };
+    let Ok(mut out) = BufWriter::new(rt.alloc(), io::writer(rt)) else {
+        return Err(MEMORY);
+    };
+    run_asked(rt, host, &asked, &mut out)
+}
+
+/// Prints why these are no words of the program, or its help, and gives the status.
+fn tell<R: Print + Eprint>(rt: &R, error: &Error) -> Result<u8, Fault> {
+    if error.kind() == ErrorKind::OutOfMemory {
+        return Err(MEMORY);
+    }
+    match error.print(rt) {
+        Ok(()) if error.exit_code() == 0 => Ok(0),
+        Err(_) if error.exit_code() == 0 => Err(WRITE),
+        _ => Ok(2),
+    }
+}
+
+/// Runs what the program's words say, and gives the status.
+fn run<R>(rt: &R, host: HostRuntime) -> Result<u8, Fault>
+where
+    R: Env + Files + Input + AllocGlobal + Print + Eprint + Threads + Wait + Sync,
+{
+    let words = match read_words(rt) {
+        Ok(words) => words,
+        Err(ProgramFault::Usage) => return Err(Fault::Usage),
+        Err(fault) => return Err(Fault::Program(fault)),
+    };
+    let Ok(command) = command(rt.alloc()) else {
+        return Err(MEMORY);
+    };
+    match command.try_get_matches_from(words.as_slice()) {
+        Ok(matches) => {
+            run_matches(rt, host, &matches)?;
+            Ok(0)
+        }
+        Err(error) => tell(rt, &error),
+    }
+}
+
+fn main(rt: HostRuntime) -> ExitCode {
+    let status = match run(&rt, rt) {
+        Ok(status) => status,
+        Err(fault) => {
+            let _ = eprintln!(rt; "{fault}");
+            fault.status()
+        }
+    };
+    ExitCode::from(status)
+}

@@ -1,0 +1,78 @@
+#!/usr/bin/env bash
+# Runs farrun with devices in folders: what it prints is what fartable prints, a folder that can't be used is named, and none
+# is left with a name in it, also by a run that is killed. The status is 1 where one differs.
+set -euo pipefail
+
+root=$(cd "$(dirname "$(readlink -f "${BASH_SOURCE[0]}")")/.." && pwd)
+fartable=$("$root/bin/build" fartable)
+farrun=$("$root/bin/build" farrun)
+work=$(mktemp -d)
+trap 'rm -rf "$work"' EXIT
+mkdir "$work/one" "$work/other"
+failed=0
+
+fail() {
+    printf '%s\n' "$*"
+    failed=1
+}
+
+# More pairs than frames, so that most lie in the folders.
+for ((at = 0; at < 3000; at++)); do
+    echo "put key$((at * 7919 % 1000)) $at"
+done >"$work/many.txt"
+
+try_same() {
+    "$fartable" "$@" >"$work/wanted"
+    "$farrun" --far "$work/one" --far "$work/other" "$@" >"$work/told" || fail "$*: status $?"
+    cmp -s "$work/wanted" "$work/told" || fail "$*: not what fartable prints"
+    "$farrun" --lanes 64 "$@" >"$work/told" || fail "$*, 64 lanes: status $?"
+    cmp -s "$work/wanted" "$work/told" || fail "$*, 64 lanes: not what fartable prints"
+}
+
+try_fault() {
+    local status=$1 text=$2 told is=0
+    shift 2
+    told=$("$farrun" "$@" 2>&1 </dev/null) || is=$?
+    if [ "$is" -ne "$status" ] || [ "$told" != "$text" ]; then
+        fail "$*: status $is, $told"
+    fi
+}
+
+try_same 4 2 4096 "$root/examples/first.txt"
+try_same 4 2 4096 "$root/examples/swapped.txt"
+try_same 4 2 4096 "$root/examples/first.txt" "$root/examples/other.txt"
+try_same 256 16 4096 "$work/many.txt"
+
+try_fault 2 'far 1: cannot open' --far "$work/none" 4 2 4096 "$work/no_file"
+try_fault 2 'far 2: cannot open' --far "$work/one" --far '' 4 2 4096 -
+try_fault 2 'far 1: cannot open' --far "$work/many.txt" 4 2 4096 -
+try_fault 1 'file 1: cannot open' --far "$work/one" 4 2 4096 "$work/no_file"
+try_fault 2 'bad config 1' --far "$work/one" 0 2 4096 -
+try_fault 2 'usage: farrun [--far DIR]... [--lanes N] BUCKETS FRAMES LIMIT FILE...' --far "$work/one" 4 2 x -
+
+# Root writes to any folder.
+if [ "$(id -u)" -ne 0 ]; then
+    chmod a-w "$work/other"
+    try_fault 2 'far 1: cannot open' --far "$work/other" 4 2 4096 -
+    chmod u+w "$work/other"
+fi
+
+# Its folders are open when it reads, and it waits for its first line.
+mkfifo "$work/never"
+exec 3<>"$work/never"
+"$farrun" --far "$work/one" 4 2 4096 "$work/never" &
+for ((at = 0; at < 100; at++)); do
+    [ "$(find "/proc/$!/fd" -lname '*.scratch (deleted)' | wc -l)" -eq 4 ] && break
+    sleep 0.1
+done
+[ "$at" -lt 100 ] || fail 'no scratch files without names'
+{
+    kill -9 "$!"
+    wait "$!" || true
+} 2>/dev/null
+
+# Such a name is left where a kill falls between making and unlinking.
+: >"$work/one/fazhitta-0123456789abcdef-0-0.scratch"
+try_same 4 2 4096 "$root/examples/first.txt"
+[ -z "$(find "$work/one" "$work/other" -type f)" ] || fail 'a name is left'
+exit "$failed"
