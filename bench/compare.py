@@ -13,8 +13,8 @@ NAMES = {"table": "table", "dashmap": "DashMap", "mutexes": "64 locked maps", "m
 SHORT = {"dashmap": "D", "mutexes": "64", "mutex": "1", "farmap": "F"}
 COLORS = {"table": "#c0392b", "dashmap": "#2980b9", "mutexes": "#27ae60", "mutex": "#7f8c8d", "farmap": "#8e44ad"}
 KEYS = {"one": 65_472, "many": 1_000_000}
-PART = {1: "all", 2: "1/2", 4: "1/4", 8: "1/8"}
-FRAMES = 65_536
+PART = {1: "all", 4: "1/4"}
+FRAMES = {"one": 65_536, "many": 1_048_576}
 
 
 def read(path):
@@ -58,14 +58,14 @@ def print_rates(rates):
 
 
 def print_parts(rates):
-    """Of the runs in memory with one key a bucket: the table's part of the sharded map's rate, by threads."""
-    print("\n| Value | Drawn | Gets, % | 1 thread | 2 threads | 4 threads |")
-    print("|---|---|---|---|---|---|")
-    for row in dict.fromkeys(workload[2:-1] for workload in rates if workload[:2] == (1, "one")):
-        value, skew, gets = row
-        of = [rates[1, "one", value, skew, gets, threads] for threads in THREADS]
+    """Of the runs in memory: the table's part of the sharded map's rate, by threads."""
+    print("\n| Keys | Value | Drawn | Gets, % | 1 thread | 2 threads | 4 threads |")
+    print("|---|---|---|---|---|---|---|")
+    for row in dict.fromkeys(workload[1:-1] for workload in rates if workload[0] == 1):
+        of = [rates[1, *row, threads] for threads in THREADS]
         parts = [median(own / other for own, other in zip(each["table"], each["dashmap"])) for each in of]
-        print(f"| {value} | {skew} | {gets} | {' | '.join(f'{part:.2f}' for part in parts)} |")
+        keys, value, skew, gets = row
+        print(f"| {KEYS[keys]:,} | {value} | {skew} | {gets} | {' | '.join(f'{part:.2f}' for part in parts)} |")
 
 
 def print_memory(memory):
@@ -78,7 +78,7 @@ def print_memory(memory):
         for kind in NAMES:
             filled = median(filled for _, filled in memory[keys, value, 1, kind])
             cells.append(f"{filled / plain:.2f} ({(filled - plain) / KEYS[keys]:.0f} a pair)")
-        opened = median(opened for opened, _ in memory[keys, value, 1, "table"]) / FRAMES
+        opened = median(opened for opened, _ in memory[keys, value, 1, "table"]) / FRAMES[keys]
         print(f"| {KEYS[keys]:,} | {value} | {plain / 1e6:.1f} | {' | '.join(cells)} | {opened:.0f} |")
 
 

@@ -5,10 +5,10 @@
 # the medians as a markdown table, and draws some of them into docs/comparison.svg. --quick tries it in a minute: one round
 # of few calls on a few of the workloads, and no picture but in the folder that it names.
 #
-# Workloads: 1,000,000 keys of 16 bytes in 65,536 buckets, and 65,472 keys, each in a bucket of its own; 64 buckets have no
-# key, so that puts find a frame. Values of 64 and of 512 bytes; keys drawn evenly, and by Zipf's law with .99; 95, 50 and
-# 0 gets in a hundred calls, the others puts; 1, 2 and 4 threads; memory for all, a half, a quarter and an eighth of the
-# buckets, or of the pairs. Both programs read keys and draws from the same files. Every answer is copied.
+# Workloads: 1,000,000 keys of 16 bytes at random in 2^20 buckets, and 65,472 keys, each in a bucket of its own of 65,536; 64
+# buckets have no key, so that puts find a frame. Values of 64 and of 512 bytes; keys drawn evenly, and by Zipf's law with .99;
+# 95, 50 and 0 gets in a hundred calls, the others puts; 1, 2 and 4 threads; memory for all and for a quarter of the buckets, or
+# of the pairs. Both programs read keys and draws from the same files. Every answer is copied.
 #
 # It needs bin/build, which has farbench; cargo; and the distribution's package librust-dashmap-dev, from which the peers are
 # built without a network. COMPARE_UNDER is a command under which each measured program is started, as `taskset -c 0-3`.
@@ -18,16 +18,15 @@ set -euo pipefail
 
 bench=$(cd "$(dirname "$(readlink -f "${BASH_SOURCE[0]}")")" && pwd)
 registry=/usr/share/cargo/registry
-buckets=65536
 # Buckets without a key.
 empty=64
 rounds=5
 folders=(one many)
 values=(64 512)
-shares=(1 2 4 8)
+shares=(1 4)
 # Calls of a thread in a run, by the folder and by whether all lies in memory.
 declare -A calls=([one-local]=150000 [one-far]=40000 [many-local]=60000 [many-far]=15000)
-declare -A counts=([one]=$((buckets - empty)) [many]=1000000)
+declare -A buckets=([one]=65536 [many]=1048576) counts=([one]=$((65536 - empty)) [many]=1000000)
 # A file has the draws of all runs of a process: 4 threads' to warm up, and 1, 2 and 4 threads' for each of three mixes.
 runs=25
 picture=$bench/../docs/comparison.svg
@@ -42,7 +41,6 @@ if [ "${1:-}" = --quick ]; then
     rounds=1
     folders=(one)
     values=(64)
-    shares=(1 4)
     calls=([one-local]=20000 [one-far]=5000)
     picture=$(mktemp --suffix=.svg)
     say "the picture goes to $picture"
@@ -90,7 +88,7 @@ for folder in "${folders[@]}"; do
     for where in local far; do
         mkdir -p "$work/$folder-$where"
         if [ "$where" = local ]; then
-            "$peers" keys "${counts[$folder]}" "$buckets" "$empty" >"$work/$folder-local/keys"
+            "$peers" keys "${counts[$folder]}" "${buckets[$folder]}" "$empty" >"$work/$folder-local/keys"
         else
             ln -s "$work/$folder-local/keys" "$work/$folder-far/keys"
         fi
@@ -105,7 +103,7 @@ run_once() {
     local kind=$1 folder=$2 value=$3 share=$4 where=far words
     if [ "$share" = 1 ]; then where=local; fi
     if [ "$kind" = table ]; then
-        words=("$program" mixed "$value" "$buckets" $((buckets / share)))
+        words=("$program" mixed "$value" "${buckets[$folder]}" $((buckets[$folder] / share)))
     else
         # Its shards are not all of one size: twice the pairs is room for all of them.
         local kept=$((share == 1 ? 2 * counts[$folder] : counts[$folder] / share))

@@ -42,12 +42,14 @@ pub(crate) fn enter<J: Naming, D: Device, R: Wait>(
     unreachable!()
 }
 
-/// A newcomer for each seat, who enter in the order of the seats. `Memory` comes where a growth is refused.
+/// A newcomer for each seat, who enter in the order of the seats. Where they recycle, each owns a frame between its calls.
+/// `Memory` comes where a growth is refused.
 pub(crate) fn enter_all<J: Naming, B: QueueNaming, D: Device, R: Wait>(
     rt: &R,
     alloc: Global,
     table: &FarTable<Text, Text, J, D>,
     frames: u32,
+    recycles: bool,
     mut seats: Vec<QueueSeat<Text, Text, J, B>>,
 ) -> Result<Vec<Newcomer<J, B>>, RunFault>
     requires frames { 0 < frames }
@@ -59,8 +61,11 @@ pub(crate) fn enter_all<J: Naming, B: QueueNaming, D: Device, R: Wait>(
         return Ok(Vec::new(alloc));
     };
     let number = seats.len() as u32;
-    let mut newcomers = enter_all(rt, alloc, table, frames, seats)?;
-    let caller = enter(rt, table)?;
+    let mut newcomers = enter_all(rt, alloc, table, frames, recycles, seats)?;
+    let mut caller = enter(rt, table)?;
+    if recycles {
+        caller.recycle();
+    }
     let Ok(room) = RoomMaker::open(alloc, frames, number) else {
         return Err(RunFault::Memory);
     };

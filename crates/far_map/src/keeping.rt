@@ -2,9 +2,10 @@
 //!
 //! # With the evictor's thread, and without
 //!
-//! Beside the evictor's thread each session sees to its own: it reclaims the spare of its last call, and gives a frame up where it
-//! found none, side by side with others. Where there is no such thread, since there is one worker or it could not be started, the
-//! evictor does all of it, in the session's thread: so what a single worker meets follows from its calls alone.
+//! Each session sees to its own: it reclaims the spare of its last call, whose frame it fills by its next one where frames are at
+//! least four times the sessions (`Caller::recycle`). Beside the evictor's thread it also gives a frame up where it found none, side
+//! by side with others, and hands over the spares that came back. Where there is no such thread, since there is one worker or it
+//! could not be started, the evictor does that in the session's thread: so what a single worker meets follows from its calls alone.
 ghost use Rattle.std.specs.Prelude.{◌≡◌, IfErr};
 ghost use Rattle.version_words.specs.Views.{Goes};
 ghost use Rattle.far_map.specs.Refusals.{IsTurnFault};
@@ -18,7 +19,7 @@ use far_object::Text;
 use hash_table::{Caller, Refusal as TableRefusal};
 use std::sync::Wait;
 use std::sync::atomic::Ordering;
-use swapper::{Evictor, QueueNaming, QueueSeat, RoomMaker, recycle};
+use swapper::{Evictor, QueueNaming, QueueSeat, RoomMaker, reclaim_oldest};
 use version_words::Naming;
 
 /// How many turns are made at most before the evictor is let go: others may wait for it meanwhile.
@@ -174,15 +175,6 @@ impl<J: Naming, B: QueueNaming, D: Device> FarMap<J, B, D> {
         seated.room.make_ready(rt, &self.table, &mut seated.caller);
     }
 
-    /// The caller reclaims its oldest spare, and hands over what still waits.
-    fn recycle_own<R: Wait>(&self, rt: &R, seated: &mut Seated<J, B>)
-        ensures goes { Goes seated.old.caller.pass seated.new.caller.pass }
-        ensures none_lost { LosesNone seated.old.caller.limbo seated.old.seat seated.new.caller.limbo seated.new.seat }
-    {
-        recycle(rt, &self.table, &mut seated.caller);
-        self.settle(rt, seated);
-    }
-
     /// Tells how many bytes its calls have brought into frames, and answers whether too many lie there by now.
     fn tell(&self, seated: &mut Seated<J, B>) -> bool
         ensures caller { seated.new.caller ≡ seated.old.caller }
@@ -230,21 +222,41 @@ impl<J: Naming, B: QueueNaming, D: Device> FarMap<J, B, D> {
         self.see_to_spares(rt, seated);
     }
 
-    /// Sees to the spares that its calls have left. Without the evictor's thread they are handed over and reclaimed, with those that
-    /// came back before.
+    /// Has the spares handed over that its calls have left, and without the evictor's thread reclaimed, with those that came back
+    /// before.
     #[tactic(auto, using(crate::proofs::Losses::loses_self))]
+    fn hand_over<R: Wait>(&self, rt: &R, seated: &mut Seated<J, B>)
+        ensures goes { Goes seated.old.caller.pass seated.new.caller.pass }
+        ensures none_lost { LosesNone seated.old.caller.limbo seated.old.seat seated.new.caller.limbo seated.new.seat }
+    {
+        let alone = !self.started.load(Ordering::SeqCst);
+        if seated.caller.limbo_len() == 0 && !(alone && self.keeps.load(Ordering::SeqCst)) {
+            return;
+        }
+        self.settle(rt, seated);
+        if alone {
+            self.collect(rt);
+        }
+    }
+
+    /// The caller reclaims its oldest spare, which is mostly the only one, and what still waits is handed over.
+    fn recycle_own<R: Wait>(&self, rt: &R, seated: &mut Seated<J, B>)
+        ensures goes { Goes seated.old.caller.pass seated.new.caller.pass }
+        ensures none_lost { LosesNone seated.old.caller.limbo seated.old.seat seated.new.caller.limbo seated.new.seat }
+    {
+        reclaim_oldest(rt, &self.table, &mut seated.caller);
+        self.hand_over(rt, seated);
+    }
+
+    /// Sees to the spares that its calls have left.
     fn see_to_spares<R: Wait>(&self, rt: &R, seated: &mut Seated<J, B>)
         ensures goes { Goes seated.old.caller.pass seated.new.caller.pass }
         ensures none_lost { LosesNone seated.old.caller.limbo seated.old.seat seated.new.caller.limbo seated.new.seat }
     {
-        let leaves = seated.caller.limbo_len() > 0;
-        if !self.started.load(Ordering::SeqCst) {
-            if leaves || self.keeps.load(Ordering::SeqCst) {
-                self.settle(rt, seated);
-                self.collect(rt);
-            }
-        } else if leaves {
+        if seated.caller.limbo_len() > 0 {
             self.recycle_own(rt, seated);
+        } else {
+            self.hand_over(rt, seated);
         }
     }
 }

@@ -21,6 +21,9 @@ fn reserve_of(frames: u32) -> u32 {
     (frames / 4).max(1)
 }
 
+/// How many times the sessions frames have to be, so that each session may own one between its calls.
+const FRAMES_TO_OWN: u32 = 4;
+
 /// The map, and a newcomer for each worker. They enter before the evictor does.
 pub(crate) fn map_over<J: Naming, B: QueueNaming, D: Device, R: Wait>(
     rt: &R,
@@ -45,7 +48,8 @@ pub(crate) fn map_over<J: Naming, B: QueueNaming, D: Device, R: Wait>(
     let Ok(bytes) = FrameBytes::open(alloc, bytes, workers) else {
         return Err(RunFault::Memory);
     };
-    let newcomers = enter_all(rt, alloc, &table, config.frames, seats)?;
+    let recycles = config.frames / FRAMES_TO_OWN >= workers;
+    let newcomers = enter_all(rt, alloc, &table, config.frames, recycles, seats)?;
     let own = enter(rt, &table)?;
     let evictor = match Evictor::open(alloc, own, taker, config.frames, config.spares) {
         Ok(evictor) => evictor,

@@ -48,23 +48,24 @@ impl<'m, J: Naming, B: QueueNaming, D: Device> Session<'m, J, B, D> {
         answered
     }
 
-    /// Ends the session: its caller is wanted for the end of the map.
+    /// Ends the session, and gives back the frame that it owns: its caller is wanted for the end of the map.
     pub(crate) fn leave(self) -> Caller<Text, Text, J>
         ensures { result.pass ≡ self.entry.pass }
     {
         let Session {
-            map: _,
+            map,
             alloc: _,
             seated,
             stats: _,
         } = self;
         let Seated {
-            caller,
+            mut caller,
             seat: _,
             room: _,
             number: _,
             told: _,
         } = seated;
+        map.table.stop_recycling(&mut caller);
         caller
     }
 }

@@ -2,8 +2,7 @@
 
 use thiserror::Error;
 
-/// No frame that is named as free was free when it was looked at. One that a caller keeps (`Frames::reclaim_kept`) is free and
-/// not named.
+/// No frame was free when it was looked at.
 #[derive(Clone, Copy, Debug, PartialEq, Eq, Error)]
 #[error("no frame is free")]
 pub struct NoFrame;

@@ -2,11 +2,11 @@
 //!
 //! # A version ends for its own spare
 //!
-//! Of the calls `reclaim` and `reclaim_kept` alone take a version out of a frame, and they take a `Spare`: a word that its
-//! bucket never holds again. They compare the frame's version with the spare's name under a claim to read, leave that, and
-//! claim the right to write where the word is still the one compared and nobody reads. That word has 32 bits of the name, so
-//! `take_out` compares again: `laws::retire` ends what was taken out exactly where it is the spare's, and another version is
-//! put back. No clause says so of a shared frame.
+//! Of the calls `reclaim` and `reclaim_owned` alone take a version out of a frame, and they take a `Spare`: a word that its
+//! bucket never holds again. They claim the right to write where nobody reads and the frame's word shows the last 32 bits of the
+//! spare's name, and leave the frame owned: then nobody else gets it while they compare the whole name. `laws::retire` ends what
+//! was taken out exactly where it is the spare's, and another version is put back, into the frame where it lay. No clause says
+//! so of a shared frame.
 //!
 //! # A claim is of the frame that it names
 //!
@@ -17,14 +17,9 @@
 //!
 //! Which frames are free is found by three layers of bits (`vacant.rt`), so that neither a search nor what it takes on the
 //! stack grows with the frames. Nothing is claimed of them. A frame is named before it becomes free, and whoever takes it
-//! clears its bit afterwards, so that the lowest layer names each free frame, but for those that were kept, and at rest no
-//! other. A bit of an upper layer may be missing for a moment. So a search that finds no frame by the upper layers looks at 64
-//! words of the lowest one in turn, which are all of them up to 4,096 frames, before it answers `NoFrame`; and once a frame
-//! was kept, at the next 64 frames in turn.
-//!
-//! Each free frame is named to all threads, and each that takes or frees one writes the same few words. A caller who fills
-//! the frames that it emptied itself need not: `reclaim_kept` empties a frame without naming it, and `reserve_kept` takes
-//! that frame.
+//! clears its bit afterwards, so that the lowest layer names each free frame, and at rest no other. A bit of an upper layer may
+//! be missing for a moment. So a search that finds no frame by the upper layers looks at 64 words of the lowest one in turn,
+//! which are all of them up to 4,096 frames, before it answers `NoFrame`.
 ghost use Rattle.std.specs.Prelude.{◌≡◌, ◌<◌, ◌≤◌, IfOk, IfErr, IfSome, IsTrue};
 ghost use Rattle.table_core.specs.BucketWords.{name_of, place_of, empty_place};
 ghost use Rattle.frame_cache.specs.Slots.{most_frames, IsOfVersion, IsObjectOf};
@@ -32,9 +27,10 @@ ghost use Rattle.frame_cache.specs.Slots.{most_frames, IsOfVersion, IsObjectOf};
 use crate::bits::Bits;
 use crate::fault::Missed;
 use crate::laws::retire;
+use crate::owned::Owned;
 use crate::reserved::Reserved;
 use crate::scope::Scope;
-use crate::slot::{Slot, SlotClaim, read, reader_count, take, unread, word_of};
+use crate::slot::{OWNED, Slot, SlotClaim, read, take, unread, word_of};
 use crate::vacant::Vacant;
 use crate::version::{Lodged, Version};
 use counted_slot::{Counted, FREE};
@@ -42,8 +38,7 @@ use far_object::{FarObject, Memory, Object};
 use std::alloc::Global;
 use std::marker::Model;
 use std::mem::{forget, size_of};
-use std::sync::atomic::Ordering::SeqCst;
-use std::sync::atomic::{AtomicBool, AtomicU32};
+use std::sync::atomic::AtomicU32;
 use table_core::word::{name_of, place_of};
 use version_words::{Naming, Spare};
 
@@ -74,10 +69,6 @@ pub struct Frames<K: FarObject, V: FarObject, J: Naming> {
     vacant: Vacant,
     // The word of 64 frames at which the next look past the upper layers begins.
     next_word: AtomicU32,
-    // Whether a frame was ever kept.
-    keeps: AtomicBool,
-    // The frame at which the next look for one that was kept begins.
-    next_kept: AtomicU32,
     touched: Bits,
 }
 
@@ -106,8 +97,6 @@ impl<K: FarObject, V: FarObject, J: Naming> Frames<K, V, J> {
             slots,
             vacant: Vacant::all(alloc, count)?,
             next_word: AtomicU32::new(0),
-            keeps: AtomicBool::new(false),
-            next_kept: AtomicU32::new(0),
             touched: Bits::new(alloc, count)?,
         })
     }
@@ -133,8 +122,8 @@ impl<K: FarObject, V: FarObject, J: Naming> Frames<K, V, J> {
         self.slots.get(frame as usize)
     }
 
-    /// This frame where it is free: for a frame that the caller emptied by `reclaim_kept`. No clause says when none comes.
-    pub fn reserve_kept(&self, frame: u32) -> Option<Reserved<'_, K, V, J>>
+    // This frame where it is free.
+    fn reserve_free(&self, frame: u32) -> Option<Reserved<'_, K, V, J>>
         ensures here { IfSome result (λ reserved. reserved < self.now) }
         ensures number { IfSome result (λ reserved. reserved ≡ frame) }
     {
@@ -151,10 +140,24 @@ impl<K: FarObject, V: FarObject, J: Naming> Frames<K, V, J> {
         })
     }
 
-    // From now on frames are looked for one by one, 64 at a time, before none is said to be free.
-    pub(crate) fn note_kept(&self) {
-        if !self.keeps.load(SeqCst) {
-            self.keeps.store(true, SeqCst);
+    /// The owned frame, for its owner's next version. None comes only for a frame of other frames than these.
+    pub fn reserve_owned(&self, owned: Owned) -> Option<Reserved<'_, K, V, J>>
+        ensures here { IfSome result (λ reserved. reserved < self.now) }
+        ensures number { IfSome result (λ reserved. reserved ≡ owned) }
+    {
+        let Owned { frame } = owned;
+        let claim = take(self.slot(frame)?, OWNED).ok()?;
+        Some(Reserved {
+            frames: self,
+            claim,
+            frame,
+        })
+    }
+
+    /// The owned frame is free for all.
+    pub fn give_back(&self, owned: Owned) {
+        if let Some(reserved) = self.reserve_owned(owned) {
+            reserved.cancel();
         }
     }
 
@@ -191,122 +194,84 @@ impl<K: FarObject, V: FarObject, J: Naming> Frames<K, V, J> {
     }
 
     /// Empties the frame of the spare's word where the spare's version lies there. False where another version or none
-    /// does, or where `enter` would miss it. The spare comes back while a reader is in.
+    /// does, or where the frame is being filled or emptied. The spare comes back while a reader is in.
     pub fn reclaim(&self, spare: Spare<K, V, J>) -> Result<bool, Spare<K, V, J>>
         requires frame { place_of spare.word < empty_place }
         ensures back { IfErr result (λ s. s ≡ spare) }
         ensures here { IfOk result (λ emptied. IsTrue emptied → place_of spare.word < self.now) }
     {
-        match self.reclaim_as(spare, false) {
-            Ok(emptied) => Ok(emptied.is_some()),
+        match self.reclaim_owned(spare) {
+            Ok(Some((owned, object))) => {
+                drop(object);
+                self.give_back(owned);
+                Ok(true)
+            }
+            Ok(None) => Ok(false),
             Err(spare) => Err(spare),
         }
     }
 
-    /// As `reclaim`, and an emptied frame is not named as free: `free` does not count it, and `reserve` finds it only where
-    /// no free frame is named, and only when its turn comes. `reserve_kept` takes it; where it is cancelled then, it is named.
+    /// As `reclaim`, but the emptied frame stays with the caller, and no other call gets it.
     ///
-    /// What is handed out is the object that lay there, which nobody reads any more: another one can be built in its memory.
-    /// None comes where `reclaim` answers false.
-    pub fn reclaim_kept(
+    /// Beside it comes the object that lay there, which nobody reads any more: another one can be built in its memory. None comes
+    /// where `reclaim` answers false.
+    pub fn reclaim_owned(
         &self,
         spare: Spare<K, V, J>,
-    ) -> Result<Option<Object<K, V>>, Spare<K, V, J>>
+    ) -> Result<Option<(Owned, Object<K, V>)>, Spare<K, V, J>>
         requires frame { place_of spare.word < empty_place }
         ensures back { IfErr result (λ s. s ≡ spare) }
         ensures here { IfOk result (λ emptied. IfSome emptied (λ _. place_of spare.word < self.now)) }
-        ensures object { IfOk result (λ emptied. IfSome emptied (λ object. IsObjectOf K.enc V.enc J.limits spare.bucket (name_of spare.word) object)) }
-    {
-        self.reclaim_as(spare, true)
-    }
-
-    // The frame is kept, or else named as free.
-    fn reclaim_as(
-        &self,
-        spare: Spare<K, V, J>,
-        kept: bool,
-    ) -> Result<Option<Object<K, V>>, Spare<K, V, J>>
-        requires frame { place_of spare.word < empty_place }
-        ensures back { IfErr result (λ s. s ≡ spare) }
-        ensures here { IfOk result (λ emptied. IfSome emptied (λ _. place_of spare.word < self.now)) }
-        ensures object { IfOk result (λ emptied. IfSome emptied (λ object. IsObjectOf K.enc V.enc J.limits spare.bucket (name_of spare.word) object)) }
+        ensures number { IfOk result (λ emptied. IfSome emptied (λ e. e.0 ≡ place_of spare.word)) }
+        ensures object { IfOk result (λ emptied. IfSome emptied (λ e. IsObjectOf K.enc V.enc J.limits spare.bucket (name_of spare.word) e.1)) }
     {
         let frame = place_of(spare.word());
-        let name = name_of(spare.word());
-        let word = word_of(name);
+        let word = word_of(name_of(spare.word()));
         let Some(slot) = self.slot(frame) else {
             return Ok(None);
         };
-        let seen = slot.load();
-        if unread(seen) == word && reader_count(seen) != 0 {
-            return Err(spare);
-        }
-        let Ok(scope) = self.enter(frame, name) else {
-            return Ok(None);
-        };
-        scope.close();
         match take(slot, word) {
-            Ok(claim) if kept => {
-                self.note_kept();
-                Ok(self.take_out(claim, spare, frame))
-            }
-            Ok(claim) => Ok(self.empty(claim, spare, frame)),
-            Err(found) => {
-                if unread(found) == word {
-                    return Err(spare);
-                }
-                Ok(None)
-            }
+            Ok(claim) => Ok(self.take_out(claim, spare, frame)),
+            Err(found) if unread(found) == word => Err(spare),
+            Err(_) => Ok(None),
         }
     }
 
-    // As `take_out`, and the frame is named as free.
-    fn empty(
-        &self,
-        claim: SlotClaim<'_, K, V, J>,
-        spare: Spare<K, V, J>,
-        frame: u32,
-    ) -> Option<Object<K, V>>
-        requires writes { claim.right ≡ 2 }
-        requires number { claim.tag ≡ frame }
-        ensures object { IfSome result (λ object. IsObjectOf K.enc V.enc J.limits spare.bucket (name_of spare.word) object) }
-    {
-        self.announce(frame);
-        self.take_out(claim, spare, frame)
-    }
-
-    // Takes out what lies there, and ends it where it is the spare's, whose object is handed out then. Else it is put back.
+    // Takes out what lies there, and ends it where it is the spare's. Else it is put back.
     fn take_out(
         &self,
         claim: SlotClaim<'_, K, V, J>,
         spare: Spare<K, V, J>,
         frame: u32,
-    ) -> Option<Object<K, V>>
+    ) -> Option<(Owned, Object<K, V>)>
         requires writes { claim.right ≡ 2 }
         requires number { claim.tag ≡ frame }
-        ensures object { IfSome result (λ object. IsObjectOf K.enc V.enc J.limits spare.bucket (name_of spare.word) object) }
+        ensures number { IfSome result (λ e. e.0 ≡ frame) }
+        ensures object { IfSome result (λ e. IsObjectOf K.enc V.enc J.limits spare.bucket (name_of spare.word) e.1) }
     {
-        let Some(lodged) = claim.put(None, FREE) else {
+        let owned = Owned { frame };
+        let Some(lodged) = claim.put(None, OWNED) else {
+            self.give_back(owned);
             return None;
         };
         let version = lodged.into_version();
         let _own = version.object();
         match retire(version, &spare) {
-            Ok(object) => Some(object),
+            Ok(object) => Some((owned, object)),
             Err(other) => {
-                self.put_back(other, frame);
+                self.put_back(other, owned);
                 None
             }
         }
     }
 
-    // Puts a version that was taken out and isn't the spare's into this frame again. Where another call has the frame by now
-    // it stays in memory for good: it is never dropped, since its bucket may still name it.
-    fn put_back(&self, version: Version<K, V, J>, frame: u32) {
-        match self.reserve_kept(frame) {
+    // Puts a version that was taken out and isn't the spare's into its frame again, which nobody else got meanwhile.
+    fn put_back(&self, version: Version<K, V, J>, owned: Owned) {
+        match self.reserve_owned(owned) {
             Some(reserved) => {
                 reserved.fill(version);
             }
+            // It is never dropped, since its bucket may still name it.
             None => forget(Lodged { version }),
         }
     }
@@ -316,8 +281,8 @@ impl<K: FarObject, V: FarObject, J: Naming> Frames<K, V, J> {
         self.vacant.next_word(0).is_some()
     }
 
-    /// How many frames are free, but for those that were kept: a hint, of which no clause says anything. At rest the tests
-    /// find it exact up to 65,536 frames. It looks at a word for each 64 frames; where there are more, at one of so many words,
+    /// How many frames are free: a hint, of which no clause says anything. At rest the tests find it exact up to 65,536 frames. It
+    /// looks at a word for each 64 frames; where there are more, at one of so many words,
     /// some 1,024 in all, and answers as if the others were like it.
     pub fn free(&self) -> u32 {
         self.vacant.count().min(self.count())

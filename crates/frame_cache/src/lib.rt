@@ -6,6 +6,7 @@ mod bits;
 mod fault;
 mod frames;
 pub mod laws;
+mod owned;
 mod reserved;
 mod scope;
 mod slot;
@@ -14,6 +15,7 @@ mod version;
 
 pub use fault::{Missed, NoFrame};
 pub use frames::{Frames, MOST_FRAMES};
+pub use owned::Owned;
 pub use reserved::Reserved;
 pub use scope::Scope;
 pub use version::Version;

@@ -4,7 +4,8 @@ ghost use Rattle.frame_cache.specs.Fills.{WasFilled};
 ghost use Rattle.frame_cache.specs.Slots.{most_frames};
 
 use crate::frames::Frames;
-use crate::slot::{SlotClaim, word_of};
+use crate::owned::Owned;
+use crate::slot::{OWNED, SlotClaim, word_of};
 use crate::version::{Lodged, Version};
 use counted_slot::FREE;
 use far_object::FarObject;
@@ -66,17 +67,16 @@ impl<'a, K: FarObject, V: FarObject, J: Naming> Reserved<'a, K, V, J> {
         forget(claim.put(None, FREE));
     }
 
-    /// Leaves the frame free without naming it, as `Frames::reclaim_kept` does, and answers its number.
-    pub fn keep(self) -> u32
+    /// Leaves the frame empty and owned, by whoever has what is handed out.
+    pub fn own(self) -> Owned
         ensures { result ≡ self.entry }
     {
         let Self {
-            frames,
+            frames: _,
             claim,
             frame,
         } = self;
-        frames.note_kept();
-        forget(claim.put(None, FREE));
-        frame
+        forget(claim.put(None, OWNED));
+        Owned { frame }
     }
 }

@@ -2,12 +2,13 @@
 //!
 //! The slot's tag is the frame's number. The word of a free frame is 0. That of a filled one has the last 32 bits of the
 //! name in its high half and the number of readers in its low half, so that a claim to write meets a version of the name
-//! that was compared before, up to these bits, and unread.
+//! that is looked for, up to these bits, and unread. The word of an owned frame is 2: nobody reads there, and neither a
+//! search for a free frame nor one for a name claims it.
 ghost use Rattle.std.specs.Prelude.{◌≡◌, ◌/◌, ◌%◌, ◌^◌, ◌<◌, IfOk, IfSome};
 ghost use Rattle.counted_slot.specs.Counting.{readers};
 
 use crate::version::Lodged;
-use counted_slot::{Claim, Counted, Fits, MOST_READERS, ONE_READER, PRESENT, TAKEN};
+use counted_slot::{Claim, Counted, Fits, MARKED, MOST_READERS, ONE_READER, PRESENT, TAKEN};
 use far_object::FarObject;
 use version_words::Naming;
 
@@ -23,6 +24,9 @@ pub type Slot<K, V, J> = Counted<Option<Lodged<K, V, J>>>;
 
 /// A claim on a frame.
 pub type SlotClaim<'a, K, V, J> = Claim<'a, Option<Lodged<K, V, J>>>;
+
+/// The word of a frame that is empty and owned.
+pub const OWNED: u64 = MARKED;
 
 /// The word of a frame in which a version of this name lies, with no reader.
 pub fn word_of(name: u64) -> u64

@@ -12,7 +12,7 @@ use std::alloc::Global;
 use std::io;
 use std::marker::Brand;
 use std::sync::Wait;
-use swapper::recycle;
+use swapper::reclaim_oldest;
 use version_words::Naming;
 
 /// How many keys there are, so that some share a bucket.
@@ -33,7 +33,7 @@ fn put_all<R: Wait, J: Naming>(
 ) -> Result<(), Refusal> {
     for number in 0..PUTS {
         table.put(rt, alloc, caller, &(number % KEYS), &number)?;
-        recycle(rt, table, caller);
+        reclaim_oldest(rt, table, caller);
     }
     Ok(())
 }
@@ -48,6 +48,7 @@ fn put_on<R: Wait, J: Naming>(
 {
     let table = opening.named::<J>(alloc).map_err(|_| Memory)?;
     let mut caller = table.enter().map_err(|_| Memory)?;
+    caller.recycle();
     put_all(rt, alloc, &table, &mut caller).map_err(|_| Memory)?;
     Ok(tried!(
         answer!(put_all(rt, alloc, &table, &mut caller), () => true, Refusal::Memory),

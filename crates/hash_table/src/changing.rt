@@ -258,7 +258,7 @@ impl<K: FarObject, V: FarObject, J: Naming, D: Device> FarTable<K, V, J, D> {
     ///
     /// `LimboFull` comes before all; `Far` where the bucket's object lies on the device, `Missed` where the frame does not give
     /// the version, `Memory` where a growth is refused, `TooLong` where the new object would be longer than the limit,
-    /// `NoFrame` where no frame that is named was free, `NamesSpent` where the last name was drawn, `Moved`
+    /// `NoFrame` where no frame was free, `NamesSpent` where the last name was drawn, `Moved`
     /// where another name was drawn at that moment or the bucket's word is another one at the end.
     ///
     /// After Ok the object lies in the frame that its word names, and the word that it replaced is the newest spare. A refused

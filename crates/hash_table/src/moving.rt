@@ -30,7 +30,7 @@ impl<K: FarObject, V: FarObject, J: Naming, D: Device> FarTable<K, V, J, D> {
     ///
     /// `LimboFull` comes before all; `Missed` where the lane has no receipt, `Device` where the device fails, `Damaged`
     /// where what it gives is no object of this bucket and name, `Memory` where a growth is refused, `NoFrame` where no
-    /// frame that is named was free, `NamesSpent` where the last name was drawn, `Moved` where another name was drawn at that
+    /// frame was free, `NamesSpent` where the last name was drawn, `Moved` where another name was drawn at that
     /// moment or the bucket's word is another one at the end.
     ///
     /// After true the object lies in the frame that its word names, and the word that it replaced is the newest spare. `Moved`

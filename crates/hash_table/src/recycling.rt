@@ -1,15 +1,12 @@
-//! A frame that a caller emptied itself, and keeps for its next object.
+//! A frame that a caller emptied itself, and owns until its next object lies there.
 //!
 //! A caller who reclaims its own spares empties a frame for each that it fills. Where each is named to all threads as free,
 //! and the next one is looked for among those, all callers write the same few words at every change, and wait for one
-//! another. A caller who recycles fills the frame that it emptied, and writes none of these words.
+//! another. A caller who recycles fills the frame that it emptied, and writes none of these words. Nobody else gets that frame
+//! meanwhile (`frame_cache::Owned`).
 //!
 //! So it is with the memory of the version that it took out: nobody reads it any more, and the caller's next object is built in it
 //! (`far_object::Buffers`). A caller whose objects keep their sizes takes no memory for them then.
-//!
-//! A kept frame is free, and reserved for nobody. It is not named: once one was kept, a call for which no frame that is named
-//! was free looks at the next 64 frames, in turn. It may find the kept one there, and its caller then finds it gone and looks
-//! for another one; or it answers `NoFrame` while the kept one is free.
 ghost use Rattle.std.specs.Prelude.{◌≡◌, ◌<◌, IfOk, IfErr};
 ghost use Rattle.table_core.specs.BucketWords.{place_of, empty_place};
 
@@ -18,29 +15,21 @@ use crate::limbo::Limbo;
 use crate::table::FarTable;
 use far_device::Device;
 use far_object::{Buffers, FarObject};
-use frame_cache::{NoFrame, Reserved};
-use table_core::word::place_of;
+use frame_cache::{NoFrame, Owned, Reserved};
 use version_words::{Naming, Spare};
 
-/// Whether a caller keeps a frame, and which one it has.
-#[derive(Clone, Copy, Debug, PartialEq, Eq)]
+/// Whether a caller owns a frame between its calls.
+#[derive(Drop)]
 pub enum Recycling {
-    /// It keeps none.
+    /// It owns none.
     Off,
-    /// It has had none, and keeps the next one that it empties. Where it needs one before, it looks behind this part of all
+    /// It has had none, and owns the next one that it empties. Where it needs one before, it looks behind this part of all
     /// frames first, in 2^32nds.
     Begun(u32),
-    /// It has none, and keeps the next one that it empties. Where it needs one before, it looks from this one on first.
+    /// It has none, and owns the next one that it empties. Where it needs one before, it looks from this one on first.
     Wanting(u32),
-    /// It has the frame of this number.
-    Kept(u32),
-}
-
-impl Recycling {
-    // Whether the next frame that is emptied is kept.
-    fn wants(self) -> bool {
-        matches!(self, Recycling::Begun(_) | Recycling::Wanting(_))
-    }
+    /// It has this frame.
+    Owning(Owned),
 }
 
 // Behind which part of all frames the caller of this pass looks for its first one, in 2^32nds: the bits of the number in
@@ -56,50 +45,46 @@ fn frame_behind(part: u32, frames: u32) -> u32 {
 }
 
 impl<K: FarObject, V: FarObject, J: Naming> Caller<K, V, J> {
-    /// From now on the caller keeps one of the frames that it empties by `FarTable::reclaim`, and fills it by the next of
+    /// From now on the caller owns one of the frames that it empties by `FarTable::reclaim`, and fills it by the next of
     /// its calls that needs a frame; the memory of what lay there is used for its next objects. For a caller that reclaims its
     /// own spares: several such callers don't contend for the same free frames. No contract speaks of it, since none says which
     /// frame is filled.
     ///
-    /// While it is kept, `FarTable::free` does not count the frame, and others find it only where no frame that is named was
-    /// free, when a look at 64 frames in turn comes to it: until then their calls answer `NoFrame`. So it stays also where the
-    /// caller is dropped;
-    /// `FarTable::stop_recycling` gives it back. A table that is closed has no use of it.
+    /// While it owns the frame nobody else gets it, and `FarTable::free` does not count it: so let a caller recycle only where
+    /// frames are several times as many as such callers. `FarTable::stop_recycling` gives the frame back; where the caller is
+    /// dropped with it, it stays empty until the table is closed.
     pub fn recycle(&mut self)
         ensures pass { self.new.pass ≡ self.old.pass }
         ensures limbo { self.new.limbo ≡ self.old.limbo }
     {
-        if self.limbo.recycling() == Recycling::Off {
-            let part = part_of(self.pass.number());
-            self.limbo.set_recycling(Recycling::Begun(part));
+        if self.limbo.recycles() {
+            return;
         }
+        let part = part_of(self.pass.number());
+        self.limbo.set_recycling(Recycling::Begun(part));
     }
 
-    /// Whether the caller has a frame that it emptied, which its next call that needs one fills where it still is free. Nothing
-    /// is claimed of it.
-    pub fn keeps_frame(&self) -> bool {
-        matches!(self.limbo.recycling(), Recycling::Kept(_))
+    /// Whether the caller has a frame that it emptied, which its next call that needs one fills. Nothing is claimed of it.
+    pub fn owns_frame(&self) -> bool {
+        self.limbo.owns_frame()
     }
 }
 
 impl<K: FarObject, V: FarObject, J: Naming, D: Device> FarTable<K, V, J, D> {
-    /// From now on the caller keeps no frame that it empties, and no memory of what lay there. The frame that it has is free for
-    /// all.
+    /// From now on the caller owns no frame that it empties, and keeps no memory of what lay there. The frame that it has is free
+    /// for all.
     pub fn stop_recycling(&self, caller: &mut Caller<K, V, J>)
         ensures pass { caller.new.pass ≡ caller.old.pass }
         ensures limbo { caller.new.limbo ≡ caller.old.limbo }
     {
-        if let Recycling::Kept(frame) = caller.limbo.recycling() {
-            if let Some(reserved) = self.frames.reserve_kept(frame) {
-                reserved.cancel();
-            }
+        if let Recycling::Owning(owned) = caller.limbo.set_recycling(Recycling::Off) {
+            self.frames.give_back(owned);
         }
-        caller.limbo.set_recycling(Recycling::Off);
         caller.buffers = Buffers::new();
     }
 
-    /// A free frame: the one that the caller has, where it still is free, or else one that is named behind the last that it had,
-    /// or else any that is named. `NoFrame` comes as `Refusal::NoFrame` says.
+    /// A free frame: the one that the caller owns, or else one behind the last that it had, or else any. `NoFrame` comes as
+    /// `Refusal::NoFrame` says.
     pub(crate) fn reserve(
         &self,
         limbo: &mut Limbo<K, V, J>,
@@ -107,36 +92,35 @@ impl<K: FarObject, V: FarObject, J: Naming, D: Device> FarTable<K, V, J, D> {
         ensures here { IfOk result (λ reserved. reserved < self.now.frames) }
         ensures limbo { limbo.new ≡ limbo.old }
     {
-        let from = match limbo.recycling() {
+        let from = match limbo.set_recycling(Recycling::Off) {
             Recycling::Off => return self.frames.reserve(),
             Recycling::Begun(part) => frame_behind(part, self.frames.count()),
             Recycling::Wanting(last) => last,
-            Recycling::Kept(frame) => {
+            Recycling::Owning(owned) => {
+                let frame = owned.frame();
                 limbo.set_recycling(Recycling::Wanting(frame));
-                if let Some(reserved) = self.frames.reserve_kept(frame) {
-                    return Ok(reserved);
-                }
-                frame
+                return self.frames.reserve_owned(owned).ok_or(NoFrame);
             }
         };
+        limbo.set_recycling(Recycling::Wanting(from));
         let reserved = self.frames.reserve_from(from)?;
         limbo.set_recycling(Recycling::Wanting(reserved.frame()));
         Ok(reserved)
     }
 
-    /// Leaves the frame free: for the caller where it keeps the next one, and else for all.
+    /// Leaves the frame free: the caller owns it where it has none and recycles, and else it is for all.
     pub(crate) fn cancel(&self, limbo: &mut Limbo<K, V, J>, reserved: Reserved<'_, K, V, J>)
         ensures limbo { limbo.new ≡ limbo.old }
     {
-        if limbo.recycling().wants() {
-            limbo.set_recycling(Recycling::Kept(reserved.keep()));
+        if limbo.wants_frame() {
+            limbo.set_recycling(Recycling::Owning(reserved.own()));
         } else {
             reserved.cancel();
         }
     }
 
-    /// Empties the frame of the spare's word. The caller has it afterwards where it keeps the next one, and the memory of the
-    /// object that lay there.
+    /// Empties the frame of the spare's word. The caller owns it afterwards where it recycles and has none, and keeps the memory of
+    /// the object that lay there.
     pub(crate) fn reclaim_frame(
         &self,
         limbo: &mut Limbo<K, V, J>,
@@ -147,13 +131,12 @@ impl<K: FarObject, V: FarObject, J: Naming, D: Device> FarTable<K, V, J, D> {
         ensures back { IfErr result (λ s. s ≡ spare) }
         ensures limbo { limbo.new ≡ limbo.old }
     {
-        if !limbo.recycling().wants() {
+        if !limbo.wants_frame() {
             return self.frames.reclaim(spare);
         }
-        let frame = place_of(spare.word());
-        match self.frames.reclaim_kept(spare) {
-            Ok(Some(object)) => {
-                limbo.set_recycling(Recycling::Kept(frame));
+        match self.frames.reclaim_owned(spare) {
+            Ok(Some((owned, object))) => {
+                limbo.set_recycling(Recycling::Owning(owned));
                 buffers.keep(object);
                 Ok(true)
             }

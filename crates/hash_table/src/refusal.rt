@@ -20,9 +20,8 @@ pub enum Refusal {
     /// The frame or the lane does not give the name.
     #[error("missed")]
     Missed,
-    /// No frame that was named as free was free when it was looked at. A frame that a recycling caller keeps is free and not
-    /// named: only a look at 64 frames in turn finds it, so that this can come while such a frame is free. Where no caller
-    /// recycles, each free frame is named at rest.
+    /// No frame was free when it was looked at: each holds a version, is being filled or emptied, or is owned by a caller who
+    /// recycles.
     #[error("no frame")]
     NoFrame,
     /// The new object would be longer than the limit.

@@ -28,4 +28,4 @@ pub use evictor::{Collected, Evictor, Turn};
 pub use naming::QueueNaming;
 pub use opening::QueueOpening;
 pub use queue::{QueueSeat, SpareQueue};
-pub use room::{RoomMaker, recycle};
+pub use room::{RoomMaker, reclaim_oldest};

@@ -26,9 +26,9 @@ pub struct RoomMaker {
     lacks_frames: bool,
 }
 
-/// Reclaims the oldest spare that waits in the caller, where there is one; a spare that comes back waits as before. From now on
-/// the caller keeps a frame that it empties, as `Caller::recycle` says, and fills it next.
-pub fn recycle<K: FarObject, V: FarObject, J: Naming, D: Device, R: Wait>(
+/// Reclaims the oldest spare that waits in the caller, where there is one; a spare that comes back waits as before. A caller that
+/// recycles owns the frame then, where it had none (`Caller::recycle`).
+pub fn reclaim_oldest<K: FarObject, V: FarObject, J: Naming, D: Device, R: Wait>(
     rt: &R,
     table: &FarTable<K, V, J, D>,
     caller: &mut Caller<K, V, J>,
@@ -36,7 +36,6 @@ pub fn recycle<K: FarObject, V: FarObject, J: Naming, D: Device, R: Wait>(
     ensures goes { Goes caller.old.pass caller.new.pass }
     ensures limbo { IsRecycled caller.old.limbo caller.new.limbo }
 {
-    caller.recycle();
     let _front = caller.mark();
     let _few = caller.limbo_len();
     let Some(spare) = caller.take_spare() else {
@@ -94,11 +93,11 @@ impl RoomMaker {
             Ok(false) => return Ok(false),
             Err(refusal) => return Err(refusal),
         }
-        recycle(rt, table, caller);
+        reclaim_oldest(rt, table, caller);
         Ok(true)
     }
 
-    /// For a caller that is about to make a change: where it found no frame of late, keeps none and none is named as free, it
+    /// For a caller that is about to make a change: where it found no frame of late, owns none and none is named as free, it
     /// makes room now. Where that is refused the change meets the reason itself.
     pub fn make_ready<K: FarObject, V: FarObject, J: Naming, D: Device, R: Wait>(
         &mut self,
@@ -109,7 +108,7 @@ impl RoomMaker {
         ensures goes { Goes caller.old.pass caller.new.pass }
         ensures limbo { MayLeaveRoom caller.old.limbo caller.new.limbo }
     {
-        if !self.lacks_frames || caller.keeps_frame() {
+        if !self.lacks_frames || caller.owns_frame() {
             return;
         }
         if table.has_free() {

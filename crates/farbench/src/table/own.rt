@@ -22,7 +22,7 @@ pub enum Call {
     Scope,
     /// A put, and the removal of the version that it ends.
     Put,
-    /// The same, and the caller keeps the frame that it empties.
+    /// The same, and the caller owns the frame that it empties.
     Recycle,
     /// The object of the frame of this number goes to the device, and the frame becomes free.
     SwapOut,

@@ -37,7 +37,7 @@ impl<K: FarObject, V: FarObject, J: Naming> Frames<K, V, J> {
                 return None;
             }
             let frame = word.wrapping_mul(WORD).wrapping_add(bits.trailing_zeros());
-            if let Some(reserved) = self.reserve_kept(frame) {
+            if let Some(reserved) = self.reserve_free(frame) {
                 return Some(reserved);
             }
             bits &= bits - 1;
@@ -76,26 +76,11 @@ impl<K: FarObject, V: FarObject, J: Naming> Frames<K, V, J> {
         None
     }
 
-    // A free frame among the next 64: one that was kept has no name in the hints.
-    fn reserve_unnamed(&self) -> Option<Reserved<'_, K, V, J>>
-        ensures { IfSome result (λ reserved. reserved < self.now) }
-    {
-        let (from, end) = turn(&self.next_kept, self.count());
-        for frame in from..end {
-            if let Some(reserved) = self.reserve_kept(frame) {
-                return Some(reserved);
-            }
-        }
-        None
-    }
-
     /// A free frame for this call alone: the first of those that are named as free, from 0 upwards, that is.
     ///
     /// `NoFrame` comes where each frame that the hints led to was gone when it was looked at. At rest they lead to all free
-    /// frames but those that were kept (`reclaim_kept`): once one was, 64 frames more are looked at before `NoFrame`, at the
-    /// next such search those behind, and so on in turn, so that it may come while a kept frame is free. Of more than 4,096
-    /// frames one may also be passed over for a moment while another thread takes one near it. No clause says which frame
-    /// comes, nor when `NoFrame` does.
+    /// frames. Of more than 4,096 one may be passed over for a moment while another thread takes one near it. No clause says which
+    /// frame comes, nor when `NoFrame` does.
     pub fn reserve(&self) -> Result<Reserved<'_, K, V, J>, NoFrame>
         ensures here { IfOk result (λ reserved. reserved < self.now) }
     {
@@ -115,14 +100,6 @@ impl<K: FarObject, V: FarObject, J: Naming> Frames<K, V, J> {
         if let Some(reserved) = self.reserve_between(0, word) {
             return Ok(reserved);
         }
-        if let Some(reserved) = self.reserve_passed_over() {
-            return Ok(reserved);
-        }
-        if self.keeps.load(SeqCst) {
-            if let Some(reserved) = self.reserve_unnamed() {
-                return Ok(reserved);
-            }
-        }
-        Err(NoFrame)
+        self.reserve_passed_over().ok_or(NoFrame)
     }
 }

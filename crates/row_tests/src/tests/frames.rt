@@ -11,7 +11,7 @@ mod user;
 
 use super::common::TRIES;
 use far_object::{Object, Text};
-use frame_cache::{Frames, Missed, Version};
+use frame_cache::{Frames, Missed, Owned, Version};
 use table_core::word::{EMPTY_PLACE, place_of};
 use version_words::{Name, Naming, Pass, Spare, Words};
 
@@ -96,22 +96,27 @@ fn fill_from<J: Naming>(
     Some(filled)
 }
 
-/// Reclaims the spare's version, and keeps the frame or names it as free. The place of each spare of these tests is a frame's.
+/// Reclaims the spare's version. The frame is owned where that is asked for, and else free. The place of each spare of these
+/// tests is a frame's.
 fn reclaimed<J: Naming>(
     frames: &Frames<Text, Text, J>,
     spare: Spare<Text, Text, J>,
-    kept: bool,
+    owned: Option<&mut Option<Owned>>,
 ) -> Result<bool, Spare<Text, Text, J>> {
-    if place_of(spare.word()) < EMPTY_PLACE {
-        if kept {
-            frames
-                .reclaim_kept(spare)
-                .map(|object| object.is_some())
-        } else {
-            frames.reclaim(spare)
+    if place_of(spare.word()) >= EMPTY_PLACE {
+        return Ok(false);
+    }
+    let Some(room) = owned else {
+        return frames.reclaim(spare);
+    };
+    match frames.reclaim_owned(spare) {
+        Ok(Some((frame, object))) => {
+            drop(object);
+            *room = Some(frame);
+            Ok(true)
         }
-    } else {
-        Ok(false)
+        Ok(None) => Ok(false),
+        Err(back) => Err(back),
     }
 }
 

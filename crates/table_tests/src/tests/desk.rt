@@ -18,7 +18,7 @@ use std::sync::Wait;
 use std::thread::Threads;
 use swapper::{
     Clock, Collected, Evictor, QueueNaming, QueueOpening, QueueSeat, RoomMaker, SpareQueue, Turn,
-    recycle,
+    reclaim_oldest,
 };
 use table_core::word::name_of;
 use version_words::Naming;
@@ -67,9 +67,11 @@ pub enum Act {
     GivesUp(Result<bool, Refusal>, u32),
     /// The caller makes room, and so many spares wait then.
     MakesRoom(Result<bool, Refusal>, u32),
-    /// Whether the caller keeps a frame once it is ready for a change.
+    /// From now on the caller recycles.
+    BeginsToRecycle,
+    /// Whether the caller owns a frame once it is ready for a change.
     GetsReady(bool),
-    /// The one spare that waits is reclaimed, and the caller keeps its frame, or none where it had none.
+    /// The one spare that waits is reclaimed, and the caller owns its frame, or none where it had none.
     Recycles(bool),
     /// The caller's frame is free for all then, and so many are in all.
     GivesBack(u32),
@@ -189,12 +191,12 @@ impl<J: Naming, B: QueueNaming> Desk<J, B> {
 
     fn gets_ready<R: Wait>(&mut self, rt: &R) -> bool {
         self.room.make_ready(rt, &self.table, &mut self.caller);
-        self.caller.keeps_frame()
+        self.caller.owns_frame()
     }
 
     fn recycles<R: Wait>(&mut self, rt: &R) -> bool {
-        recycle(rt, &self.table, &mut self.caller);
-        self.caller.keeps_frame()
+        reclaim_oldest(rt, &self.table, &mut self.caller);
+        self.caller.owns_frame()
     }
 
     fn gives_back(&mut self) -> u32 {
@@ -225,10 +227,11 @@ impl<J: Naming, B: QueueNaming> Desk<J, B> {
                 let told = self.makes_room(rt);
                 equal(rt, (told, self.caller.limbo_len()), (wanted, spares));
             }
-            Act::GetsReady(keeps) => equal(rt, self.gets_ready(rt), keeps),
-            Act::Recycles(keeps) => {
+            Act::BeginsToRecycle => self.caller.recycle(),
+            Act::GetsReady(owns) => equal(rt, self.gets_ready(rt), owns),
+            Act::Recycles(owns) => {
                 equal(rt, self.caller.limbo_len(), 1);
-                equal(rt, self.recycles(rt), keeps);
+                equal(rt, self.recycles(rt), owns);
                 equal(rt, self.caller.limbo_len(), 0);
             }
             Act::GivesBack(free) => equal(rt, self.gives_back(), free),

@@ -2,8 +2,8 @@
 //! threads.
 
 use super::desk::Act::{
-    Collects, Fills, Gets, GetsReady, GivesBack, GivesUp, HandsOver, Lies, MakesRoom, Puts,
-    Recycles, Refused, Settles, Takes, Turns,
+    BeginsToRecycle, Collects, Fills, Gets, GetsReady, GivesBack, GivesUp, HandsOver, Lies,
+    MakesRoom, Puts, Recycles, Refused, Settles, Takes, Turns,
 };
 use super::desk::{Act, Sizes, Work, works};
 use hash_table::BucketState::{Far, Local};
@@ -193,6 +193,7 @@ fn a_caller_gives_frames_up(rt: HostRuntime) {
 
 /// Two frames for three keys. Only once a change found no frame is one made ready, and no longer where one is free.
 const OWN_ROOM: &[Act] = &[
+    BeginsToRecycle,
     MakesRoom(Ok(false), 0),
     GetsReady(false),
     Puts(1, 1, Ok(None)),
@@ -212,17 +213,32 @@ const OWN_ROOM: &[Act] = &[
     GetsReady(false),
     Lies(3, Local(4)),
     Puts(3, 4, Ok(Some(3))),
+    BeginsToRecycle,
     Recycles(true),
 ];
 
 /// The device fails as the victim is written. Before a change that goes unsaid.
 const OWN_ROOM_REFUSED: &[Act] = &[
+    BeginsToRecycle,
     Puts(1, 1, Ok(None)),
     Puts(2, 2, Ok(None)),
     MakesRoom(Err(Refusal::Device), 1),
     Lies(1, Local(1)),
     Recycles(false),
     GetsReady(true),
+];
+
+/// One that does not recycle has the frame free for all, and so none made ready for it.
+const OWN_ROOM_FOR_ALL: &[Act] = &[
+    Puts(1, 1, Ok(None)),
+    Puts(2, 2, Ok(None)),
+    Puts(3, 3, Err(Refusal::NoFrame)),
+    MakesRoom(Ok(true), 0),
+    GetsReady(false),
+    Lies(1, Far(3)),
+    Lies(2, Local(2)),
+    Puts(3, 3, Ok(None)),
+    Lies(3, Local(4)),
 ];
 
 /// A caller whose limbo is full has to hand over first.
@@ -236,6 +252,12 @@ const OWN_ROOM_FULL: &[Act] = &[
 #[test]
 fn a_caller_makes_room_before_its_changes(rt: HostRuntime) {
     works(&rt, rt.alloc(), Sizes(4, 2, 8, 0, 0), Work::Acts(OWN_ROOM));
+    works(
+        &rt,
+        rt.alloc(),
+        Sizes(4, 2, 8, 0, 0),
+        Work::Acts(OWN_ROOM_FOR_ALL),
+    );
     works(
         &rt,
         rt.alloc(),

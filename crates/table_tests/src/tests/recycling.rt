@@ -1,4 +1,4 @@
-//! Callers who keep a frame that they emptied.
+//! Callers who own a frame that they emptied.
 
 use super::scene::played;
 use super::script::{Said, Step};
@@ -65,30 +65,30 @@ const TWO_FRAMES_GO_TO_AND_FRO: &[(Step, Said)] = &[
     (Step::Free, Said::Count(2)),
     (Step::Recycle, Said::Nothing),
     (Step::Free, Said::Count(2)),
-    (Step::Keeps, Said::Is(true)),
+    (Step::Owns, Said::Is(true)),
     (Step::StopRecycling, Said::Nothing),
-    (Step::Keeps, Said::Is(false)),
+    (Step::Owns, Said::Is(false)),
     (Step::Free, Said::Count(3)),
     (Step::StopRecycling, Said::Nothing),
     (Step::Free, Said::Count(3)),
 ];
 
-const ONE_FRAME_IS_KEPT_AT_MOST: &[(Step, Said)] = &[
+const ONE_FRAME_IS_OWNED_AT_MOST: &[(Step, Said)] = &[
     (Step::TryPuts(b'a', 3), Said::Count(3)),
     (Step::Recycle, Said::Nothing),
-    (Step::Keeps, Said::Is(false)),
+    (Step::Owns, Said::Is(false)),
     (Step::Reclaim, Said::Is(true)),
-    (Step::Keeps, Said::Is(true)),
+    (Step::Owns, Said::Is(true)),
     (Step::Free, Said::Count(1)),
     (Step::Reclaim, Said::Is(true)),
     (Step::Free, Said::Count(2)),
     (Step::TryPut(b'b', 1), Said::Nothing),
-    (Step::Keeps, Said::Is(false)),
+    (Step::Owns, Said::Is(false)),
     (Step::Seen(0), Said::Frame(1, 4)),
     (Step::Free, Said::Count(2)),
 ];
 
-const ANOTHER_CALLER_TAKES_A_KEPT_FRAME_LAST: &[(Step, Said)] = &[
+const NO_OTHER_CALLER_GETS_AN_OWNED_FRAME: &[(Step, Said)] = &[
     (Step::Recycle, Said::Nothing),
     (Step::PutsAndReclaims(b'a', 2), Said::Count(2)),
     (Step::Free, Said::Count(2)),
@@ -96,22 +96,23 @@ const ANOTHER_CALLER_TAKES_A_KEPT_FRAME_LAST: &[(Step, Said)] = &[
     (Step::PutByAnother(b'c', 1), Said::Nothing),
     (Step::Free, Said::Count(0)),
     (Step::Seen(0), Said::Nothing),
-    (Step::PutByAnother(b'd', 1), Said::Nothing),
-    (Step::Seen(0), Said::Frame(3, 5)),
-    (Step::TryPut(b'a', 3), Said::Refused(Refusal::NoFrame)),
-    (Step::StopRecycling, Said::Nothing),
-    (Step::Free, Said::Count(0)),
-];
-
-const A_PUT_THAT_FINDS_ITS_FRAME_GONE_TAKES_ANOTHER: &[(Step, Said)] = &[
-    (Step::Recycle, Said::Nothing),
-    (Step::PutsAndReclaims(b'a', 2), Said::Count(2)),
-    (Step::PutByAnother(b'b', 1), Said::Nothing),
-    (Step::PutByAnother(b'c', 1), Said::Nothing),
-    (Step::SwapOut(2), Said::Is(true)),
-    (Step::Reclaim, Said::Is(true)),
+    (Step::PutByAnother(b'd', 1), Said::Refused(Refusal::NoFrame)),
+    (
+        Step::PutByRecycler(b'd', 1),
+        Said::Refused(Refusal::NoFrame),
+    ),
     (Step::TryPut(b'a', 3), Said::Value(2)),
-    (Step::Seen(2), Said::Frame(0, 6)),
+    (Step::Seen(0), Said::Frame(0, 5)),
+    (Step::Owns, Said::Is(false)),
+    (Step::TryPut(b'b', 2), Said::Refused(Refusal::NoFrame)),
+    (Step::Reclaim, Said::Is(true)),
+    (Step::Owns, Said::Is(true)),
+    (Step::Free, Said::Count(0)),
+    (Step::PutByAnother(b'd', 1), Said::Refused(Refusal::NoFrame)),
+    (Step::StopRecycling, Said::Nothing),
+    (Step::Free, Said::Count(1)),
+    (Step::PutByAnother(b'd', 1), Said::Nothing),
+    (Step::Seen(1), Said::Frame(3, 6)),
 ];
 
 const CALLERS_WHO_RECYCLE_BEGIN_FAR_FROM_ONE_ANOTHER: &[(Step, Said)] = &[
@@ -129,16 +130,15 @@ const CALLERS_WHO_RECYCLE_BEGIN_FAR_FROM_ONE_ANOTHER: &[(Step, Said)] = &[
 ];
 
 /// How many frames there are, and the steps.
-const ROWS: [(u32, &[(Step, Said)]); 5] = [
+const ROWS: [(u32, &[(Step, Said)]); 4] = [
     (4, TWO_FRAMES_GO_TO_AND_FRO),
-    (4, ONE_FRAME_IS_KEPT_AT_MOST),
-    (4, ANOTHER_CALLER_TAKES_A_KEPT_FRAME_LAST),
-    (3, A_PUT_THAT_FINDS_ITS_FRAME_GONE_TAKES_ANOTHER),
+    (4, ONE_FRAME_IS_OWNED_AT_MOST),
+    (4, NO_OTHER_CALLER_GETS_AN_OWNED_FRAME),
     (1_024, CALLERS_WHO_RECYCLE_BEGIN_FAR_FROM_ONE_ANOTHER),
 ];
 
 #[test]
-fn kept_frames(rt: HostRuntime) {
+fn owned_frames(rt: HostRuntime) {
     for (frames, script) in ROWS {
         played(&rt, few(frames, 4_096, MANY), script);
     }

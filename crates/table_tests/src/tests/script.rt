@@ -44,8 +44,8 @@ pub enum Step {
     PutsAndReclaims(u8, u32),
     Recycle,
     StopRecycling,
-    /// Whether the caller keeps a frame.
-    Keeps,
+    /// Whether the caller owns a frame.
+    Owns,
     /// Reclaims the oldest spare, which is the oldest again where that is refused.
     Reclaim,
     /// Takes the oldest spare out, and holds it.
@@ -233,7 +233,7 @@ impl Step {
                 user.table.stop_recycling(&mut user.caller);
                 Said::Nothing
             }
-            Step::Keeps => Said::Is(user.caller.keeps_frame()),
+            Step::Owns => Said::Is(user.caller.owns_frame()),
             Step::Reclaim => Said::reclaimed(user.reclaim(rt)),
             Step::Take => Said::Is(user.take()),
             Step::PutBack => Said::Is(user.put_back()),

@@ -1,5 +1,5 @@
 //! Frames, call by call, by one thread: one frame's whole run, numbers past the last frame, which frame comes, hints, frames that
-//! are kept, which version ends, and how much memory a frame takes.
+//! are owned, which version ends, and how much memory a frame takes.
 
 use super::script::{Said, Step, played};
 use super::user::Shown;
@@ -206,62 +206,67 @@ fn a_frame_of_many_is_filled_and_emptied(rt: HostRuntime) -> Result<(), Fail> {
 }
 
 #[test]
-fn a_kept_frame_is_not_counted(rt: HostRuntime) -> Result<(), Fail> {
+fn an_owned_frame_is_not_counted(rt: HostRuntime) -> Result<(), Fail> {
     let script = [
         (Step::Fill(0, b'1'), Said::Filled(0, 1)),
-        (Step::ReclaimKept, Said::Is(true)),
+        (Step::ReclaimOwned, Said::Is(true)),
         (Step::Free, Said::Count(1)),
-        (Step::KeepAgain(0), Said::Reserved(0, 1)),
+        (Step::OwnAgain, Said::Reserved(0, 1)),
         (Step::Free, Said::Count(1)),
-        (Step::ReserveKept(0), Said::Reserved(0, 1)),
+        (Step::ReserveOwned, Said::Reserved(0, 1)),
         (Step::Free, Said::Count(2)),
+        (Step::ReserveOwned, Said::Nothing),
     ];
     played(&rt, 2, &script)
 }
 
 #[test]
-fn a_kept_frame_is_reserved_once(rt: HostRuntime) -> Result<(), Fail> {
+fn nobody_else_gets_an_owned_frame(rt: HostRuntime) -> Result<(), Fail> {
     let script = [
         (Step::Fill(0, b'1'), Said::Filled(0, 1)),
-        (Step::ReclaimKept, Said::Is(true)),
-        (Step::ReserveKept(2), Said::Nothing),
+        (Step::ReclaimOwned, Said::Is(true)),
+        (Step::Seen(0), Said::Nothing),
+        (Step::Look(0, 1), Said::Nothing),
         (Step::Fill(0, b'1'), Said::Filled(1, 2)),
-        (Step::ReserveKept(1), Said::Nothing),
-        (Step::ReserveKept(0), Said::Reserved(0, 0)),
-        (Step::Fill(0, b'1'), Said::Filled(0, 3)),
-        (Step::ReserveKept(0), Said::Nothing),
-    ];
-    played(&rt, 2, &script)
-}
-
-#[test]
-fn a_kept_frame_is_found_last(rt: HostRuntime) -> Result<(), Fail> {
-    let script = [
-        (Step::Fill(0, b'1'), Said::Filled(0, 1)),
-        (Step::ReclaimKept, Said::Is(true)),
-        (Step::Fill(0, b'1'), Said::Filled(1, 2)),
-        (Step::Free, Said::Count(0)),
-        (Step::Fill(0, b'1'), Said::Filled(0, 3)),
-        (Step::ReserveKept(0), Said::Nothing),
         (Step::Fill(0, b'1'), Said::Nothing),
-        (Step::Free, Said::Count(0)),
+        (Step::Reserve, Said::Nothing),
+        (Step::OwnAgain, Said::Reserved(0, 0)),
+        (Step::Fill(0, b'1'), Said::Nothing),
+        (Step::GiveBack, Said::Done),
+        (Step::Free, Said::Count(1)),
+        (Step::Fill(0, b'1'), Said::Filled(0, 3)),
+        (Step::GiveBack, Said::Nothing),
     ];
     played(&rt, 2, &script)
 }
 
-/// Where there are more frames than one look reaches, the looks for a kept one go round.
+/// More frames than any search looks at behind the layers of bits.
 #[test]
-fn a_kept_frame_of_many_is_found_in_its_turn(rt: HostRuntime) -> Result<(), Fail> {
+fn nobody_else_gets_an_owned_frame_of_many(rt: HostRuntime) -> Result<(), Fail> {
     let mut script = Vec::new(rt.alloc());
     push_fills(&mut script, 0, 101, 1)?;
-    script.push((Step::ReclaimKept, Said::Is(true)))?;
+    script.push((Step::ReclaimOwned, Said::Is(true)))?;
     push_fills(&mut script, 101, 130, 102)?;
-    script.push((Step::Fill(0, b'1'), Said::Nothing))?;
+    for _ in 0..8 {
+        script.push((Step::Fill(0, b'1'), Said::Nothing))?;
+    }
+    script.push((Step::ReserveOwned, Said::Reserved(100, 0)))?;
     script.push((Step::Fill(0, b'1'), Said::Filled(100, 131)))?;
-    // The last two frames, and then from the first on again.
-    script.push((Step::Fill(0, b'1'), Said::Nothing))?;
-    script.push((Step::Fill(0, b'1'), Said::Nothing))?;
     played(&rt, 130, &script)
+}
+
+#[test]
+fn an_owned_frame_is_of_its_own_row(rt: HostRuntime) -> Result<(), Fail> {
+    let script = [
+        (Step::Fill(0, b'1'), Said::Filled(0, 1)),
+        (Step::Fill(0, b'1'), Said::Filled(1, 2)),
+        (Step::ReclaimOwned, Said::Is(true)),
+        (Step::MissesElsewhere, Said::Is(true)),
+        (Step::ReclaimOwned, Said::Is(true)),
+        (Step::MissesElsewhere, Said::Is(true)),
+        (Step::Fill(0, b'1'), Said::Nothing),
+    ];
+    played(&rt, 2, &script)
 }
 
 #[test]

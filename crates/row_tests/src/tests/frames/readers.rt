@@ -59,7 +59,7 @@ fn wrong_looks<J: Naming>(frames: &Frames<Text, Text, J>, name: u64, value: u8) 
 fn reclaims<J: Naming>(frames: &Frames<Text, Text, J>, spare: Spare<Text, Text, J>) -> bool {
     let mut spare = spare;
     for _ in 0..RECLAIMS {
-        match reclaimed(frames, spare, false) {
+        match reclaimed(frames, spare, None) {
             Ok(done) => return done,
             Err(back) => spare = back,
         }

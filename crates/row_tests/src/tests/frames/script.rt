@@ -26,9 +26,13 @@ pub enum Step {
     ReserveBeside,
     /// Reserves a frame from this one on, behind so many others, and cancels all.
     ReserveBehind(u32, u32),
-    /// Reserves just this frame, and cancels that or keeps the frame again.
-    ReserveKept(u32),
-    KeepAgain(u32),
+    /// Reserves the frame that it owns, and cancels that or owns the frame again.
+    ReserveOwned,
+    OwnAgain,
+    /// Whether another row of frames has none for what it owns.
+    MissesElsewhere,
+    /// Gives back the frame that it owns.
+    GiveBack,
     /// Puts a version under the bucket's next name, with this value, into the first free frame, and holds the spare of that
     /// frame.
     Fill(u32, u8),
@@ -42,8 +46,8 @@ pub enum Step {
     ReclaimUnderLook(u32, u64),
     /// Reclaims the last spare's version. The spare is held again where it comes back.
     Reclaim,
-    /// The same, and the frame is kept.
-    ReclaimKept,
+    /// The same, and the frame is its own.
+    ReclaimOwned,
     /// Ends a version under the bucket's next name for the spare of that name and this place.
     Retire(u32, u32),
     /// Tries to end a version under the bucket's next name for each of the two spares. It goes into a frame where it comes
@@ -75,6 +79,13 @@ pub enum Said {
 }
 
 impl Said {
+    fn done(answer: Option<()>) -> Said {
+        match answer {
+            Some(()) => Said::Done,
+            None => Said::Nothing,
+        }
+    }
+
     fn when(answer: Option<bool>) -> Said {
         match answer {
             Some(is) => Said::Is(is),
@@ -157,8 +168,10 @@ impl Step {
             Step::ReserveBehind(frame, others) => {
                 Said::reserved(user.reserve_behind(frame, others))
             }
-            Step::ReserveKept(frame) => Said::reserved(user.reserve_kept(frame, false)),
-            Step::KeepAgain(frame) => Said::reserved(user.reserve_kept(frame, true)),
+            Step::ReserveOwned => Said::reserved(user.reserve_owned(false)),
+            Step::OwnAgain => Said::reserved(user.reserve_owned(true)),
+            Step::MissesElsewhere => Said::when(user.misses_elsewhere()),
+            Step::GiveBack => Said::done(user.give_back()),
             Step::Fill(bucket, value) => Said::filled(user.fill(0, bucket, value)),
             Step::FillFrom(frame, value) => Said::filled(user.fill(frame, 0, value)),
             Step::Draw(bucket, place) => Said::name(user.draw(bucket, place)),
@@ -166,8 +179,8 @@ impl Step {
             Step::ReclaimUnderLook(frame, name) => {
                 Said::back_under(user.reclaim_under_look(frame, name))
             }
-            Step::Reclaim => Said::reclaimed(user.reclaim(false)),
-            Step::ReclaimKept => Said::reclaimed(user.reclaim(true)),
+            Step::Reclaim => Said::reclaimed(user.reclaim()),
+            Step::ReclaimOwned => Said::reclaimed(user.reclaim_owned()),
             Step::Retire(bucket, place) => Said::when(user.retire(bucket, place)),
             Step::RetireForOthers(bucket) => Said::when(user.retire_for_others(bucket)),
         }

@@ -72,7 +72,7 @@ fn one_round<J: Naming>(
         value: Some(value),
     };
     let found = look(&shared.frames, filled.frame, wanted.name) == Some(wanted);
-    let done = reclaimed(&shared.frames, filled.spare(), false).ok() == Some(true);
+    let done = reclaimed(&shared.frames, filled.spare(), None).ok() == Some(true);
     Some(found && done)
 }
 

@@ -6,7 +6,7 @@ use super::{fill_from, reclaimed, version};
 use crate::tests::common::{entered, object, one_pair};
 use far_object::Text;
 use frame_cache::laws::retire;
-use frame_cache::{Frames, Reserved, Scope, Version};
+use frame_cache::{Frames, Owned, Reserved, Scope, Version};
 use std::alloc::Global;
 use std::test::Fail;
 use table_core::word::EMPTY_PLACE;
@@ -88,10 +88,14 @@ impl<J: Naming> Spares<J> {
         }
     }
 
-    // Reclaims the last one's version, and keeps the frame or names it as free.
-    fn reclaim(&mut self, frames: &Frames<Text, Text, J>, kept: bool) -> Option<Option<bool>> {
+    // Reclaims the last one's version. The frame is owned where that is asked for, and else free.
+    fn reclaim(
+        &mut self,
+        frames: &Frames<Text, Text, J>,
+        owned: Option<&mut Option<Owned>>,
+    ) -> Option<Option<bool>> {
         let spare = self.take()?;
-        Some(self.told(reclaimed(frames, spare, kept)))
+        Some(self.told(reclaimed(frames, spare, owned)))
     }
 }
 
@@ -153,6 +157,7 @@ pub struct User<J: Naming> {
     pass: Pass<Text, Text, J>,
     pub frames: Frames<Text, Text, J>,
     spares: Spares<J>,
+    owned: Option<Owned>,
     ghost unvouched: { J.limits.honest ≡ false },
 }
 
@@ -173,6 +178,7 @@ impl<J: Naming> User<J> {
             pass,
             frames,
             spares,
+            owned: None,
         })
     }
 
@@ -202,15 +208,37 @@ impl<J: Naming> User<J> {
         told
     }
 
-    /// Reserves this frame, of which nobody was told, and tells of it what `reserve` tells.
-    pub fn reserve_kept(&self, frame: u32, again: bool) -> Option<(u32, u32)> {
-        let reserved = self.frames.reserve_kept(frame)?;
-        let told = (reserved.frame(), self.frames.free());
+    /// Reserves the frame that it owns, and tells of it what `reserve` tells.
+    pub fn reserve_owned(&mut self, again: bool) -> Option<(u32, u32)> {
+        let owned = self.owned.take()?;
+        let frame = owned.frame();
+        let reserved = self.frames.reserve_owned(owned)?;
+        let told = (frame, self.frames.free());
         if again {
-            return Some((reserved.keep(), told.1));
+            self.owned = Some(reserved.own());
+        } else {
+            reserved.cancel();
         }
-        reserved.cancel();
         Some(told)
+    }
+
+    /// Whether a row of one frame has no frame for it, which is no longer its own then.
+    pub fn misses_elsewhere(&mut self) -> Option<bool> {
+        let owned = self.owned.take()?;
+        let elsewhere: Frames<Text, Text, J> = Frames::open(self.alloc, 1).ok()?;
+        match elsewhere.reserve_owned(owned) {
+            Some(reserved) => {
+                reserved.cancel();
+                Some(false)
+            }
+            None => Some(true),
+        }
+    }
+
+    /// The frame that it owns is free for all.
+    pub fn give_back(&mut self) -> Option<()> {
+        self.frames.give_back(self.owned.take()?);
+        Some(())
     }
 
     /// Fills the first free frame from this one on.
@@ -244,8 +272,12 @@ impl<J: Naming> User<J> {
         look(&self.frames, frame, name)
     }
 
-    pub fn reclaim(&mut self, kept: bool) -> Option<Option<bool>> {
-        self.spares.reclaim(&self.frames, kept)
+    pub fn reclaim(&mut self) -> Option<Option<bool>> {
+        self.spares.reclaim(&self.frames, None)
+    }
+
+    pub fn reclaim_owned(&mut self) -> Option<Option<bool>> {
+        self.spares.reclaim(&self.frames, Some(&mut self.owned))
     }
 
     pub fn reclaim_under_look(
@@ -255,7 +287,7 @@ impl<J: Naming> User<J> {
     ) -> Option<(Shown, Option<Option<bool>>, Shown)> {
         let scope = self.frames.enter(frame, name).ok()?;
         let before = show(&scope);
-        let answer = self.spares.reclaim(&self.frames, false);
+        let answer = self.spares.reclaim(&self.frames, None);
         let after = show(&scope);
         scope.close();
         Some((before, answer, after))

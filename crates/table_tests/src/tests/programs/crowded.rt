@@ -5,7 +5,9 @@ use far_device::FakeDevice;
 use far_map::{Calls, Refusal, Settings, Work, run, text};
 use far_object::Text;
 use std::alloc::Global;
+use std::process::Abort;
 use std::sync::Wait;
+use std::thread::Threads;
 
 /// How often each worker counts up.
 const ROUNDS: u32 = 300;
@@ -62,12 +64,12 @@ fn shared_number(pairs: &[(Text, Text)]) -> u32 {
     there
 }
 
-#[test]
-fn eight_workers_over_two_frames(rt: HostRuntime) {
+// Eight workers over so many frames.
+fn crowd<R: Alloc<A = Global> + Threads + Wait + Abort + Sync>(rt: &R, frames: u32) {
     let alloc = rt.alloc();
-    let devices = made(&rt, Vec::from_array(alloc, [FakeDevice::new(alloc)]));
-    let settings = Settings::new(64, 2, 4_096);
-    let (counts, pairs) = made(&rt, run(&rt, alloc, settings, devices, 8, &Counters));
+    let devices = made(rt, Vec::from_array(alloc, [FakeDevice::new(alloc)]));
+    let settings = Settings::new(64, frames, 4_096);
+    let (counts, pairs) = made(rt, run(rt, alloc, settings, devices, 8, &Counters));
     let mut counted = 0u32;
     for count in &counts {
         match count {
@@ -75,6 +77,30 @@ fn eight_workers_over_two_frames(rt: HostRuntime) {
             Err(refusal) => panic!(rt; "{refusal}"),
         }
     }
-    equal(&rt, pairs.len(), 81);
-    equal(&rt, shared_number(&pairs), counted);
+    equal(rt, pairs.len(), 81);
+    equal(rt, shared_number(&pairs), counted);
+}
+
+/// No session owns a frame between its calls.
+#[test]
+fn eight_workers_over_two_frames(rt: HostRuntime) {
+    crowd(&rt, 2);
+}
+
+/// Each session may own one, and half of the frames that are left have to be given up.
+#[test]
+fn eight_workers_over_frames_of_their_own(rt: HostRuntime) {
+    crowd(&rt, 32);
+}
+
+/// One owns all that it may, over fewer frames than keys.
+#[test]
+fn one_worker_over_four_frames(rt: HostRuntime) {
+    let alloc = rt.alloc();
+    let devices = made(&rt, Vec::from_array(alloc, [FakeDevice::new(alloc)]));
+    let settings = Settings::new(64, 4, 4_096);
+    let (counts, pairs) = made(&rt, run(&rt, alloc, settings, devices, 1, &Counters));
+    equal(&rt, counts.as_slice(), [Ok(ROUNDS)].as_slice());
+    equal(&rt, pairs.len(), 11);
+    equal(&rt, shared_number(&pairs), ROUNDS);
 }
