@@ -4,6 +4,7 @@
 pub(crate) mod build;
 pub(crate) mod far;
 pub(crate) mod local;
+pub(crate) mod making;
 pub(crate) mod publish;
 pub(crate) mod seen;
 pub(crate) mod settle;
