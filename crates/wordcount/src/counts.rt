@@ -1,12 +1,10 @@
-//! Counts, as the map has them: eight bytes, the highest first. And the order in which words are printed.
+//! Counts, as the map has them: eight bytes, the highest first.
 ghost use Rattle.std.specs.Prelude.{◌≡◌, ◌+◌, ◌-◌, ◌^◌, min, IfSome};
-ghost use Rattle.std.specs.List.Sorted.{IsPermutation, IsSorted};
 ghost use Rattle.table_core.specs.Lent.{lent_value};
-ghost use Rattle.wordcount.specs.Counts.{count_of, count_found, print_cmp};
+ghost use Rattle.wordcount.specs.Counts.{count_of, count_found};
 
 use far_object::Text;
 use std::alloc::Global;
-use std::cmp::Ordering;
 
 /// The count that a value writes.
 pub fn count_of(value: &Text) -> u64
@@ -27,20 +25,4 @@ pub fn raised(alloc: Global, found: Option<&Text>) -> Option<Text>
         None => 0,
     };
     Text::new(alloc, &count.saturating_add(1).to_be_bytes()).ok()
-}
-
-/// The greater count first, and of equal ones the lesser word.
-fn compare(one: &(Text, Text), other: &(Text, Text)) -> Ordering
-    ensures { result ≡ print_cmp one.now other.now }
-{
-    let by_count = count_of(&other.1).cmp(&count_of(&one.1));
-    by_count.then(one.0.as_bytes().cmp(other.0.as_bytes()))
-}
-
-/// Puts words with their counts in the order in which they are printed.
-pub fn put_in_order(pairs: &mut Vec<(Text, Text)>)
-    ensures same { IsPermutation pairs.old.items pairs.new.items }
-    ensures sorted { IsSorted print_cmp pairs.new.items }
-{
-    pairs.sort_unstable_by(compare);
 }

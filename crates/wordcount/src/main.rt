@@ -8,17 +8,17 @@ mod asked;
 mod counting;
 mod counts;
 mod pieces;
+mod top;
 mod words;
 
 use anyhow::{Result, bail};
 use asked::{Asked, command};
 use counting::Counting;
-use counts::{count_of, put_in_order};
 use far_device::{Device, FakeDevice};
-use far_map::Settings;
-use far_object::Text;
+use far_map::{RunFault, Settings, run_through};
 use file_device::FolderFault;
 use pieces::Pieces;
+use std::cmp::Reverse;
 use std::env::Env;
 use std::fs::File;
 use std::io::{BufWriter, ErrorKind, Write};
@@ -27,6 +27,7 @@ use std::rt::Files;
 use std::sync::Wait;
 use std::thread::Threads;
 use std::{env, io};
+use top::{Counted, Top};
 
 /// The most bytes of the pairs of one bucket: the most that there can be.
 const LIMIT: u32 = 1_048_576;
@@ -37,31 +38,36 @@ const DEVICES: u32 = 4;
 /// The most folders: as many as a map may have devices.
 const MOST_FOLDERS: usize = 64;
 
-/// The words and their counts.
-fn count<D, R>(rt: &R, asked: &Asked, files: &[&str], devices: Vec<D>) -> Result<Vec<(Text, Text)>>
+/// The first words with their counts.
+fn count<D, R>(rt: &R, asked: &Asked, files: &[&str], devices: Vec<D>) -> Result<Top>
 where
     D: Device + Send,
     R: Files<File = File> + AllocGlobal + Threads + Wait + Sync,
 {
+    let alloc = rt.alloc();
     let settings = Settings::new(asked.buckets, asked.frames, LIMIT);
     let work = Counting::new(Pieces::open(rt, files)?);
-    let ran = far_map::run(rt, rt.alloc(), settings, devices, asked.threads, &work);
-    let (told, pairs) = match ran {
-        Ok(ended) => ended,
+    let mut top = Top::new(alloc, asked.top as usize);
+    let ran = run_through(rt, alloc, settings, devices, asked.threads, &work, &mut top);
+    let (told, ended) = match ran {
+        Ok(both) => both,
         Err(fault) => bail!("the map could not be run: {fault}"),
     };
     for counted in told {
         counted?;
     }
-    Ok(pairs)
+    match ended {
+        Ok(()) => Ok(top),
+        Err(RunFault::Stopped) => bail!("memory"),
+        Err(fault) => bail!("the counts could not be read: {fault}"),
+    }
 }
 
-/// Writes the first pairs, a line for each.
-fn write<W: Write>(out: &mut W, pairs: &[(Text, Text)]) -> io::Result<()> {
-    for (word, count) in pairs {
-        let count = count_of(count);
+/// Writes a line for each word.
+fn write<W: Write>(out: &mut W, words: &[Counted]) -> io::Result<()> {
+    for (Reverse(count), word) in words {
         write!(out, "{count} ")?;
-        out.write_all(word.as_bytes())?;
+        out.write_all(word)?;
         out.write_all(b"\n")?;
     }
     out.flush()
@@ -73,12 +79,10 @@ where
     D: Device + Send,
     R: Files<File = File> + AllocGlobal + Print + Eprint + Threads + Wait + Sync,
 {
-    let mut pairs = count(rt, asked, files, devices)?;
-    put_in_order(&mut pairs);
-    let top = (asked.top as usize).min(pairs.len());
+    let top = count(rt, asked, files, devices)?;
+    let (distinct, buckets, frames) = (top.distinct(), asked.buckets, asked.frames);
     let mut out = BufWriter::new(rt.alloc(), io::writer(rt))?;
-    write(&mut out, &pairs[..top])?;
-    let (distinct, buckets, frames) = (pairs.len(), asked.buckets, asked.frames);
+    write(&mut out, top.into_first().as_slice())?;
     eprintln!(rt; "{distinct} distinct words, {buckets} buckets, {frames} frames")?;
     Ok(())
 }
