@@ -2,7 +2,7 @@
 """Prints the medians of the runs of compare.sh as markdown tables, and draws some of them: compare.py RUNS PICTURE.
 
 A line of RUNS is `KIND KEYS VALUE SHARE memory OPENED FILLED`, or `KIND KEYS VALUE SHARE SKEW GETS THREADS CALLS NANOSECONDS
-LOST`, where the nanoseconds go from the first thread's beginning to the last one's end.
+LOST ..`, where the nanoseconds go from the first thread's beginning to the last one's end.
 """
 import sys
 from collections import defaultdict
@@ -26,7 +26,7 @@ def read(path):
             if rest[0] == "memory":
                 memory[keys, int(value), int(share), kind].append((int(rest[1]), int(rest[2])))
                 continue
-            skew, (gets, threads, calls, nanoseconds, lost) = rest[0], map(int, rest[1:])
+            skew, (gets, threads, calls, nanoseconds, lost) = rest[0], map(int, rest[1:6])
             if lost:
                 print(f"{lost} calls were not done: {line}", file=sys.stderr)
             workload = (int(share), keys, int(value), skew, gets, threads)

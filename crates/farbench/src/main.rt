@@ -23,7 +23,7 @@ const USAGE: &str = "usage: farbench words ROUNDS
        farbench table BUCKETS ROUNDS
        farbench evicting FRAMES
        farbench plain BUCKETS <FILE
-       farbench mixed VALUE BUCKETS FRAMES";
+       farbench mixed VALUE BUCKETS FRAMES [DIR]";
 
 /// The number that a word is, where there is one.
 fn number(word: Option<String>) -> Result<Option<u32>> {
@@ -45,7 +45,9 @@ where
     };
     let count = count.as_str().parse::<u32>()?;
     let second = number(words.next())?;
-    match (layer.as_str(), second, number(words.next())?) {
+    let third = number(words.next())?;
+    let folder = words.next();
+    match (layer.as_str(), second, third) {
         ("words", None, None) => words::measure(rt, count),
         ("frames", Some(rounds), None) => frames::measure(rt, count, rounds),
         ("lanes", None, None) => lanes::measure(rt, count),
@@ -53,7 +55,8 @@ where
         ("evicting", None, None) => evicting::measure(rt, count),
         ("plain", None, None) => plain::run(rt, count),
         ("mixed", Some(buckets), Some(frames)) => {
-            mixed::measure(rt, host, count, buckets, frames)
+            let folder = folder.as_ref().map(|name| name.as_str());
+            mixed::measure(rt, host, count, buckets, frames, folder)
         }
         _ => bail!("no such benchmark: without arguments their usage is printed"),
     }

@@ -1,14 +1,16 @@
-//! Calls as a user's: keys of 16 bytes, drawn evenly or skewed, gets and puts mixed, with a frame for each bucket or fewer.
-//! `bench/compare.sh` runs it beside other maps, on the same files of keys and draws.
+//! Calls as a user's: keys of 16 bytes, drawn evenly or skewed, gets and puts mixed, with a frame for each bucket or fewer, over
+//! devices in the process or in a folder. `bench/compare.sh` and `bench/far.sh` run it beside other maps, on the same files of keys
+//! and draws.
 
 mod files;
 mod user;
 
 use crate::timing::{Gate, Span, alone, vec_from_fn};
 use anyhow::{Result, bail};
-use far_device::FakeDevice;
+use far_device::{Device, FakeDevice};
 use far_map::{Calls, Settings, Work, run_apart};
 use far_object::Text;
+use file_device::open_lanes;
 use files::{calls_each, key_at, key_count, resident};
 use std::alloc::Global;
 use std::fs;
@@ -32,25 +34,33 @@ const MIXES: [u32; 3] = [95, 50, 0];
 /// The files of draws.
 const SKEWS: [&str; 2] = ["uniform", "zipf"];
 
-/// What a map is measured with: keys of 16 bytes, the value of each, draws of each skew, its buckets and frames, and the bytes that
-/// were resident before.
+/// What a map is measured with: keys of 16 bytes, the value of each, draws of each skew, its buckets and frames, the folder of its
+/// devices, where they don't lie in the process, and the bytes that were resident before.
 #[derive(Drop)]
-struct Setting {
+struct Setting<'a> {
     keys: Vec<u8>,
     value: Text,
     draws: Vec<Vec<u8>>,
     buckets: u32,
     frames: u32,
+    folder: Option<&'a str>,
     before: u64,
 }
 
-/// What a worker saw: how many bytes more were resident when the map was open, and when it was filled; and how long its calls took,
-/// of each mix on each skew's draws.
+/// How long calls took, and how many objects they read from devices.
+#[derive(Clone, Copy)]
+struct Took {
+    span: Span,
+    far_reads: u64,
+}
+
+/// What a worker saw: how many bytes more were resident when the map was open, and when it was filled; and what its calls took, of
+/// each mix on each skew's draws.
 #[derive(Drop)]
 struct Seen {
     opened: u64,
     filled: u64,
-    spans: Vec<Span>,
+    took: Vec<Took>,
 }
 
 /// The work of each of so many threads, who read the clock and what is resident by the program's own handle: one that is known
@@ -58,7 +68,7 @@ struct Seen {
 #[derive(Drop)]
 struct Mixed<'a> {
     host: &'a HostRuntime,
-    setting: &'a Setting,
+    setting: &'a Setting<'a>,
     threads: u32,
     gate: Gate,
 }
@@ -87,7 +97,7 @@ impl Mixed<'_> {
         Ok(resident(self.host)?.saturating_sub(self.setting.before))
     }
 
-    /// The time of the calls of this part of the draws.
+    /// What the calls of this part of the draws take.
     fn run<S: Calls, R: Wait>(
         &self,
         rt: &R,
@@ -96,14 +106,17 @@ impl Mixed<'_> {
         draws: &[u8],
         part: u32,
         gets: u32,
-    ) -> Result<Span> {
+    ) -> Result<Took> {
         let (keys, value) = (self.setting.keys.as_slice(), &self.setting.value);
+        let before = me.traffic().far_reads;
         let user = User::new(alloc, me, keys, value, draws, part, gets)?;
         self.gate.pass();
-        alone(self.host, rt, &(), user, calls_each(draws)?)
+        let span = alone(self.host, rt, &(), user, calls_each(draws)?)?;
+        let far_reads = me.traffic().far_reads.wrapping_sub(before);
+        Ok(Took { span, far_reads })
     }
 
-    /// The times of all mixes on these draws. No mix repeats what an earlier one called.
+    /// What all mixes on these draws take. No mix repeats what an earlier one called.
     fn on_draws<S: Calls, R: Wait>(
         &self,
         rt: &R,
@@ -111,14 +124,14 @@ impl Mixed<'_> {
         worker: u32,
         me: &mut S,
         draws: &[u8],
-        spans: &mut Vec<Span>,
+        took: &mut Vec<Took>,
     ) -> Result<()> {
         // What is hot lies in frames then.
         self.run(rt, alloc, me, draws, worker, MIXES[0])?;
         let mut part = worker;
         for gets in MIXES {
             part = part.wrapping_add(self.threads);
-            spans.push(self.run(rt, alloc, me, draws, part, gets)?)?;
+            took.push(self.run(rt, alloc, me, draws, part, gets)?)?;
         }
         Ok(())
     }
@@ -137,27 +150,27 @@ impl Work for Mixed<'_> {
         let opened = self.grown()?;
         self.fill(rt, alloc, worker, me)?;
         let filled = self.grown()?;
-        let mut spans = Vec::new(alloc);
+        let mut took = Vec::new(alloc);
         for draws in &self.setting.draws {
-            self.on_draws(rt, alloc, worker, me, draws.as_slice(), &mut spans)?;
+            self.on_draws(rt, alloc, worker, me, draws.as_slice(), &mut took)?;
         }
         Ok(Seen {
             opened,
             filled,
-            spans,
+            took,
         })
     }
 }
 
-/// What each of so many workers saw on a map of its own.
-fn work_on_map<R: Threads + Wait + Sync>(
+/// What each of so many workers saw on a map of its own over these devices.
+fn work_over<D: Device + Send, R: Threads + Wait + Sync>(
     rt: &R,
     host: &HostRuntime,
-    setting: &Setting,
+    setting: &Setting<'_>,
     threads: u32,
+    devices: Vec<D>,
 ) -> Result<Vec<Seen>> {
     let alloc = host.alloc();
-    let devices = vec_from_fn(alloc, LANES, |_| Ok(FakeDevice::new(alloc)))?;
     let settings = Settings::new(setting.buckets, setting.frames, LIMIT);
     let work = Mixed {
         host,
@@ -177,41 +190,69 @@ fn work_on_map<R: Threads + Wait + Sync>(
     Ok(all)
 }
 
-/// The time of all workers' calls of this number.
-fn span_at(all: &[Seen], at: usize) -> Option<Span> {
-    let (first, others) = all.split_first()?;
-    let mut span = *first.spans.get(at)?;
-    for other in others {
-        span = span.and(*other.spans.get(at)?);
+/// The same over new devices.
+fn work_on_map<R: Threads + Wait + Sync>(
+    rt: &R,
+    host: &HostRuntime,
+    setting: &Setting<'_>,
+    threads: u32,
+) -> Result<Vec<Seen>> {
+    let alloc = host.alloc();
+    let Some(folder) = setting.folder else {
+        let devices = vec_from_fn(alloc, LANES, |_| Ok(FakeDevice::new(alloc)))?;
+        return work_over(rt, host, setting, threads, devices);
+    };
+    match open_lanes(*host, &[folder], LANES) {
+        Ok(devices) => work_over(rt, host, setting, threads, devices),
+        Err(fault) => bail!("{fault}"),
     }
-    Some(span)
+}
+
+/// What all workers' calls of this number took.
+fn took_at(all: &[Seen], at: usize) -> Option<Took> {
+    let (first, others) = all.split_first()?;
+    let mut sum = *first.took.get(at)?;
+    for other in others {
+        let took = *other.took.get(at)?;
+        sum.span = sum.span.and(took.span);
+        sum.far_reads = sum.far_reads.wrapping_add(took.far_reads);
+    }
+    Some(sum)
 }
 
 /// Prints a line for each mix on each skew's draws.
-fn print_all<R: Print>(rt: &R, setting: &Setting, threads: u32, all: &[Seen]) -> Result<()> {
+fn print_all<R: Print>(rt: &R, setting: &Setting<'_>, threads: u32, all: &[Seen]) -> Result<()> {
     let mut at = 0usize;
     for (skew, draws) in SKEWS.iter().zip(setting.draws.iter()) {
         let count = u64::from(calls_each(draws.as_slice())?).wrapping_mul(u64::from(threads));
         for gets in MIXES {
-            let Some(span) = span_at(all, at) else {
+            let Some(Took { span, far_reads }) = took_at(all, at) else {
                 bail!("no times");
             };
             let (nanoseconds, lost) = (span.nanoseconds(), span.lost);
-            println!(rt; "{skew} {gets} {threads} {count} {nanoseconds} {lost}")?;
+            println!(rt; "{skew} {gets} {threads} {count} {nanoseconds} {lost} {far_reads}")?;
             at = at.wrapping_add(1);
         }
     }
     Ok(())
 }
 
-/// Runs gets and puts on a map of so many buckets and frames, with values of so many bytes, over the files of the folder in which the
-/// program was started: `keys`, 16 bytes each, and the draws `uniform` and `zipf`, of four bytes each: a key's number, and above
-/// 24 bits a number below 100, which is compared with how many gets there are in a hundred calls. A line for each run tells the
-/// skew, the gets, the threads, the calls, their nanoseconds, and how many were not done; the first line tells how many bytes more
-/// are resident than before, when the map of one thread is open, and when it is filled.
+/// Runs gets and puts on a map of so many buckets and frames, with values of so many bytes, over devices in scratch files of the
+/// folder, or in the process where none is named. It reads the files of the folder in which the program was started: `keys`, 16
+/// bytes each, and the draws `uniform` and `zipf`, of four bytes each: a key's number, and above 24 bits a number below 100, which
+/// is compared with how many gets there are in a hundred calls. A line for each run tells the skew, the gets, the threads, the
+/// calls, their nanoseconds, how many were not done, and how many objects they read from devices; the first line tells how many
+/// bytes more are resident than before, when the map of one thread is open, and when it is filled.
 ///
 /// An error comes where memory, a file, a thread, the clock or the output fails, or a number is outside its limits.
-pub fn measure<R>(rt: &R, host: &HostRuntime, value: u32, buckets: u32, frames: u32) -> Result<()>
+pub fn measure<R>(
+    rt: &R,
+    host: &HostRuntime,
+    value: u32,
+    buckets: u32,
+    frames: u32,
+    folder: Option<&str>,
+) -> Result<()>
 where
     R: Alloc<A = Global> + Files + Print + Threads + Wait + Sync,
 {
@@ -227,6 +268,7 @@ where
         draws,
         buckets,
         frames,
+        folder,
         before: resident(rt)?,
     };
     for threads in THREADS {
