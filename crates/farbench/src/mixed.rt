@@ -47,10 +47,11 @@ struct Setting<'a> {
     before: u64,
 }
 
-/// How long calls took, and how many objects they read from devices.
+/// How long calls took, how many of them found their object in a frame, and how many objects they read from devices.
 #[derive(Clone, Copy)]
 struct Took {
     span: Span,
+    near: u64,
     far_reads: u64,
 }
 
@@ -108,12 +109,19 @@ impl Mixed<'_> {
         gets: u32,
     ) -> Result<Took> {
         let (keys, value) = (self.setting.keys.as_slice(), &self.setting.value);
-        let before = me.traffic().far_reads;
+        let before = me.traffic();
         let user = User::new(alloc, me, keys, value, draws, part, gets)?;
         self.gate.pass();
         let span = alone(self.host, rt, &(), user, calls_each(draws)?)?;
-        let far_reads = me.traffic().far_reads.wrapping_sub(before);
-        Ok(Took { span, far_reads })
+        let after = me.traffic();
+        // A get that brings its object into a frame reads it there too.
+        let found = after.local_reads.wrapping_sub(before.local_reads);
+        let brought = after.swap_ins.wrapping_sub(before.swap_ins);
+        Ok(Took {
+            span,
+            near: found.saturating_sub(brought),
+            far_reads: after.far_reads.wrapping_sub(before.far_reads),
+        })
     }
 
     /// What all mixes on these draws take. No mix repeats what an earlier one called.
@@ -215,6 +223,7 @@ fn took_at(all: &[Seen], at: usize) -> Option<Took> {
     for other in others {
         let took = *other.took.get(at)?;
         sum.span = sum.span.and(took.span);
+        sum.near = sum.near.wrapping_add(took.near);
         sum.far_reads = sum.far_reads.wrapping_add(took.far_reads);
     }
     Some(sum)
@@ -226,11 +235,20 @@ fn print_all<R: Print>(rt: &R, setting: &Setting<'_>, threads: u32, all: &[Seen]
     for (skew, draws) in SKEWS.iter().zip(setting.draws.iter()) {
         let count = u64::from(calls_each(draws.as_slice())?).wrapping_mul(u64::from(threads));
         for gets in MIXES {
-            let Some(Took { span, far_reads }) = took_at(all, at) else {
+            let Some(
+                Took {
+                    span,
+                    near,
+                    far_reads,
+                },
+            ) = took_at(all, at)
+            else {
                 bail!("no times");
             };
             let (nanoseconds, lost) = (span.nanoseconds(), span.lost);
-            println!(rt; "{skew} {gets} {threads} {count} {nanoseconds} {lost} {far_reads}")?;
+            println!(rt;
+                "{skew} {gets} {threads} {count} {nanoseconds} {lost} {near} {far_reads}"
+            )?;
             at = at.wrapping_add(1);
         }
     }
@@ -241,7 +259,8 @@ fn print_all<R: Print>(rt: &R, setting: &Setting<'_>, threads: u32, all: &[Seen]
 /// folder, or in the process where none is named. It reads the files of the folder in which the program was started: `keys`, 16
 /// bytes each, and the draws `uniform` and `zipf`, of four bytes each: a key's number, and above 24 bits a number below 100, which
 /// is compared with how many gets there are in a hundred calls. A line for each run tells the skew, the gets, the threads, the
-/// calls, their nanoseconds, how many were not done, and how many objects they read from devices; the first line tells how many
+/// calls, their nanoseconds, how many were not done, how many found their object in a frame, and how many objects they read from
+/// devices; the first line tells how many
 /// bytes more are resident than before, when the map of one thread is open, and when it is filled.
 ///
 /// An error comes where memory, a file, a thread, the clock or the output fails, or a number is outside its limits.
