@@ -11,33 +11,14 @@ mod far_map;
 mod files;
 mod maps;
 mod runs;
+mod shared;
 
 use far_map::FarMap;
 use maps::{Mutexes, Pairs};
+use shared::{bucket, Key, SharedMap};
 use std::env;
 use std::error::Error;
 use std::io::{self, Write};
-
-/// A key.
-type Key = [u8; 16];
-
-/// What is measured: a map that threads share. Its answers are copies of their own, as the table's are.
-trait SharedMap: Sync {
-    /// The value of the key.
-    fn get(&self, key: &Key) -> Option<Box<[u8]>>;
-
-    /// Gives the key a copy of the value, and answers the value that it had.
-    fn put(&self, key: &Key, value: &[u8]) -> Option<Box<[u8]>>;
-}
-
-/// The bucket of a key, as the table's format has it: over its length in two bytes, and then its bytes.
-fn bucket(key: &Key, buckets: u32) -> u32 {
-    let front = (key.len() as u16).to_be_bytes();
-    let bytes = front.iter().chain(key);
-    bytes.fold(0u32, |hash, byte| {
-        hash.wrapping_mul(31).wrapping_add(u32::from(*byte))
-    }) % buckets
-}
 
 fn main() -> Result<(), Box<dyn Error>> {
     let words: Vec<String> = env::args().skip(1).collect();
