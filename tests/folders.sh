@@ -1,8 +1,13 @@
 #!/usr/bin/env bash
-# Runs farrun with devices in folders: what it prints is what fartable prints, a folder that can't be used is named, and none
-# is left with a name in it, also by a run that is killed. The status is 1 where one differs.
+# Runs farrun with devices in folders: what it prints is what fartable prints, 200 sets of random files on threads, with --long
+# 5,000, have a history each (random_runs.py), a folder that can't be used is named, and none is left with a name in it, also by a
+# run that is killed: folders.sh [--long]. The status is 1 where one differs.
 set -euo pipefail
 
+runs=200
+if [ "${1:-}" = --long ]; then
+    runs=5000
+fi
 root=$(cd "$(dirname "$(readlink -f "${BASH_SOURCE[0]}")")/.." && pwd)
 fartable=$("$root/bin/build" fartable)
 farrun=$("$root/bin/build" farrun)
@@ -42,6 +47,7 @@ try_same 4 2 4096 "$root/examples/first.txt"
 try_same 4 2 4096 "$root/examples/swapped.txt"
 try_same 4 2 4096 "$root/examples/first.txt" "$root/examples/other.txt"
 try_same 256 16 4096 "$work/many.txt"
+/usr/bin/python3 -B "$root/tests/random_runs.py" "$farrun" "$runs" 1 --far "$work/one" --far "$work/other" || failed=1
 
 try_fault 2 'far 1: cannot open' --far "$work/none" 4 2 4096 "$work/no_file"
 try_fault 2 'far 2: cannot open' --far "$work/one" --far '' 4 2 4096 -

@@ -1,7 +1,9 @@
-"""Runs the program on random files of one to four threads, and looks for a history of each: random_runs.py PROGRAM [RUNS] [SEED].
+"""Runs the program on random files of one to four threads, and looks for a history of each:
+random_runs.py PROGRAM [RUNS] [SEED] [OPTION..].
 
-Every run has to end with status 0, and with replies and contents that histories.py finds a history for. At least one run
-in a hundred has to be one that no order of whole files explains, so that files are seen to run side by side.
+The options stand before the settings, as `--far DIR` of farrun. Every run has to end with status 0, and with replies and
+contents that histories.py finds a history for. At least one run in a hundred has to be one that no order of whole files
+explains, so that files are seen to run side by side.
 """
 import collections
 import os
@@ -20,14 +22,14 @@ def command(chance, file, number):
     return chance.choices(kinds, [8, 8, 3, 2, 4, 8, 1, 1, 2, 3, 1])[0]
 
 
-def main(program, runs=10_000, seed=1):
+def main(program, runs=10_000, seed=1, *options):
     chance = random.Random(seed)
     wrong = beside = 0
     refused = collections.Counter()
     for number in range(runs):
         count = chance.randint(2, 4)
         files = [[command(chance, file, at) for at in range(chance.randint(1, 60))] for file in range(count)]
-        settings = [chance.choice([1, 2, 4, 64]), chance.randint(1, 8), 4096]
+        settings = [*options, chance.choice([1, 2, 4, 64]), chance.randint(1, 8), 4096]
         found, told = judge(files, *run(program, settings, files))
         if told:
             wrong += 1
@@ -41,4 +43,4 @@ def main(program, runs=10_000, seed=1):
 
 
 if __name__ == "__main__":
-    main(os.path.abspath(sys.argv[1]), *map(int, sys.argv[2:]))
+    main(os.path.abspath(sys.argv[1]), *map(int, sys.argv[2:4]), *sys.argv[4:])
