@@ -6,6 +6,7 @@ mod encodings;
 mod file_devices;
 mod file_disks;
 mod file_runs;
+mod folders;
 mod logs;
 mod many;
 mod objects;

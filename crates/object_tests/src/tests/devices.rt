@@ -91,6 +91,15 @@ fn play_faulty(rt: &impl Abort, alloc: Global, k: u64, rows: &[Row<'_>]) {
     );
 }
 
+/// What a device answers whose second call fails. Calls of construct are not counted.
+pub(super) const READ_FAILS: [Row<'static>; 5] = [
+    (Call::Construct, Ok(true), 0),
+    (Call::Write(7, &[1, 2]), Ok(true), 0),
+    (Call::Read(7, &[]), FAILED, 1),
+    (Call::Read(7, &[1, 2]), Ok(true), 1),
+    (Call::Remove(7), Ok(true), 1),
+];
+
 #[test]
 fn a_faulty_device_fails_its_call_and_goes_on(rt: HostRuntime) {
     let write = (Call::Write(7, &[1, 2]), Ok(true), 0);
@@ -106,15 +115,7 @@ fn a_faulty_device_fails_its_call_and_goes_on(rt: HostRuntime) {
         (Call::Write(7, &[1, 2]), Ok(true), 1),
     ];
     play_faulty(&rt, rt.alloc(), 1, &write_fails);
-    // Calls of construct are not counted.
-    let read_fails: [Row<'_>; 5] = [
-        (Call::Construct, Ok(true), 0),
-        write,
-        (Call::Read(7, &[]), FAILED, 1),
-        (Call::Read(7, &[1, 2]), Ok(true), 1),
-        (Call::Remove(7), Ok(true), 1),
-    ];
-    play_faulty(&rt, rt.alloc(), 2, &read_fails);
+    play_faulty(&rt, rt.alloc(), 2, &READ_FAILS);
     let remove_fails: [Row<'_>; 3] = [
         write,
         (Call::Remove(7), FAILED, 1),
@@ -134,17 +135,19 @@ fn failures_of_nested_devices_are_one_count(rt: HostRuntime) {
     play(&rt, rt.alloc(), &mut FaultyDevice::new(inner, 2), &rows);
 }
 
+/// What a device answers that gives a read's bytes without the last one.
+pub(super) const LYING: [Row<'static>; 5] = [
+    (Call::Write(7, &[1, 2]), Ok(true), 0),
+    (Call::Write(8, &[]), Ok(true), 0),
+    (Call::Read(7, &[1]), Ok(true), 0),
+    (Call::Read(8, &[]), Ok(true), 0),
+    (Call::Read(6, &[]), Ok(false), 0),
+];
+
 #[test]
 fn devices_that_give_other_bytes_than_were_written(rt: HostRuntime) {
-    let lying = [
-        (Call::Write(7, &[1, 2]), Ok(true), 0),
-        (Call::Write(8, &[]), Ok(true), 0),
-        (Call::Read(7, &[1]), Ok(true), 0),
-        (Call::Read(8, &[]), Ok(true), 0),
-        (Call::Read(6, &[]), Ok(false), 0),
-    ];
     let mut device = LyingDevice::new(FakeDevice::new(rt.alloc()));
-    play(&rt, rt.alloc(), &mut device, &lying);
+    play(&rt, rt.alloc(), &mut device, &LYING);
     let canned = [
         (Call::Write(7, &[1, 2]), Ok(true), 0),
         (Call::Read(7, &[5, 6, 7]), Ok(true), 0),
@@ -156,7 +159,7 @@ fn devices_that_give_other_bytes_than_were_written(rt: HostRuntime) {
 }
 
 /// Plays the calls on a device that is watched, and compares the writes and failures that it told of.
-fn play_watched<D: Device>(
+pub(super) fn play_watched<D: Device>(
     rt: &impl Abort,
     alloc: Global,
     inner: D,
@@ -174,17 +177,19 @@ fn play_watched<D: Device>(
     equal(rt, found, told);
 }
 
+/// What a device answers whose first call fails.
+pub(super) const FAILS_ONCE: [Row<'static>; 3] = [
+    (Call::Write(7, &[1, 2]), FAILED, 1),
+    (Call::Write(7, &[1, 2]), Ok(true), 1),
+    (Call::Read(7, &[1, 2]), Ok(true), 1),
+];
+
 #[test]
 fn a_watched_device_tells_of_writes_and_failures(rt: HostRuntime) {
-    let fails_once = [
-        (Call::Write(7, &[1, 2]), FAILED, 1),
-        (Call::Write(7, &[1, 2]), Ok(true), 1),
-        (Call::Read(7, &[1, 2]), Ok(true), 1),
-    ];
     let device = FaultyDevice::new(FakeDevice::new(rt.alloc()), 1);
-    play_watched(&rt, rt.alloc(), device, &fails_once[..1], (1, 1));
+    play_watched(&rt, rt.alloc(), device, &FAILS_ONCE[..1], (1, 1));
     let device = FaultyDevice::new(FakeDevice::new(rt.alloc()), 1);
-    play_watched(&rt, rt.alloc(), device, &fails_once, (2, 1));
+    play_watched(&rt, rt.alloc(), device, &FAILS_ONCE, (2, 1));
     let fails_twice = [
         (Call::Read(7, &[]), FAILED, 1),
         (Call::Remove(7), FAILED, 2),

@@ -1,8 +1,11 @@
 //! Devices on a disk: what far_device's rows say, disks that misbehave, and what lies in a folder.
 use super::common::{equal, holds, list, made};
-use super::devices::{Call, FAILED, MAP, Row, expect_recovery, locked, play};
+use super::devices::{
+    Call, FAILED, FAILS_ONCE, LYING, MAP, READ_FAILS, Row, expect_recovery, locked, play,
+    play_watched,
+};
 use super::file_disks::{Flaw, FlawedDisk};
-use far_device::{Device, DeviceFault};
+use far_device::{Device, DeviceFault, FaultyDevice, LyingDevice};
 use file_device::{DiskFault, Failure, FileDevice, FileDisk, MemoryDisk, Step};
 use std::alloc::Global;
 use std::hash::RandomState;
@@ -21,11 +24,16 @@ pub(super) fn in_memory(rt: &(impl Abort + RandomSource), alloc: Global) -> File
     )
 }
 
-/// A device on a disk with a flaw.
-fn flawed(rt: &(impl Abort + RandomSource), alloc: Global, flaw: Flaw) -> FileDevice<FlawedDisk> {
+/// A device on a disk of whose calls some have a flaw.
+pub(super) fn flawed(
+    rt: &(impl Abort + RandomSource),
+    alloc: Global,
+    flaw: Flaw,
+    every: u64,
+) -> FileDevice<FlawedDisk> {
     FileDevice::new(
         alloc,
-        FlawedDisk::new(alloc, flaw),
+        FlawedDisk::new(alloc, flaw, every),
         made(rt, RandomState::new(rt)),
     )
 }
@@ -42,6 +50,35 @@ fn devices_on_disks_are_maps(rt: HostRuntime) {
     // Threads can share it behind a lock.
     let mut device = locked(in_files(&rt, rt));
     play(&rt, rt.alloc(), device.get_mut(), &MAP);
+}
+
+/// Plays the rows of devices over others, over these three.
+fn play_over<D: Device>(rt: &impl Abort, alloc: Global, (faulty, lying, watched): (D, D, D)) {
+    play(rt, alloc, &mut FaultyDevice::new(faulty, 2), &READ_FAILS);
+    play(rt, alloc, &mut LyingDevice::new(lying), &LYING);
+    let failing = FaultyDevice::new(watched, 1);
+    play_watched(rt, alloc, failing, &FAILS_ONCE, (2, 1));
+}
+
+#[test]
+fn devices_over_one_in_memory(rt: HostRuntime) {
+    let alloc = rt.alloc();
+    let first = in_memory(&rt, alloc);
+    play_over(
+        &rt,
+        alloc,
+        (first, in_memory(&rt, alloc), in_memory(&rt, alloc)),
+    );
+}
+
+#[test]
+fn devices_over_one_in_files(rt: HostRuntime) {
+    let first = in_files(&rt, rt);
+    play_over(
+        &rt,
+        rt.alloc(),
+        (first, in_files(&rt, rt), in_files(&rt, rt)),
+    );
 }
 
 #[test]
@@ -61,7 +98,7 @@ const DAMAGED: [Row<'static>; 6] = [
 #[test]
 fn what_came_back_damaged_is_a_failure(rt: HostRuntime) {
     for flaw in [Flaw::FlippedBit, Flaw::Shortened, Flaw::Lengthened] {
-        let mut device = flawed(&rt, rt.alloc(), flaw);
+        let mut device = flawed(&rt, rt.alloc(), flaw, 1);
         play(&rt, rt.alloc(), &mut device, &DAMAGED);
         equal(&rt, device.last_failure(), Some(Failure::Damaged));
     }
@@ -78,7 +115,7 @@ fn what_a_slot_had_before_is_a_failure(rt: HostRuntime) {
         (Call::Read(7, &[]), FAILED, 1),
         (Call::Read(8, &[5]), Ok(true), 1),
     ];
-    let mut device = flawed(&rt, rt.alloc(), Flaw::Forgotten(3));
+    let mut device = flawed(&rt, rt.alloc(), Flaw::Forgotten, 3);
     play(&rt, rt.alloc(), &mut device, &rows);
     equal(&rt, device.last_failure(), Some(Failure::Damaged));
 }
@@ -99,7 +136,7 @@ fn a_disk_that_fails_leaves_all_as_it_was(rt: HostRuntime) {
         (Call::Remove(7), Ok(true), 4),
         (Call::Remove(7), Ok(false), 4),
     ];
-    let mut device = flawed(&rt, rt.alloc(), Flaw::Failing(2));
+    let mut device = flawed(&rt, rt.alloc(), Flaw::Failing, 2);
     play(&rt, rt.alloc(), &mut device, &rows);
     let why = Failure::Disk(DiskFault::Io(Step::Write, ErrorKind::StorageFull));
     equal(&rt, device.last_failure(), Some(why));
@@ -115,7 +152,7 @@ fn a_disk_that_keeps_its_slots_fails_construct(rt: HostRuntime) {
     play(
         &rt,
         rt.alloc(),
-        &mut flawed(&rt, rt.alloc(), Flaw::Failing(2)),
+        &mut flawed(&rt, rt.alloc(), Flaw::Failing, 2),
         &rows,
     );
 }
@@ -185,7 +222,7 @@ fn what_no_object_needs_is_given_back(rt: HostRuntime) {
 }
 
 /// How many names there are in the folder.
-fn names(rt: &(impl Abort + Files + AllocGlobal + Clone + Drop), folder: &str) -> usize {
+pub(super) fn names(rt: &(impl Abort + Files + AllocGlobal + Clone + Drop), folder: &str) -> usize {
     let mut count = 0usize;
     for entry in made(rt, fs::read_dir(rt, folder)) {
         let _ = made(rt, entry);

@@ -3,19 +3,19 @@ use file_device::{Disk, DiskFault, MemoryDisk, Slot, Step};
 use std::alloc::Global;
 use std::io::ErrorKind;
 
-/// What is wrong with a disk.
+/// What is wrong with some calls of a disk.
 #[derive(Clone, Copy, PartialEq, Eq)]
 pub enum Flaw {
-    /// Each read has one bit flipped, in its last byte.
+    /// What is read has one bit flipped, in its last byte.
     FlippedBit,
-    /// Each read lacks its last byte.
+    /// What is read lacks its last byte.
     Shortened,
-    /// Each read has one byte more.
+    /// What is read has one byte more.
     Lengthened,
-    /// This write and all later ones are not made, so a slot gives what it had before.
-    Forgotten(u64),
-    /// Each call whose number so many divides fails.
-    Failing(u64),
+    /// A write is not made, so the slot gives what it had before.
+    Forgotten,
+    /// A call fails.
+    Failing,
 }
 
 /// A disk with a flaw.
@@ -23,42 +23,47 @@ pub enum Flaw {
 pub struct FlawedDisk {
     inner: MemoryDisk,
     flaw: Flaw,
+    every: u64,
     calls: u64,
-    writes: u64,
+    flawed: u64,
     room: Vec<u8>,
 }
 
 impl FlawedDisk {
-    pub fn new(alloc: Global, flaw: Flaw) -> Self {
+    /// A disk of whose calls that can have the flaw each has it whose number `every` divides.
+    pub fn new(alloc: Global, flaw: Flaw, every: u64) -> Self {
         FlawedDisk {
             inner: MemoryDisk::new(alloc),
             flaw,
+            every,
             calls: 0,
-            writes: 0,
+            flawed: 0,
             room: Vec::new(alloc),
         }
     }
 
-    /// Counts a call, and answers whether it is one that fails.
-    fn fails(&mut self) -> bool {
-        self.calls = self.calls.wrapping_add(1);
-        match self.flaw {
-            Flaw::Failing(every) => every != 0 && self.calls % every == 0,
-            _ => false,
-        }
+    /// How many reads and writes had the flaw.
+    pub fn flawed(&self) -> u64 {
+        self.flawed
     }
 
-    /// Counts a write, and answers whether it is one that is not made.
-    fn forgets(&mut self) -> bool {
-        self.writes = self.writes.wrapping_add(1);
-        match self.flaw {
-            Flaw::Forgotten(first) => self.writes >= first,
-            _ => false,
+    /// Counts a call that can have the flaw, and answers whether it has it.
+    fn is_due(&mut self) -> bool {
+        self.calls = self.calls.wrapping_add(1);
+        self.every != 0 && self.calls % self.every == 0
+    }
+
+    /// The same for a read or a write.
+    fn has(&mut self, flaw: Flaw) -> bool {
+        let has = self.flaw == flaw && self.is_due();
+        if has {
+            self.flawed = self.flawed.wrapping_add(1);
         }
+        has
     }
 }
 
-/// The bytes with this flaw.
+/// The bytes with this flaw, where there are some.
 fn spoil(room: &mut Vec<u8>, flaw: Flaw) -> Result<(), DiskFault> {
     let Some(last) = room.pop() else {
         return Ok(());
@@ -75,6 +80,11 @@ fn spoil(room: &mut Vec<u8>, flaw: Flaw) -> Result<(), DiskFault> {
     Ok(())
 }
 
+/// Whether it is a flaw of what is read.
+fn spoils(flaw: Flaw) -> bool {
+    matches!(flaw, Flaw::FlippedBit | Flaw::Shortened | Flaw::Lengthened)
+}
+
 impl Disk for FlawedDisk {
     ghost use Rattle.std.specs.Prelude.{false, []};
 
@@ -83,28 +93,30 @@ impl Disk for FlawedDisk {
     ghost kept = { λ disk slot. [] };
 
     fn write_slot(&mut self, slot: Slot, bytes: &[u8]) -> Result<(), DiskFault> {
-        if self.fails() {
+        if self.has(Flaw::Failing) {
             return Err(DiskFault::Io(Step::Write, ErrorKind::StorageFull));
         }
-        if self.forgets() {
+        if self.has(Flaw::Forgotten) {
             return Ok(());
         }
         self.inner.write_slot(slot, bytes)
     }
 
     fn read_slot(&mut self, slot: Slot, len: u32, out: &mut Vec<u8>) -> Result<(), DiskFault> {
-        if self.fails() {
+        if self.has(Flaw::Failing) {
             return Err(DiskFault::Io(Step::Read, ErrorKind::Other));
         }
         self.room.clear();
         self.inner.read_slot(slot, len, &mut self.room)?;
-        spoil(&mut self.room, self.flaw)?;
+        if spoils(self.flaw) && !self.room.is_empty() && self.has(self.flaw) {
+            spoil(&mut self.room, self.flaw)?;
+        }
         out.extend_from_slice(&self.room)?;
         Ok(())
     }
 
     fn clear(&mut self, class: u8) -> Result<(), DiskFault> {
-        if self.fails() {
+        if self.flaw == Flaw::Failing && self.is_due() {
             return Err(DiskFault::Io(Step::Cut, ErrorKind::Other));
         }
         self.inner.clear(class)

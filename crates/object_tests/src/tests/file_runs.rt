@@ -1,7 +1,8 @@
 //! Long runs of random calls against a map.
 use super::common::{equal, holds, made};
-use super::file_devices::{in_files, in_memory};
-use far_device::Device;
+use super::file_devices::{flawed, in_files, in_memory};
+use super::file_disks::Flaw;
+use far_device::{Device, DeviceFault};
 use file_device::{Disk, FileDevice, Slot};
 use std::alloc::Global;
 use std::process::Abort;
@@ -9,8 +10,11 @@ use std::process::Abort;
 /// How many ids there are.
 const IDS: usize = 300;
 
-/// How many calls a run makes.
+/// How many calls a run makes on a disk that keeps what it is given.
 const CALLS: u32 = 100_000;
+
+/// How many calls a run makes on a disk with a flaw.
+const FLAWED_CALLS: u32 = 10_000;
 
 /// Numbers that look random, by a linear congruential generator with Knuth's constants.
 #[derive(Drop)]
@@ -36,10 +40,11 @@ impl Numbers {
     }
 }
 
-/// What is to be in a device, and how many slots of each class it had at most.
+/// What is to be in a device, and how many calls failed.
 #[derive(Drop)]
 struct Wanted {
     objects: Vec<Option<(u32, u32)>>,
+    failures: u64,
     written: Vec<u8>,
     read: Vec<u8>,
 }
@@ -61,6 +66,7 @@ impl Wanted {
         }
         Wanted {
             objects,
+            failures: 0,
             written: Vec::new(alloc),
             read: Vec::new(alloc),
         }
@@ -77,6 +83,12 @@ impl Wanted {
         }
     }
 
+    /// Counts a call that failed, which has changed nothing.
+    fn fail(&mut self, rt: &impl Abort, fault: DeviceFault) {
+        equal(rt, fault, DeviceFault::Failed);
+        self.failures = self.failures.wrapping_add(1);
+    }
+
     /// Writes an object, and finds it in one of the first slots: none is lost.
     fn write<K: Disk>(
         &mut self,
@@ -86,20 +98,28 @@ impl Wanted {
         object: (u32, u32),
     ) {
         fill(rt, &mut self.written, object);
-        equal(rt, device.write(id as u64, &self.written), Ok(()));
-        self.set(id, Some(object));
-        match device.slot(id as u64) {
+        match device.write(id as u64, &self.written) {
+            Ok(()) => self.set(id, Some(object)),
+            Err(fault) => self.fail(rt, fault),
+        }
+        let slot = device.slot(id as u64);
+        equal(rt, slot.is_some(), self.object(id).is_some());
+        if let Some(slot) = slot {
             // An id that is written again has two slots for a while.
-            Some(slot) => holds(rt, slot.number as usize <= IDS),
-            None => holds(rt, false),
+            holds(rt, slot.number as usize <= IDS);
         }
     }
 
     /// Reads an object behind what was read before.
     fn read<D: Device>(&mut self, rt: &impl Abort, device: &mut D, id: usize) {
         self.read.clear();
-        let found = device.read(id as u64, &mut self.read);
-        equal(rt, found, Ok(self.object(id).is_some()));
+        match device.read(id as u64, &mut self.read) {
+            Ok(found) => equal(rt, found, self.object(id).is_some()),
+            Err(fault) => {
+                holds(rt, self.read.is_empty());
+                return self.fail(rt, fault);
+            }
+        }
         self.written.clear();
         if let Some(object) = self.object(id) {
             fill(rt, &mut self.written, object);
@@ -150,26 +170,56 @@ fn slots_of<K: Disk>(rt: &impl Abort, alloc: Global, device: &FileDevice<K>) -> 
     slots
 }
 
-/// Makes a run of calls, and looks at each object at its end.
-fn run<K: Disk>(rt: &impl Abort, alloc: Global, device: &mut FileDevice<K>, seed: u64) {
+/// Makes a run of calls, and looks at each object at its end. Answers how many calls failed.
+fn run<K: Disk>(
+    rt: &impl Abort,
+    alloc: Global,
+    device: &mut FileDevice<K>,
+    (calls, seed): (u32, u64),
+) -> u64 {
     let mut wanted = Wanted::new(rt, alloc);
     let mut numbers = Numbers { state: seed };
-    for _ in 0..CALLS {
+    for _ in 0..calls {
         step(rt, device, &mut wanted, &mut numbers);
     }
     for id in 0..IDS {
         wanted.read(rt, device, id);
     }
     holds(rt, are_apart(&slots_of(rt, alloc, device)));
-    equal(rt, device.failures(), 0);
+    equal(rt, device.failures(), wanted.failures);
+    wanted.failures
 }
 
 #[test]
 fn random_calls_in_memory(rt: HostRuntime) {
-    run(&rt, rt.alloc(), &mut in_memory(&rt, rt.alloc()), 1);
+    let mut device = in_memory(&rt, rt.alloc());
+    equal(&rt, run(&rt, rt.alloc(), &mut device, (CALLS, 1)), 0);
 }
 
 #[test]
 fn random_calls_in_files(rt: HostRuntime) {
-    run(&rt, rt.alloc(), &mut in_files(&rt, rt), 2);
+    let mut device = in_files(&rt, rt);
+    equal(&rt, run(&rt, rt.alloc(), &mut device, (CALLS, 2)), 0);
+}
+
+#[test]
+fn random_calls_find_each_flaw(rt: HostRuntime) {
+    for flaw in [
+        Flaw::FlippedBit,
+        Flaw::Shortened,
+        Flaw::Lengthened,
+        Flaw::Failing,
+    ] {
+        let mut device = flawed(&rt, rt.alloc(), flaw, 7);
+        let failures = run(&rt, rt.alloc(), &mut device, (FLAWED_CALLS, 3));
+        holds(&rt, failures >= 100);
+        equal(&rt, failures, device.disk().flawed());
+    }
+}
+
+#[test]
+fn random_calls_find_what_was_not_written(rt: HostRuntime) {
+    let mut device = flawed(&rt, rt.alloc(), Flaw::Forgotten, 7);
+    let failures = run(&rt, rt.alloc(), &mut device, (FLAWED_CALLS, 4));
+    holds(&rt, failures >= 100);
 }
