@@ -7,7 +7,7 @@ use far_device::{
     CannedDevice, Device, DeviceFault, FakeDevice, FaultyDevice, LyingDevice, WatchedDevice,
 };
 use far_object::Memory;
-use file_device::{DiskFault, FileDevice, FileDisk, MemoryDisk};
+use file_device::{DiskFault, FileDevice, FileDisk, FolderFault, MemoryDisk, open_lanes};
 use std::alloc::Global;
 use std::fs::File;
 use std::hash::RandomState;
@@ -231,6 +231,21 @@ where
     ))
 }
 
+/// Opens devices for more lanes than there are folders.
+fn open_in_turn<R>(rt: &R) -> Tried
+where
+    R: Files<File = File> + Alloc<A = Global> + RandomSource + Copy + Drop,
+{
+    Ok(tried!(
+        answer!(
+            open_lanes(*rt, &[FOLDER, FOLDER], 3),
+            devices => devices.len() == 3,
+            FolderFault::Memory
+        ),
+        true
+    ))
+}
+
 fn write<D: Device>(alloc: Global, made: Result<D, Memory>, shown: Shown<'_>, id: u64) -> Tried {
     Ok(prepared(alloc, made, shown)?.write(id))
 }
@@ -329,6 +344,7 @@ where
     // Where it is there already, it serves too.
     let _ = fs::create_dir(rt, FOLDER);
     tell(rt, "FileDevice::open", open(rt))?;
+    tell(rt, "open_lanes", open_in_turn(rt))?;
     tell_device(rt, "FileDevice::open, then ", |_| in_files(rt), PLAIN)?;
     let many = append_many(rt.alloc(), in_files_with_room(rt));
     tell(rt, "FileDevice::open, then write, many ids", many)?;
