@@ -1,0 +1,405 @@
+"""Tries the front, with lanes in threads in the place of a server's: front.py FOLDER CLIENTS, where FOLDER has the program."""
+import contextlib
+import os
+import random
+import resource
+import signal
+import socket
+import stat
+import struct
+import subprocess
+import sys
+import time
+
+from front_parts import CLOSE, DATA, OPEN, PATIENCE, WAKE, Front, asked, frame, is_closed, pong, received, until
+
+MEBIBYTE = 1 << 20
+
+
+def each_client_gets_its_own(work, clients):
+    with Front(work, lanes=3) as front:
+        all_of = [front.client() for _ in range(clients)]
+        until(lambda: sum(it.count(OPEN) for it in front.lanes) == clients, "all opens")
+        counts = [it.count(OPEN) for it in front.lanes]
+        assert max(counts) - min(counts) <= 1, f"not dealt in turn: {counts}"
+        for turn in range(3):
+            random.shuffle(all_of)
+            for number, client in enumerate(all_of):
+                client.sendall(b"ECHO %d %d\nEC" % (turn, number))
+            for number, client in enumerate(all_of):
+                client.sendall(b"HO half of %d\n" % number)
+            for number, client in enumerate(all_of):
+                want = b"%d %d\nhalf of %d\n" % (turn, number, number)
+                assert received(client, len(want)) == want
+
+
+def bytes_come_one_by_one_and_many_at_once(work, _):
+    with Front(work) as front:
+        client = front.client()
+        for byte in b"ECHO in pieces\n":
+            client.sendall(bytes([byte]))
+        assert received(client, 10) == b"in pieces\n"
+        lines = [b"ECHO %d %s\n" % (at, b"y" * random.randrange(3000)) for at in range(2000)]
+        client.settimeout(None)
+        with sender(client, b"".join(lines)):
+            want = b"".join(it[5:] for it in lines)
+            assert received(client, len(want)) == want
+        asked(client, b"BIG %d" % (9 * MEBIBYTE), b"x" * 9 * MEBIBYTE)
+        assert front.rests()
+
+
+@contextlib.contextmanager
+def sender(client, data):
+    """Sends beside what is done meanwhile."""
+    import threading
+    thread = threading.Thread(target=client.sendall, args=(data,), daemon=True)
+    thread.start()
+    yield
+    thread.join(PATIENCE)
+    assert not thread.is_alive(), "it was not all taken"
+
+
+def who_does_not_read_is_closed_alone(work, _):
+    with Front(work, "--output-limit", str(8 * MEBIBYTE)) as front:
+        lazy, other = front.client(), front.client()
+        lazy.sendall(b"BIG %d\n" % (6 * MEBIBYTE))
+        pong(other)
+        assert front.rests(), "it waits for who doesn't read"
+        for _ in range(20):
+            with contextlib.suppress(OSError):
+                lazy.sendall(b"BIG %d\n" % MEBIBYTE)
+            pong(other)
+        until(lambda: (CLOSE, 0, b"") in front.lanes[0].frames, "the close of who doesn't read")
+        assert front.memory() < 24 * MEBIBYTE, front.memory()
+        told = 0
+        with contextlib.suppress(ConnectionResetError):
+            while part := lazy.recv(MEBIBYTE):
+                told += len(part)
+        assert told < 20 * MEBIBYTE, told
+        pong(front.client())
+
+
+def who_reads_late_gets_all(work, _):
+    with Front(work) as front:
+        late = front.client()
+        late.sendall(b"BIG %d\n" % (20 * MEBIBYTE) + b"ECHO end\n")
+        pong(front.client())
+        assert received(late, 20 * MEBIBYTE) == b"x" * 20 * MEBIBYTE
+        assert received(late, 4) == b"end\n"
+        pong(late)
+
+
+def a_busy_lane_stops_its_senders(work, _):
+    with Front(work, lanes=2) as front:
+        greedy, other, beside = front.client(), front.client(), front.client()
+        pong(beside)
+        front.lanes[0].reads.clear()
+        beside.sendall(b"ECHO wakes the lane, which then waits\n")
+        greedy.settimeout(0.5)
+        data = b"".join(b"ECHO %d %s\n" % (at, b"z" * 60000) for at in range(1000))
+        sent = 0
+        with contextlib.suppress(TimeoutError):
+            while sent < len(data):
+                sent += greedy.send(data[sent:sent + 65536])
+        assert sent < len(data), "all was taken"
+        assert front.memory() < 16 * MEBIBYTE, front.memory()
+        pong(other)
+        assert front.rests(), "it waits for a busy lane"
+        front.lanes[0].reads.set()
+        greedy.settimeout(PATIENCE)
+        want = data.replace(b"ECHO ", b"")
+        with sender(greedy, data[sent:]):
+            assert received(greedy, len(want)) == want
+        assert received(beside, 32) == b"wakes the lane, which then waits"
+
+
+def numbers_are_used_again_after_both_closes(work, _):
+    with Front(work) as front:
+        lane = front.lanes[0]
+        first, second = front.client(), front.client()
+        pong(first)
+        pong(second)
+        lane.closes = False
+        first.close()
+        until(lambda: lane.withheld == [0], "the close of the first")
+        pong(front.client())
+        assert lane.frames[-2][:2] == (OPEN, 2), lane.frames[-2]
+        lane.send(frame(DATA, 0, b"for who has gone") + frame(CLOSE, 0) + frame(CLOSE, 0) + frame(DATA, 0, b"for nobody"))
+        pong(second)
+        fresh = front.client()
+        pong(fresh)
+        assert lane.frames[-2][:2] == (OPEN, 0), lane.frames[-2]
+        lane.send(frame(DATA, 77, b"of no number") + frame(CLOSE, 77))
+        lane.closes = True
+        for client in (second, fresh):
+            client.close()
+        until(lambda: set(lane.halves) == {2}, "all closes")
+        pong(front.client())
+        assert lane.frames[-2][1] in (0, 1), lane.frames[-2]
+
+
+def a_lane_closes_once_all_is_out(work, _):
+    with Front(work) as front:
+        lane, client = front.lanes[0], front.client()
+        client.sendall(b"BIG %d\nQUIT\nPING\nPING\n" % (12 * MEBIBYTE))
+        until(lambda: (CLOSE, 0, b"") in lane.frames, "the answer to the close")
+        pong(front.client())
+        assert (OPEN, 1, b"") in lane.frames, "the number was used again before its client had all"
+        assert received(client, 12 * MEBIBYTE + 6) == b"x" * 12 * MEBIBYTE + b"+OK\r\n"
+        assert is_closed(client)
+        assert lane.frames.count((CLOSE, 0, b"")) == 1
+        until(lambda: front.client() and (OPEN, 0, b"") in lane.frames[2:], "the number again")
+
+
+def who_ends_its_input_gets_what_it_is_owed(work, _):
+    with Front(work) as front:
+        client = front.client()
+        client.sendall(b"LATE 0.2\nBIG %d\nECHO last\n" % (9 * MEBIBYTE))
+        client.shutdown(socket.SHUT_WR)
+        want = b"late\n" + b"x" * 9 * MEBIBYTE + b"last\n"
+        assert received(client, len(want)) == want
+        assert is_closed(client)
+        until(lambda: not front.lanes[0].halves, "the close")
+
+
+def a_wake_goes_to_every_lane(work, _):
+    with Front(work, lanes=3) as front:
+        clients = [front.client() for _ in range(3)]
+        for client in clients:
+            pong(client)
+        clients[1].sendall(b"WAKE\n")
+        until(lambda: [it.count(WAKE) for it in front.lanes] == [1, 1, 1], "a wake for each")
+        assert all((WAKE, 0, b"") in it.frames for it in front.lanes)
+        front.lanes[0].reads.clear()
+        clients[1].sendall(b"WAKE\n" * 20000)
+        until(lambda: front.lanes[1].count(DATA) and front.lanes[2].frames[-1][0] == WAKE, "more wakes")
+        pong(clients[1])
+        assert front.memory() < 16 * MEBIBYTE, front.memory()
+        front.lanes[0].reads.set()
+        pong(clients[0])
+        for lane in front.lanes:
+            until(lambda: lane.count(WAKE) > 1, "a wake for each, later")
+
+
+def too_many_are_refused(work, _):
+    with Front(work, "--connections", "3", lanes=2) as front:
+        clients = [front.client() for _ in range(3)]
+        for client in clients:
+            pong(client)
+        over = front.client()
+        assert received(over, 100) == b"-ERR max number of clients reached\r\n"
+        clients.pop().close()
+        until(lambda: sum(len(it.halves) for it in front.lanes) == 2, "the close")
+        time.sleep(0.1)
+        pong(front.client())
+
+
+def too_few_files_are_told(work, _):
+    front = Front(work, "--connections", "100", limits=[(resource.RLIMIT_NOFILE, 48)])
+    with front:
+        clients = [front.client() for _ in range(8)]
+        for client in clients:
+            pong(client)
+        assert received(front.client(), 100) == b"-ERR max number of clients reached\r\n"
+        front.process.terminate()
+        assert front.ended(0) == "front: 8 connections at most, since 48 files may be open\n"
+
+
+def refused_memory_closes_one_client(work, _):
+    limit = 400 * MEBIBYTE
+    with Front(work, "--output-limit", str(1 << 40), limits=[(resource.RLIMIT_AS, limit)]) as front:
+        lazy, other = front.client(), front.client()
+        for _ in range(100):
+            with contextlib.suppress(OSError):
+                lazy.sendall(b"BIG %d\n" % (4 * MEBIBYTE))
+            pong(other)
+        assert (CLOSE, 0, b"") in front.lanes[0].frames
+        assert front.process.poll() is None
+
+
+def faults_at_the_start(work, _):
+    program, pipe = os.path.join(work, "front"), os.path.join(work, "pipe")
+    os.mkfifo(pipe)
+    lane = ["--lane", pipe, pipe]
+
+    def tell(status, want, *words):
+        ran = subprocess.run([program, *words], stdin=subprocess.DEVNULL, capture_output=True, timeout=PATIENCE)
+        told = ran.stderr.decode()
+        assert (ran.returncode, ran.stdout) == (status, b"") and want in told, (words, ran)
+        assert len(told.splitlines()) == (1 if status == 1 else 2), told
+
+    with socket.create_server(("127.0.0.1", 0)) as taken:
+        port = str(taken.getsockname()[1])
+        tell(1, f"127.0.0.1:{port}: Address already in use", "--port", port, *lane)
+    tell(1, "192.0.2.1:0: Cannot assign", "--port", "0", "--bind", "192.0.2.1", *lane)
+    tell(1, "/none/socket: No such file", "--unix", "/none/socket", *lane)
+    tell(1, "/none/pipe: No such file", "--port", "0", "--lane", "/none/pipe", pipe)
+    tell(1, f"{program}: it is no pipe", "--port", "0", "--lane", pipe, program)
+    tell(2, "there is no --lane", "--port", "0")
+    tell(2, "neither --port nor --unix", *lane)
+    tell(2, "--port 65536: no value", "--port", "65536", *lane)
+    tell(2, "--timeout -1: no value", "--port", "0", "--timeout", "-1", *lane)
+    tell(2, "--bind here: no value", "--port", "0", "--bind", "here", *lane)
+    tell(2, "--connections x: no value", "--port", "0", "--connections", "x", *lane)
+    tell(2, "--output-limit : no value", "--port", "0", "--output-limit", "", *lane)
+    tell(2, "--lane lacks its value", "--port", "0", "--lane", pipe)
+    tell(2, "--more is no option", "--more")
+
+
+def a_signal_waits_for_replies(work, _):
+    for name in (signal.SIGTERM, signal.SIGINT):
+        with Front(work, lanes=2, unix=True) as front:
+            owed, silent = front.client(), front.client()
+            pong(silent)
+            owed.sendall(b"LATE 0.3\nBIG %d\n" % (9 * MEBIBYTE))
+            until(lambda: front.lanes[0].count(DATA) == 1, "the request")
+            front.process.send_signal(name)
+            time.sleep(0.1)
+            with contextlib.suppress(OSError):
+                owed.sendall(b"ECHO too late\n")
+            want = b"late\n" + b"x" * 9 * MEBIBYTE
+            assert received(owed, len(want)) == want
+            assert is_closed(owed) and is_closed(silent)
+            assert front.ended(0) == ""
+            assert not front.path.exists()
+
+
+def a_signal_waits_a_second_at_most(work, _):
+    with Front(work) as front:
+        client = front.client()
+        pong(client)
+        front.lanes[0].closes = False
+        began = time.monotonic()
+        front.process.terminate()
+        time.sleep(0.1)
+        front.process.send_signal(signal.SIGINT)
+        time.sleep(0.1)
+        assert front.rests(), "it is busy at the end"
+        assert front.ended(0) == ""
+        assert 0.9 < time.monotonic() - began < 3
+        assert is_closed(client)
+
+
+def a_signal_ends_it_before_the_lanes_come(work, _):
+    front = Front(work, unix=True)
+    until(front.path.exists, "the socket")
+    time.sleep(0.1)
+    front.process.terminate()
+    assert front.ended(0) == ""
+    assert not front.path.exists()
+    front.__exit__()
+
+
+def a_lane_that_fails_ends_it(work, _):
+    faults = [b"DIE", b"RAW 09" + b"00" * 8, b"RAW 01" + b"00" * 8, b"RAW 02" + b"00" * 7 + b"01"]
+    for fault in faults:
+        with Front(work, lanes=2, unix=True) as front:
+            clients = [front.client() for _ in range(4)]
+            for client in clients:
+                pong(client)
+            clients[1].sendall(fault + b"\n")
+            told = front.ended(1)
+            assert told.startswith("front: lane 1 has ended: ") and len(told.splitlines()) == 1, told
+            assert all(is_closed(it) for it in clients)
+            assert not front.path.exists()
+
+
+def idle_clients_are_closed(work, _):
+    with Front(work, "--timeout", "1", lanes=2) as front:
+        silent, active = front.client(), front.client()
+        pong(silent)
+        began = time.monotonic()
+        until(lambda: pong(active) or front.lanes[0].count(CLOSE), "the close of who is silent")
+        assert 0.9 < time.monotonic() - began < 4
+        assert is_closed(silent)
+        pong(active)
+        assert front.lanes[1].count(CLOSE) == 0
+
+
+def a_unix_socket_is_its_owners(work, _):
+    with Front(work, unix=True) as front:
+        mode = front.path.stat().st_mode
+        assert stat.S_ISSOCK(mode) and stat.S_IMODE(mode) == 0o600, oct(mode)
+        assert front.ready.split()[2] == str(front.path)
+        pong(front.client(unix=True))
+        pong(front.client())
+        client = front.client(unix=True)
+        client.sendall(b"BIG %d\nQUIT\n" % (9 * MEBIBYTE))
+        assert received(client, 9 * MEBIBYTE + 6) == b"x" * 9 * MEBIBYTE + b"+OK\r\n"
+        second = [os.path.join(work, "front"), "--unix", front.path, "--lane", *front.lanes[0].paths]
+        ran = subprocess.run(second, capture_output=True, timeout=PATIENCE)
+        assert ran.returncode == 1 and str(front.path) in ran.stderr.decode()
+        pong(front.client(unix=True))
+        front.process.kill()
+        front.process.wait()
+        assert front.path.exists()
+        third = Front(work, "--unix", str(front.path), port="")
+        with third:
+            assert third.ready == f"ready {front.path}\n"
+            third.path = front.path
+            pong(third.client(unix=True))
+
+
+def clients_come_and_go_in_any_way(work, clients):
+    lines = [b"PING\n", b"PI", b"BIG 300000\n", b"QUIT\nPING\n"] * 5 + [b"BIG 9000000\nQUIT\n"]
+    with Front(work, lanes=2) as front:
+        for turn in range(clients):
+            client = front.client()
+            client.settimeout(0.05)
+            how = random.randrange(6)
+            with contextlib.suppress(OSError):
+                if how > 0:
+                    client.sendall(random.choice(lines))
+                if how > 3:
+                    client.recv(random.choice([1, 7, 70000]))
+                if how in (1, 4):
+                    client.setsockopt(socket.SOL_SOCKET, socket.SO_LINGER, struct.pack("ii", 1, 0))
+                if how == 2:
+                    client.shutdown(socket.SHUT_WR)
+            front.clients.remove(client)
+            client.close()
+            if turn % 50 == 0:
+                pong(front.client())
+        for client in front.clients:
+            pong(client)
+        left = len(front.clients)
+        until(lambda: sum(len(it.halves) for it in front.lanes) == left, "all closes")
+        highest = max(it[1] for lane in front.lanes for it in lane.frames)
+        assert highest < clients // 2, f"numbers are not used again: {highest}"
+        assert front.rests()
+
+
+TRIALS = [
+    each_client_gets_its_own, bytes_come_one_by_one_and_many_at_once, who_does_not_read_is_closed_alone,
+    who_reads_late_gets_all, a_busy_lane_stops_its_senders, numbers_are_used_again_after_both_closes,
+    a_lane_closes_once_all_is_out, who_ends_its_input_gets_what_it_is_owed, a_wake_goes_to_every_lane, too_many_are_refused,
+    too_few_files_are_told, refused_memory_closes_one_client, faults_at_the_start, a_signal_waits_for_replies,
+    a_signal_waits_a_second_at_most, a_signal_ends_it_before_the_lanes_come, a_lane_that_fails_ends_it,
+    idle_clients_are_closed, a_unix_socket_is_its_owners, clients_come_and_go_in_any_way,
+]
+
+
+def main():
+    work, clients = sys.argv[1], int(sys.argv[2])
+    files = resource.getrlimit(resource.RLIMIT_NOFILE)[1]
+    resource.setrlimit(resource.RLIMIT_NOFILE, (files, files))
+    # Threads here wait for each other often, and a switch is 5 ms else.
+    sys.setswitchinterval(1e-4)
+    wrong = 0
+    for trial in TRIALS:
+        if sys.argv[3:] and trial.__name__ not in sys.argv[3:]:
+            continue
+        began = time.monotonic()
+        try:
+            trial(work, clients)
+            told = "ok"
+        except (AssertionError, OSError, subprocess.TimeoutExpired) as fault:
+            wrong += 1
+            told = f"FAILED: {type(fault).__name__} {fault}, line {fault.__traceback__.tb_next.tb_lineno}"
+        print(f"{trial.__name__.replace('_', ' ')}: {told}" + f" ({time.monotonic() - began:.1f} s)", flush=True)
+    print(f"{len(TRIALS)} trials of the front, {wrong} wrong")
+    sys.exit(1 if wrong else 0)
+
+
+if __name__ == "__main__":
+    main()

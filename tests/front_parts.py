@@ -1,0 +1,211 @@
+"""What front.py tries the front with: a front in a process, lanes in threads, and clients."""
+import contextlib
+import os
+import queue
+import socket
+import struct
+import subprocess
+import threading
+import time
+from pathlib import Path
+
+DATA, OPEN, CLOSE, WAKE = range(4)
+HEAD = struct.Struct(">BII")
+# How long anything may take that has to come.
+PATIENCE = 20
+
+
+def frame(kind, connection=0, data=b""):
+    return HEAD.pack(kind, connection, len(data)) + data
+
+
+def until(is_so, what):
+    end = time.monotonic() + PATIENCE
+    while not is_so():
+        assert time.monotonic() < end, f"it did not come: {what}"
+        time.sleep(0.005)
+
+
+class Lane(threading.Thread):
+    """A lane that answers a line with a command: it keeps the frames that came, and can wait with reading and with closes."""
+
+    def __init__(self, folder, number, replies_first):
+        super().__init__(daemon=True)
+        self.paths = [folder / f"requests{number}", folder / f"replies{number}"]
+        self.replies_first = replies_first
+        self.frames, self.halves, self.closing, self.withheld = [], {}, set(), []
+        self.reads = threading.Event()
+        self.reads.set()
+        self.closes = True
+        self.lock = threading.Lock()
+        for path in self.paths:
+            os.mkfifo(path)
+
+    def run(self):
+        order = [(1, os.O_WRONLY), (0, os.O_RDONLY)] if self.replies_first else [(0, os.O_RDONLY), (1, os.O_WRONLY)]
+        opened = {which: os.open(self.paths[which], how) for which, how in order}
+        self.output = opened[1]
+        with contextlib.suppress(BrokenPipeError, EOFError), open(opened[0], "rb", 0) as requests:
+            while True:
+                self.reads.wait()
+                kind, connection, length = HEAD.unpack(self.exactly(requests, HEAD.size))
+                data = self.exactly(requests, length)
+                self.frames.append((kind, connection, data))
+                self.obey(kind, connection, data)
+        with contextlib.suppress(OSError):
+            os.close(self.output)
+
+    @staticmethod
+    def exactly(requests, count):
+        parts = bytearray()
+        while len(parts) < count:
+            part = requests.read(count - len(parts))
+            if not part:
+                raise EOFError
+            parts += part
+        return bytes(parts)
+
+    def send(self, data):
+        with self.lock:
+            while data:
+                data = data[os.write(self.output, data):]
+
+    def obey(self, kind, connection, data):
+        if kind == OPEN:
+            assert connection not in self.halves, f"{connection} was opened twice"
+            self.halves[connection] = b""
+        elif kind == CLOSE:
+            del self.halves[connection]
+            if connection in self.closing:
+                self.closing.remove(connection)
+            elif self.closes:
+                self.send(frame(CLOSE, connection))
+            else:
+                self.withheld.append(connection)
+        elif kind == DATA and connection not in self.closing:
+            *lines, self.halves[connection] = (self.halves[connection] + data).split(b"\n")
+            for line in lines:
+                if connection not in self.closing:
+                    self.answer(connection, *line.split(b" ", 1))
+
+    def answer(self, connection, command, value=b""):
+        if command == b"PING":
+            self.send(frame(DATA, connection, b"+PONG\r\n"))
+        elif command == b"ECHO":
+            self.send(frame(DATA, connection, value + b"\n"))
+        elif command == b"BIG":
+            self.send(frame(DATA, connection, b"x" * int(value)))
+        elif command == b"LATE":
+            time.sleep(float(value))
+            self.send(frame(DATA, connection, b"late\n"))
+        elif command == b"WAKE":
+            self.send(frame(WAKE))
+        elif command == b"RAW":
+            self.send(bytes.fromhex(value.decode()))
+        elif command == b"QUIT":
+            self.send(frame(DATA, connection, b"+OK\r\n") + frame(CLOSE, connection))
+            self.closing.add(connection)
+        elif command == b"DIE":
+            os.close(self.output)
+            raise EOFError
+
+    def count(self, kind):
+        return sum(it[0] == kind for it in list(self.frames))
+
+
+class Front:
+    """A front in a process, with as many lanes."""
+
+    made = 0
+
+    def __init__(self, work, *words, lanes=1, limits=(), port="0", unix=False):
+        Front.made += 1
+        self.folder = Path(work) / f"trial{Front.made}"
+        self.folder.mkdir()
+        self.lanes = [Lane(self.folder, number, replies_first=number % 2 == 1) for number in range(lanes)]
+        self.path = self.folder / "socket"
+        command = [Path(work) / "front", *words]
+        command += ["--port", port] if port else []
+        command += ["--unix", self.path] if unix else []
+        for lane in self.lanes:
+            command += ["--lane", *lane.paths]
+
+        def limit():
+            for which, value in limits:
+                import resource
+                resource.setrlimit(which, (value, value))
+
+        pipes = {"stdout": subprocess.PIPE, "stderr": subprocess.PIPE}
+        self.process = subprocess.Popen(command, stdin=subprocess.DEVNULL, preexec_fn=limit, **pipes)
+        self.clients = []
+
+    def __enter__(self):
+        for lane in reversed(self.lanes):
+            lane.start()
+        self.ready = self.process.stdout.readline().decode()
+        assert self.ready.startswith("ready "), self.process.stderr.read()
+        self.address = self.ready.split()[1]
+        return self
+
+    def __exit__(self, *_):
+        self.process.kill()
+        self.process.wait()
+        self.process.stdout.close()
+        self.process.stderr.close()
+        for client in self.clients:
+            client.close()
+        for lane in self.lanes:
+            lane.reads.set()
+
+    def client(self, unix=False):
+        client = socket.socket(socket.AF_UNIX if unix else socket.AF_INET)
+        client.settimeout(PATIENCE)
+        host, port = self.address.rsplit(":", 1) if not unix else ("", "")
+        client.connect(str(self.path) if unix else (host, int(port)))
+        self.clients.append(client)
+        return client
+
+    def ended(self, status):
+        """Gives what standard error has, once the front has ended with this status."""
+        assert self.process.wait(PATIENCE) == status, self.process.returncode
+        return self.process.stderr.read().decode()
+
+    def memory(self):
+        """Bytes that are resident."""
+        return int(Path(f"/proc/{self.process.pid}/statm").read_text().split()[1]) * os.sysconf("SC_PAGE_SIZE")
+
+    def rests(self):
+        """Says whether it takes next to no processor time in a while."""
+        def ticks():
+            return sum(map(int, Path(f"/proc/{self.process.pid}/stat").read_text().rpartition(")")[2].split()[11:13]))
+        before = ticks()
+        time.sleep(0.5)
+        return ticks() - before <= 5
+
+
+def received(client, count):
+    """Gives the next bytes that came, and fewer only at the end."""
+    parts = bytearray()
+    while len(parts) < count:
+        part = client.recv(min(count - len(parts), 1 << 20))
+        if not part:
+            break
+        parts += part
+    return bytes(parts)
+
+
+def asked(client, line, reply):
+    client.sendall(line + b"\n")
+    told = received(client, len(reply))
+    assert told == reply, (line, told[:80], reply[:80])
+
+
+def pong(client):
+    asked(client, b"PING", b"+PONG\r\n")
+
+
+def is_closed(client):
+    try:
+        return client.recv(1 << 20) == b""
+    except ConnectionResetError:
+        return True
