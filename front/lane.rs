@@ -1,358 +1,321 @@
-//! A lane's thread: it joins the lane's two pipes to the sockets of its clients.
+//! A lane of the server, and its clients: what comes from their sockets goes to the lane's one pipe in frames, and what comes
+//! by the other goes to them.
 //!
-//! It only ever waits in `Epoll::wait`. Sockets tell of changes alone, so no call is spent on a reply but those that read it
-//! and write it; whether an event or a number in a list is still true is found out by the read or the write, so an old one
-//! does no harm. Replies are always read, and wait in the client's backlog up to a limit. Input is read only while less than
-//! `INPUT_LIMIT` waits for the lane, so the rest waits in the sockets.
+//! A frame is its kind in a byte, a connection in 4 bytes, a length in 4 bytes, and so many bytes; numbers have the highest
+//! byte first. Only data has bytes; a wake has connection 0.
+//!
+//! | Kind | From the front | From the lane |
+//! |---|---|---|
+//! | 0 data | bytes that the client sent, 65,536 at most | bytes for the client |
+//! | 1 open | a client takes the number | never |
+//! | 2 close | no more comes from the client | no more goes to it: its socket is closed once all is out |
+//! | 3 wake | some lane sent a wake | send a wake to every lane, this one too |
+//!
+//! Each lane has numbers of its own, from 0, and as few as it can. Who gets a close and has sent none answers with one; once
+//! a close went both ways the number is free, and the next open may take it. A lane passes over data that comes behind its
+//! own close. The front still delivers data behind its own close where the socket takes it, for a client may end its sending
+//! alone, and drops it else. Wakes that a lane has not read yet may be one.
+//!
+//! Replies are always read, and wait for their client up to a limit. Input is read only while little waits for the lane, so
+//! the rest waits in the sockets.
 
-use crate::connection::{Connection, Sent};
-use crate::frame::{Head, Kind, HEAD};
-use crate::mail::{Letters, Order, Post, Report};
-use crate::queue::Queue;
-use crate::system::{self, Epoll, Event, EDGE, FAULT, HUNG_UP, INPUT, INPUT_ENDS, OUTPUT};
-use std::convert::Infallible;
+use crate::channel::Channel;
+use crate::system::{Epoll, OUTPUT};
 use std::fs::File;
-use std::io;
+use std::io::{self, ErrorKind};
 use std::mem;
-use std::os::fd::OwnedFd;
-use std::path::PathBuf;
-use std::sync::atomic::{AtomicUsize, Ordering};
-use std::sync::Arc;
 use std::time::{Duration, Instant};
 
+const DATA: u8 = 0;
+const OPEN: u8 = 1;
+const CLOSE: u8 = 2;
+const WAKE: u8 = 3;
+/// Bytes of a frame before those of its client.
+const HEAD: usize = 9;
 /// Bytes of one read of a socket, and so the most of a frame for the lane.
 const READ: usize = 1 << 16;
-const INPUT_LIMIT: usize = 1 << 17;
-/// Bytes of one read of the lane's replies.
+/// Bytes that wait for the lane before no more input is read.
+const INPUT_LIMIT: usize = 1 << 16;
+/// Bytes of one read of the replies.
 const REPLIES_READ: usize = 1 << 18;
-const PIPE_SIZE: i32 = 1 << 20;
-const EVENTS: usize = 256;
-const SWEEP: Duration = Duration::from_secs(1);
-
-const REPLIES: u64 = u64::MAX;
-const REQUESTS: u64 = u64::MAX - 1;
-const ORDERS: u64 = u64::MAX - 2;
-const OF_SOCKET: u32 = INPUT | INPUT_ENDS | EDGE;
+/// In the place of a connection, the tokens of the lane's pipes.
+const REQUESTS: u64 = u32::MAX as u64;
+const REPLIES: u64 = REQUESTS - 1;
 
 /// What all lanes share.
-#[derive(Clone)]
 pub struct Shared {
-    /// How long a client may be silent, for ever if not given.
-    pub idle: Option<Duration>,
+    pub epoll: Epoll,
     /// Bytes that may wait for a client.
     pub output_limit: usize,
     /// Numbers that are not free, of all lanes.
-    pub clients: Arc<AtomicUsize>,
-    /// To each lane's thread.
-    pub lanes: Vec<Post<Order>>,
-    pub main: Post<Report>,
+    pub clients: usize,
+    /// When the last events came.
+    pub now: Instant,
+    /// Every lane is to be woken.
+    pub wakes: bool,
+    /// Room for what a client sent.
+    room: Vec<u8>,
+}
+
+impl Shared {
+    pub fn new(epoll: Epoll, output_limit: usize) -> Shared {
+        let room = vec![0; READ];
+        Shared { epoll, output_limit, clients: 0, now: Instant::now(), wakes: false, room }
+    }
+}
+
+/// Who has a number. It is free once a close went both ways and the socket is closed.
+struct Client {
+    /// None once it is closed.
+    socket: Option<Channel>,
+    sent_close: bool,
+    got_close: bool,
+    /// Its input waits until there is room for it.
+    paused: bool,
+    /// When it was last read or written.
+    active: Instant,
+}
+
+impl Client {
+    fn is_free(&self) -> bool {
+        self.socket.is_none() && self.sent_close && self.got_close
+    }
 }
 
 pub struct Lane {
-    shared: Shared,
-    orders: Letters<Order>,
-    epoll: Epoll,
-    requests: OwnedFd,
-    replies: OwnedFd,
-    to_lane: Queue,
-    /// The replies' bytes that are not done with: less than a head, but while they are looked at.
-    from_lane: Vec<u8>,
-    /// The client of the data that is coming, and how many of its bytes are still to come.
-    coming: (u32, usize),
-    connections: Vec<Connection>,
-    free: Vec<u32>,
-    /// Numbers that may have input.
-    to_read: Vec<u32>,
-    now: Instant,
-    swept: Instant,
+    /// Which one it is, as the upper half of a token.
+    place: u64,
+    requests: Channel,
+    replies: Channel,
+    /// Room for replies, at whose front stands what came of a head that is not whole yet.
+    came: Vec<u8>,
+    begun: usize,
+    /// Whose data is coming, and how many bytes are still to come.
+    coming: (usize, usize),
+    clients: Vec<Client>,
+    free: Vec<usize>,
+    paused: Vec<usize>,
     owes_wake: bool,
-    stops: bool,
+}
+
+fn head(kind: u8, connection: usize, length: usize) -> [u8; HEAD] {
+    let mut bytes = [kind; HEAD];
+    bytes[1..5].copy_from_slice(&(connection as u32).to_be_bytes());
+    bytes[5..].copy_from_slice(&(length as u32).to_be_bytes());
+    bytes
+}
+
+fn number(bytes: &[u8]) -> usize {
+    bytes.iter().fold(0, |all, byte| all << 8 | usize::from(*byte))
 }
 
 impl Lane {
-    /// Opens the lane's pipe of requests, which waits until the lane has opened it, and joins it to its clients until it fails.
-    pub fn run(requests: PathBuf, replies: OwnedFd, orders: Letters<Order>, shared: Shared) -> io::Result<Infallible> {
-        let requests: OwnedFd = File::options().write(true).open(requests)?.into();
-        system::prepare_pipe(&requests, PIPE_SIZE)?;
-        system::prepare_pipe(&replies, PIPE_SIZE)?;
-        let epoll = Epoll::new()?;
-        epoll.add(&replies, INPUT, REPLIES)?;
-        epoll.add(&requests, OUTPUT | EDGE, REQUESTS)?;
-        epoll.add(&orders.bell.0, INPUT, ORDERS)?;
-        shared.main.send(Report::Opened);
-        let mut lane = Lane {
-            shared,
-            orders,
-            epoll,
-            requests,
-            replies,
-            to_lane: Queue::default(),
-            from_lane: Vec::new(),
-            coming: (0, 0),
-            connections: Vec::new(),
-            free: Vec::new(),
-            to_read: Vec::new(),
-            now: Instant::now(),
-            swept: Instant::now(),
-            owes_wake: false,
-            stops: false,
-        };
-        let mut events = vec![Event::default(); EVENTS];
-        loop {
-            lane.turn(&mut events)?;
+    pub fn new(place: usize, requests: File, replies: File, epoll: &Epoll) -> io::Result<Lane> {
+        let place = (place as u64) << 32;
+        let requests = Channel::new(requests, place | REQUESTS);
+        let mut replies = Channel::new(replies, place | REPLIES);
+        replies.watch(epoll, true)?;
+        let (clients, free, paused) = Default::default();
+        let (came, begun, coming) = (vec![0; REPLIES_READ], 0, (0, 0));
+        Ok(Lane { place, requests, replies, came, begun, coming, clients, free, paused, owes_wake: false })
+    }
+
+    /// Whether no number is taken.
+    pub fn is_free(&self) -> bool {
+        self.free.len() == self.clients.len()
+    }
+
+    pub fn take_client(&mut self, socket: File, shared: &mut Shared) {
+        let number = self.free.pop().unwrap_or(self.clients.len());
+        let socket = Some(Channel::new(socket, self.place | number as u64));
+        let client = Client { socket, sent_close: false, got_close: false, paused: false, active: shared.now };
+        if number == self.clients.len() {
+            self.clients.push(client);
+        } else {
+            self.clients[number] = client;
+        }
+        shared.clients += 1;
+        self.requests.put(&head(OPEN, number, 0));
+        self.update(number, shared);
+    }
+
+    /// Does what an event asks for. Whether it still holds, reading and writing find out, so an old one does no harm.
+    pub fn see(&mut self, token: u64, flags: u32, shared: &mut Shared) -> io::Result<()> {
+        match token & REQUESTS {
+            REQUESTS => Ok(()),
+            REPLIES => self.take_replies(shared),
+            number => {
+                self.flush_client(number as usize, shared);
+                if flags != OUTPUT {
+                    self.read_client(number as usize, shared);
+                }
+                Ok(())
+            }
         }
     }
 
-    fn turn(&mut self, events: &mut [Event]) -> io::Result<()> {
-        let more = !self.to_read.is_empty() && self.has_room();
-        let patience = if more { 0 } else { self.shared.idle.map_or(-1, |_| SWEEP.as_millis() as i32) };
-        let count = self.epoll.wait(events, patience)?;
-        if self.shared.idle.is_some() {
-            self.now = Instant::now();
-        }
-        for event in &events[..count] {
-            match event.token {
-                REPLIES => self.take_replies()?,
-                REQUESTS if event.flags & FAULT != 0 => return Err(io::ErrorKind::BrokenPipe.into()),
-                REQUESTS => {}
-                ORDERS => self.take_orders(),
-                number => self.notice(number as u32, event.flags),
-            }
-        }
-        self.read_clients();
-        // A lane that has not read yet what came before a wake needs no second one.
+    /// Hands over to the lane what came for it.
+    pub fn hand_over(&mut self, shared: &mut Shared) -> io::Result<()> {
+        self.owes_wake |= shared.wakes;
         if self.owes_wake && self.has_room() {
             self.owes_wake = false;
-            self.tell_lane(Kind::Wake, 0);
+            self.requests.put(&head(WAKE, 0, 0));
         }
-        self.to_lane.write_to(&self.requests)?;
-        self.close_idle();
+        self.requests.flush()?;
+        self.requests.watch(&shared.epoll, false)?;
+        if self.has_room() {
+            for number in mem::take(&mut self.paused) {
+                self.clients[number].paused = false;
+                self.update(number, shared);
+            }
+        }
         Ok(())
     }
 
     fn has_room(&self) -> bool {
-        self.to_lane.len() < INPUT_LIMIT
+        self.requests.waiting() < INPUT_LIMIT
     }
 
-    fn tell_lane(&mut self, kind: Kind, connection: u32) {
-        self.to_lane.bytes.extend_from_slice(&Head::bare(kind, connection).spelled());
-    }
-
-    fn take_orders(&mut self) {
-        for order in self.orders.take() {
-            match order {
-                Order::Take(socket) => self.take_client(socket),
-                Order::Wake => self.owes_wake = true,
-                Order::Stop => {
-                    self.stops = true;
-                    for number in 0..self.connections.len() as u32 {
-                        self.end_input(number);
-                    }
-                    self.tell_if_done();
-                }
-            }
+    /// Has those events wake us that a client now waits for.
+    fn update(&mut self, number: usize, shared: &mut Shared) {
+        let client = &mut self.clients[number];
+        let input = !client.sent_close && !client.paused;
+        if client.socket.as_mut().is_some_and(|it| it.watch(&shared.epoll, input).is_err()) {
+            self.drop_client(number, shared);
         }
     }
 
-    fn tell_if_done(&self) {
-        if self.stops && self.free.len() == self.connections.len() {
-            self.shared.main.send(Report::Done);
+    fn read_client(&mut self, number: usize, shared: &mut Shared) {
+        let has_room = self.has_room();
+        let client = &mut self.clients[number];
+        let Some(socket) = client.socket.as_ref().filter(|_| !client.sent_close && !client.paused) else { return };
+        if !has_room {
+            client.paused = true;
+            self.paused.push(number);
+            return self.update(number, shared);
         }
-    }
-
-    fn take_client(&mut self, socket: OwnedFd) {
-        let number = self.free.last().copied().unwrap_or(self.connections.len() as u32);
-        if self.stops || self.epoll.add(&socket, OF_SOCKET, number.into()).is_err() {
-            self.shared.clients.fetch_sub(1, Ordering::Relaxed);
-            return;
-        }
-        let active = self.shared.idle.map(|_| self.now);
-        let connection = Connection { socket: Some(socket), active, ..Connection::default() };
-        match self.free.pop() {
-            Some(_) => self.connections[number as usize] = connection,
-            None => self.connections.push(connection),
-        }
-        self.tell_lane(Kind::Open, number);
-    }
-
-    /// Sees what an event tells of a client.
-    fn notice(&mut self, number: u32, flags: u32) {
-        let connection = &mut self.connections[number as usize];
-        let ends = flags & (INPUT_ENDS | HUNG_UP | FAULT) != 0;
-        connection.ends |= ends;
-        if (ends || flags & INPUT != 0) && !connection.has_input && !connection.sent_close {
-            connection.has_input = true;
-            self.to_read.push(number);
-        }
-        if connection.backlog.len() > 0 {
-            connection.active = self.shared.idle.map(|_| self.now);
-            match connection.flush() {
-                Ok(false) => {}
-                Ok(true) if connection.got_close => self.close_socket(number),
-                Ok(true) => self.wait_for(number, OF_SOCKET),
-                Err(_) => self.drop_client(number),
-            }
-        }
-    }
-
-    /// Waits for these events of a client from now on.
-    fn wait_for(&mut self, number: u32, flags: u32) {
-        let Some(socket) = &self.connections[number as usize].socket else { return };
-        if self.epoll.change(socket, flags, number.into()).is_err() {
-            self.drop_client(number);
-        }
-    }
-
-    /// Reads the clients that may have input, each once, while there is room for it.
-    fn read_clients(&mut self) {
-        let mut at = 0;
-        while at < self.to_read.len() && self.has_room() {
-            let number = self.to_read[at];
-            if self.read_client(number) {
-                at += 1;
-            } else {
-                self.connections[number as usize].has_input = false;
-                self.to_read.swap_remove(at);
-            }
-        }
-        // Who was read waits until the others were.
-        self.to_read.rotate_left(at);
-    }
-
-    /// Reads a client once, and says whether there may be more.
-    fn read_client(&mut self, number: u32) -> bool {
-        let connection = &mut self.connections[number as usize];
-        let Some(socket) = &connection.socket else { return false };
-        if connection.sent_close {
-            return false;
-        }
-        let queue = &mut self.to_lane.bytes;
-        let at = queue.len();
-        queue.extend_from_slice(&[0; HEAD]);
-        let read = system::read(socket, queue, READ);
-        if let Ok(Some(count @ 1..)) = read {
-            let head = Head { kind: Kind::Data, connection: number, length: count as u32 };
-            queue[at..at + HEAD].copy_from_slice(&head.spelled());
-            connection.active = self.shared.idle.map(|_| self.now);
-            return count == READ || connection.ends;
-        }
-        queue.truncate(at);
-        match read {
-            Ok(Some(_)) => self.end_input(number),
+        match socket.read(&mut shared.room) {
             Ok(None) => {}
-            Err(_) => self.drop_client(number),
+            Ok(Some(0)) => self.end_input(number, shared),
+            Ok(Some(count)) => {
+                client.active = shared.now;
+                self.requests.put(&head(DATA, number, count));
+                self.requests.put(&shared.room[..count]);
+            }
+            Err(_) => self.drop_client(number, shared),
         }
-        false
+    }
+
+    /// Writes to a client what waits for it.
+    fn flush_client(&mut self, number: usize, shared: &mut Shared) {
+        let client = &mut self.clients[number];
+        let Some(socket) = client.socket.as_mut().filter(|it| it.waiting() > 0) else { return };
+        client.active = shared.now;
+        let flushed = socket.flush();
+        socket.shrink();
+        match flushed {
+            Ok(()) => self.close_if_out(number, shared),
+            Err(_) => self.drop_client(number, shared),
+        }
     }
 
     /// Takes no more from a client, and tells the lane so.
-    fn end_input(&mut self, number: u32) {
-        let connection = &mut self.connections[number as usize];
-        if !connection.sent_close {
-            connection.sent_close = true;
-            self.tell_lane(Kind::Close, number);
+    fn end_input(&mut self, number: usize, shared: &mut Shared) {
+        if !mem::replace(&mut self.clients[number].sent_close, true) {
+            self.requests.put(&head(CLOSE, number, 0));
+            self.update(number, shared);
         }
+    }
+
+    /// Takes no more from any client.
+    pub fn end_inputs(&mut self, shared: &mut Shared) {
+        (0..self.clients.len()).for_each(|number| self.end_input(number, shared));
     }
 
     /// Closes a client's socket, whatever is owed.
-    fn drop_client(&mut self, number: u32) {
-        if self.connections[number as usize].is_free() {
-            return;
-        }
-        self.end_input(number);
-        let connection = &mut self.connections[number as usize];
-        connection.socket = None;
-        connection.backlog = Queue::default();
-        if connection.is_free() {
-            self.free.push(number);
-            self.shared.clients.fetch_sub(1, Ordering::Relaxed);
-            self.tell_if_done();
+    fn drop_client(&mut self, number: usize, shared: &mut Shared) {
+        if !self.clients[number].is_free() {
+            self.clients[number].socket = None;
+            self.end_input(number, shared);
+            if self.clients[number].is_free() {
+                self.free.push(number);
+                shared.clients -= 1;
+            }
         }
     }
 
-    /// Closes a client's socket when all is out. What it sent meanwhile is read first: else the system would take back what
-    /// the client has not read.
-    fn close_socket(&mut self, number: u32) {
-        if let Some(socket) = &self.connections[number as usize].socket {
-            system::end_output(socket);
-            let _ = system::read(socket, &mut Vec::new(), READ);
+    /// Closes a client's socket where the lane has closed it and all is out.
+    fn close_if_out(&mut self, number: usize, shared: &mut Shared) {
+        let client = &self.clients[number];
+        if !client.got_close || client.socket.as_ref().is_some_and(|it| it.waiting() > 0) {
+            return self.update(number, shared);
         }
-        self.drop_client(number);
+        // What is not read the system would answer by a reset, which takes replies back that the client has not read.
+        let _ = client.socket.as_ref().map(|it| it.read(&mut shared.room));
+        self.drop_client(number, shared);
     }
 
-    /// Reads the lane's pipe once, and does what its frames say.
-    fn take_replies(&mut self) -> io::Result<()> {
-        let mut bytes = mem::take(&mut self.from_lane);
-        if system::read(&self.replies, &mut bytes, REPLIES_READ)? == Some(0) {
-            return Err(io::ErrorKind::UnexpectedEof.into());
-        }
-        let mut rest = &bytes[..];
+    /// Reads the replies once, and does what their frames say.
+    fn take_replies(&mut self, shared: &mut Shared) -> io::Result<()> {
+        let mut came = mem::take(&mut self.came);
+        let count = match self.replies.read(&mut came[self.begun..])? {
+            Some(0) => return Err(ErrorKind::UnexpectedEof.into()),
+            count => count.unwrap_or(0),
+        };
+        let mut rest = &came[..self.begun + count];
         loop {
-            let (number, length) = self.coming;
-            let (part, behind) = rest.split_at(length.min(rest.len()));
-            self.send(number, part);
-            self.coming.1 -= part.len();
+            let (bytes, behind) = rest.split_at(self.coming.1.min(rest.len()));
+            self.coming.1 -= bytes.len();
+            self.send(self.coming.0, bytes, shared);
             rest = behind;
-            let Some((head, behind)) = rest.split_first_chunk() else { break };
-            rest = behind;
-            self.obey(Head::parse(head).ok_or(io::ErrorKind::InvalidData)?)?;
+            if rest.len() < HEAD {
+                break;
+            }
+            self.obey(&rest[..HEAD], shared)?;
+            rest = &rest[HEAD..];
         }
-        let done = bytes.len() - rest.len();
-        bytes.drain(..done);
-        self.from_lane = bytes;
+        let end = self.begun + count;
+        self.begun = rest.len();
+        came.copy_within(end - self.begun..end, 0);
+        self.came = came;
         Ok(())
     }
 
-    fn obey(&mut self, head: Head) -> io::Result<()> {
-        match head.kind {
-            Kind::Data => self.coming = (head.connection, head.length as usize),
-            Kind::Close => self.end_output(head.connection),
-            Kind::Wake => self.shared.lanes.iter().for_each(|it| it.send(Order::Wake)),
-            Kind::Open => return Err(io::ErrorKind::InvalidData.into()),
+    fn obey(&mut self, head: &[u8], shared: &mut Shared) -> io::Result<()> {
+        let (connection, length) = (number(&head[1..5]), number(&head[5..]));
+        match (head[0], length) {
+            (DATA, _) => self.coming = (connection, length),
+            (CLOSE, 0) => self.end_output(connection, shared),
+            (WAKE, 0) => shared.wakes = true,
+            _ => return Err(ErrorKind::InvalidData.into()),
         }
         Ok(())
     }
 
     /// Gives a client what the lane sent it.
-    fn send(&mut self, number: u32, bytes: &[u8]) {
-        let Some(connection) = self.connections.get_mut(number as usize) else { return };
-        if bytes.is_empty() || connection.got_close {
-            return;
-        }
-        connection.active = self.shared.idle.map(|_| self.now);
-        match connection.send(bytes, self.shared.output_limit) {
-            Sent::Whole | Sent::Behind => {}
-            Sent::Partly => self.wait_for(number, OF_SOCKET | OUTPUT),
-            Sent::Failed => self.drop_client(number),
+    fn send(&mut self, number: usize, bytes: &[u8], shared: &mut Shared) {
+        let Some(client) = self.clients.get_mut(number).filter(|it| !bytes.is_empty() && !it.got_close) else { return };
+        client.active = shared.now;
+        match client.socket.as_mut().map_or(Ok(()), |it| it.send(bytes, shared.output_limit)) {
+            Ok(()) => self.update(number, shared),
+            Err(_) => self.drop_client(number, shared),
         }
     }
 
     /// Does what a lane's close asks for.
-    fn end_output(&mut self, number: u32) {
-        let Some(connection) = self.connections.get_mut(number as usize) else { return };
-        if connection.got_close {
-            return;
-        }
-        connection.got_close = true;
-        let is_out = connection.backlog.len() == 0;
-        self.end_input(number);
-        if is_out {
-            self.close_socket(number);
+    fn end_output(&mut self, number: usize, shared: &mut Shared) {
+        let Some(client) = self.clients.get_mut(number) else { return };
+        if !mem::replace(&mut client.got_close, true) {
+            self.end_input(number, shared);
+            self.close_if_out(number, shared);
         }
     }
 
     /// Closes who was silent too long.
-    fn close_idle(&mut self) {
-        let Some(idle) = self.shared.idle else { return };
-        if self.now - self.swept < SWEEP {
-            return;
-        }
-        self.swept = self.now;
-        for number in 0..self.connections.len() {
-            let connection = &self.connections[number];
-            let active = connection.active.unwrap_or(self.now);
-            if connection.socket.is_some() && self.now - active >= idle {
-                self.drop_client(number as u32);
+    pub fn close_idle(&mut self, idle: Duration, shared: &mut Shared) {
+        for number in 0..self.clients.len() {
+            if shared.now - self.clients[number].active >= idle {
+                self.drop_client(number, shared);
             }
         }
     }

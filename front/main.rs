@@ -1,60 +1,46 @@
-//! Joins TCP connections and a Unix socket to the pipes of a server's lanes.
-//!
-//! This thread takes connections and deals them to the lanes in turn; each lane has a thread of its own (`lane`). `frame` has
-//! the form of what goes through the pipes.
+//! Joins TCP connections and a Unix socket to the pipes of a server's lanes (`lane`), on one thread, which only ever waits in
+//! `Epoll::wait`.
 #![deny(unsafe_code)]
 
-mod connection;
-mod frame;
+mod channel;
 mod lane;
-mod mail;
-mod options;
-mod queue;
 mod system;
 
 use lane::{Lane, Shared};
-use mail::{Letters, Order, Post, Report};
-use options::{Options, USAGE};
-use std::env;
+use std::ffi::OsString;
 use std::fmt::Display;
 use std::fs::{self, File};
 use std::io::{self, ErrorKind, Write};
-use std::net::{SocketAddr, TcpListener};
+use std::net::{IpAddr, SocketAddr, TcpListener};
 use std::os::fd::OwnedFd;
 use std::os::unix::fs::{FileTypeExt, OpenOptionsExt};
 use std::os::unix::net::{UnixListener, UnixStream};
-use std::panic;
 use std::path::{Path, PathBuf};
-use std::process::{exit, ExitCode};
-use std::sync::atomic::{AtomicUsize, Ordering};
-use std::sync::Arc;
-use std::thread;
+use std::process::ExitCode;
+use std::str::FromStr;
 use std::time::{Duration, Instant};
+use std::{env, thread};
 use system::{Epoll, Event, INPUT};
 
+const USAGE: &str = "usage: front [--port N] [--bind ADDRESS] [--unix PATH] [--timeout SECONDS] [--connections N] \
+    [--output-limit BYTES] --lane REQUESTS REPLIES [--lane REQUESTS REPLIES]...";
 const REFUSAL: &[u8] = b"-ERR max number of clients reached\r\n";
 /// How long replies that are owed are waited for at the end.
 const END: Duration = Duration::from_secs(1);
-/// How long no connection is taken where the system has no room for one.
-const PAUSE: Duration = Duration::from_millis(50);
-/// Files beside the connections, and for each lane.
-const FILES: u64 = 32;
-const FILES_OF_LANE: u64 = 8;
-
-/// Bytes of a signal that is read.
-const SIGNAL: usize = 128;
-
-const SIGNALS: u64 = 0;
-const REPORTS: u64 = 1;
-const FIRST_LISTENER: u64 = 2;
+/// How often it is looked for idle clients.
+const SWEEP: Duration = Duration::from_secs(1);
+/// How long is waited where the server has not opened a pipe, or the system has no room for a connection.
+const PAUSE: Duration = Duration::from_millis(10);
+/// Files beside the connections and the two of each lane.
+const FILES: usize = 16;
+const EVENTS: usize = 256;
+/// ENXIO: nobody has opened a pipe for reading.
+const NO_READER: i32 = 6;
+/// Tokens of what is no lane's: the signals, and the listeners below.
+const SIGNALS: u64 = u64::MAX;
+const LISTENERS: u64 = SIGNALS - 2;
 
 fn main() -> ExitCode {
-    let told = panic::take_hook();
-    panic::set_hook(Box::new(move |fault| {
-        // Clients of a thread that is gone would wait for ever.
-        told(fault);
-        exit(1);
-    }));
     let options = match Options::read(env::args_os().skip(1)) {
         Ok(options) => options,
         Err(fault) => {
@@ -62,13 +48,57 @@ fn main() -> ExitCode {
             return ExitCode::from(2);
         }
     };
-    match Front::open(&options).and_then(|mut front| front.run()) {
-        Ok(()) => ExitCode::SUCCESS,
-        Err(fault) => {
-            eprintln!("front: {fault}");
-            ExitCode::FAILURE
+    if let Err(fault) = serve(&options) {
+        eprintln!("front: {fault}");
+        return ExitCode::FAILURE;
+    }
+    ExitCode::SUCCESS
+}
+
+struct Options {
+    /// The port of TCP, 0 for any that is free.
+    port: Option<u16>,
+    bind: IpAddr,
+    unix: Option<PathBuf>,
+    /// Seconds that a client may be silent, 0 for any.
+    timeout: u32,
+    connections: usize,
+    output_limit: usize,
+    /// The pipes of each lane: its requests, its replies.
+    lanes: Vec<(PathBuf, PathBuf)>,
+}
+
+impl Options {
+    /// At Err what is wrong with the words.
+    fn read(mut words: impl Iterator<Item = OsString>) -> Result<Options, String> {
+        let bind = IpAddr::from([127, 0, 0, 1]);
+        let (port, unix, lanes) = (None, None, Vec::new());
+        let mut it = Options { port, bind, unix, timeout: 0, connections: 10_000, output_limit: 1 << 26, lanes };
+        while let Some(name) = words.next() {
+            let name = name.to_string_lossy().into_owned();
+            let mut value = || words.next().ok_or(format!("{name} lacks its value"));
+            match name.as_str() {
+                "--port" => it.port = Some(read(&name, value()?)?),
+                "--bind" => it.bind = read(&name, value()?)?,
+                "--unix" => it.unix = Some(value()?.into()),
+                "--timeout" => it.timeout = read(&name, value()?)?,
+                "--connections" => it.connections = read(&name, value()?)?,
+                "--output-limit" => it.output_limit = read(&name, value()?)?,
+                "--lane" => it.lanes.push((value()?.into(), value()?.into())),
+                _ => return Err(format!("{name} is no option")),
+            }
+        }
+        match (it.lanes.is_empty(), &it.port, &it.unix) {
+            (true, ..) => Err("there is no --lane".into()),
+            (_, None, None) => Err("there is neither --port nor --unix".into()),
+            _ => Ok(it),
         }
     }
+}
+
+fn read<T: FromStr>(name: &str, value: OsString) -> Result<T, String> {
+    let value = value.to_string_lossy();
+    value.parse().map_err(|_| format!("{name} {value}: no value that it takes"))
 }
 
 /// Says of what a fault is.
@@ -76,13 +106,31 @@ fn of<T>(what: impl Display, result: io::Result<T>) -> Result<T, String> {
     result.map_err(|fault| format!("{what}: {fault}"))
 }
 
-/// Has the path of the Unix socket go away at the end.
-struct Named(PathBuf);
-
-impl Drop for Named {
-    fn drop(&mut self) {
-        let _ = fs::remove_file(&self.0);
+fn serve(options: &Options) -> Result<(), String> {
+    let epoll = of("events", Epoll::new())?;
+    let signals = of("signals", system::ends().and_then(|it| epoll.watch(&it, 0, INPUT, SIGNALS).map(|()| it)))?;
+    let mut front = Front {
+        signals,
+        listeners: Vec::new(),
+        lanes: Vec::new(),
+        shared: Shared::new(epoll, options.output_limit),
+        connections: room_for(options)?,
+        next: 0,
+    };
+    let mut ready = "ready".to_string();
+    if let Some(port) = options.port {
+        let address = SocketAddr::new(options.bind, port);
+        let listener = of(address, TcpListener::bind(address))?;
+        ready += &format!(" {}", of(address, listener.local_addr())?);
+        front.listeners.push(listener.into());
     }
+    if let Some(path) = &options.unix {
+        front.listeners.push(of(path.display(), listen_at(path))?.into());
+        ready += &format!(" {}", path.display());
+    }
+    let ended = front.run(options, &ready);
+    let _ = options.unix.iter().try_for_each(fs::remove_file);
+    ended
 }
 
 /// Listens at a path to which nobody but the owner may connect.
@@ -96,161 +144,122 @@ fn listen_at(path: &Path) -> io::Result<UnixListener> {
     system::for_owner_alone(|| UnixListener::bind(path))
 }
 
-struct Front {
-    epoll: Epoll,
-    signals: OwnedFd,
-    reports: Letters<Report>,
-    shared: Shared,
-    listeners: Vec<OwnedFd>,
-    /// Where it listens, as the ready line says.
-    addresses: String,
-    /// The most connections.
-    connections: usize,
-    /// Whose turn it is to get a connection.
-    next: usize,
-    /// What goes away at the end.
-    _named: Option<Named>,
-}
-
-impl Front {
-    /// Listens, and starts the lanes' threads.
-    fn open(options: &Options) -> Result<Front, String> {
-        let signals = of("signals", system::ends())?;
-        let mut addresses = String::new();
-        let mut listeners = Vec::new();
-        if let Some(port) = options.port {
-            let address = SocketAddr::new(options.bind, port);
-            let listener = of(address, TcpListener::bind(address))?;
-            addresses += &format!(" {}", of(address, listener.local_addr())?);
-            listeners.push(OwnedFd::from(listener));
-        }
-        let mut named = None;
-        if let Some(path) = &options.unix {
-            listeners.push(of(path.display(), listen_at(path))?.into());
-            named = Some(Named(path.clone()));
-            addresses += &format!(" {}", path.display());
-        }
-        let (main, reports) = of("events", Post::new())?;
-        let posts: io::Result<Vec<_>> = options.lanes.iter().map(|_| Post::new()).collect();
-        let (lanes, orders): (Vec<_>, Vec<_>) = of("events", posts)?.into_iter().unzip();
-        let idle = (options.timeout > 0).then(|| Duration::from_secs(options.timeout));
-        let clients = Arc::new(AtomicUsize::new(0));
-        let shared = Shared { idle, output_limit: options.output_limit, clients, lanes, main };
-        let connections = of("files", room_for_clients(options))?;
-        for (number, orders) in orders.into_iter().enumerate() {
-            start_lane(number, &options.lanes[number], orders, shared.clone())?;
-        }
-        let epoll = of("events", Epoll::new())?;
-        of("events", epoll.add(&signals, INPUT, SIGNALS))?;
-        of("events", epoll.add(&reports.bell.0, INPUT, REPORTS))?;
-        Ok(Front { epoll, signals, reports, shared, listeners, addresses, connections, next: 0, _named: named })
-    }
-
-    /// Takes connections until a signal ends it, or a lane fails.
-    fn run(&mut self) -> Result<(), String> {
-        let mut events = [Event::default(); 8];
-        let mut closed = self.shared.lanes.len();
-        loop {
-            let count = of("events", self.epoll.wait(&mut events, -1))?;
-            for event in &events[..count] {
-                match event.token {
-                    SIGNALS if closed > 0 => return Ok(()),
-                    SIGNALS => return self.stop(),
-                    REPORTS => {
-                        for report in self.reports.take() {
-                            match report {
-                                Report::Failed(fault) => return Err(fault),
-                                Report::Done => {}
-                                Report::Opened => {
-                                    closed -= 1;
-                                    if closed == 0 {
-                                        self.begin()?;
-                                    }
-                                }
-                            }
-                        }
-                    }
-                    listener => self.take_client((listener - FIRST_LISTENER) as usize),
-                }
-            }
-        }
-    }
-
-    /// Takes connections from now on, and says so.
-    fn begin(&self) -> Result<(), String> {
-        for (token, listener) in (FIRST_LISTENER..).zip(&self.listeners) {
-            of("listening", system::widen(listener))?;
-            of("events", self.epoll.add(listener, INPUT, token))?;
-        }
-        // Who doesn't hear it may be served all the same.
-        let _ = writeln!(io::stdout(), "ready{}", self.addresses).and_then(|()| io::stdout().flush());
-        Ok(())
-    }
-
-    fn take_client(&mut self, listener: usize) {
-        let socket = match system::accept(&self.listeners[listener]) {
-            Ok(socket) => socket,
-            // The client has gone.
-            Err(fault) if matches!(fault.kind(), ErrorKind::WouldBlock | ErrorKind::ConnectionAborted) => return,
-            Err(_) => return thread::sleep(PAUSE),
-        };
-        let clients = &self.shared.clients;
-        if clients.load(Ordering::Relaxed) >= self.connections {
-            // A new socket has room for it.
-            let _ = system::write(&socket, REFUSAL);
-            return;
-        }
-        clients.fetch_add(1, Ordering::Relaxed);
-        self.shared.lanes[self.next].send(Order::Take(socket));
-        self.next = (self.next + 1) % self.shared.lanes.len();
-    }
-
-    /// Waits until the lanes owe nothing, a second at most.
-    fn stop(&mut self) -> Result<(), String> {
-        self.listeners.clear();
-        let mut owing = self.shared.lanes.len();
-        self.shared.lanes.iter().for_each(|it| it.send(Order::Stop));
-        let end = Instant::now() + END;
-        while owing > 0 {
-            let left = end.saturating_duration_since(Instant::now()).as_millis() as i32;
-            let count = of("events", self.epoll.wait(&mut [Event::default()], left))?;
-            if count == 0 {
-                break;
-            }
-            // The signal that began this, and further ones.
-            let _ = system::read(&self.signals, &mut Vec::new(), SIGNAL);
-            // A lane that fails by now owes nothing either.
-            owing -= self.reports.take().len();
-        }
-        Ok(())
-    }
-}
-
-/// Starts a lane's thread, which opens the other pipe: that waits until the server has opened it too. This one doesn't, so a
-/// server may open the two in any order.
-fn start_lane(number: usize, pipes: &(PathBuf, PathBuf), orders: Letters<Order>, shared: Shared) -> Result<(), String> {
-    let (requests, replies) = pipes.clone();
-    for path in [&requests, &replies] {
-        if !of(path.display(), fs::metadata(path))?.file_type().is_fifo() {
-            return Err(format!("{}: it is no pipe", path.display()));
-        }
-    }
-    let replies = of(replies.display(), File::options().read(true).custom_flags(system::NONBLOCK).open(&replies))?;
-    let lane = move || {
-        let main = shared.main.clone();
-        let Err(fault) = Lane::run(requests, replies.into(), orders, shared);
-        main.send(Report::Failed(format!("lane {number} has ended: {fault}")));
-    };
-    of("thread", thread::Builder::new().name(format!("lane {number}")).spawn(lane))?;
-    Ok(())
-}
-
 /// How many connections there may be, since each is a file.
-fn room_for_clients(options: &Options) -> io::Result<usize> {
-    let files = system::raise_files()?;
-    let room = files.saturating_sub(FILES + FILES_OF_LANE * options.lanes.len() as u64) as usize;
+fn room_for(options: &Options) -> Result<usize, String> {
+    let files = of("files", system::raise_files())?;
+    let room = files.saturating_sub(FILES + 2 * options.lanes.len());
     if room < options.connections {
         eprintln!("front: {room} connections at most, since {files} files may be open");
     }
     Ok(room.min(options.connections))
+}
+
+struct Front {
+    signals: File,
+    listeners: Vec<OwnedFd>,
+    lanes: Vec<Lane>,
+    shared: Shared,
+    connections: usize,
+    /// Whose turn it is to get a connection.
+    next: usize,
+}
+
+impl Front {
+    fn run(&mut self, options: &Options, ready: &str) -> Result<(), String> {
+        if !self.open_lanes(options)? {
+            return Ok(());
+        }
+        for (token, listener) in (LISTENERS..).zip(&self.listeners) {
+            of("listening", system::widen(listener))?;
+            of("listening", self.shared.epoll.watch(listener, 0, INPUT, token))?;
+        }
+        // Who doesn't hear it may be served all the same.
+        let _ = writeln!(io::stdout(), "{ready}").and_then(|()| io::stdout().flush());
+        let idle = Duration::from_secs(options.timeout.into());
+        let mut swept = Instant::now();
+        while !self.turn(SWEEP)? {
+            if !idle.is_zero() && self.shared.now - swept >= SWEEP {
+                swept = self.shared.now;
+                self.lanes.iter_mut().for_each(|it| it.close_idle(idle, &mut self.shared));
+            }
+        }
+        self.stop();
+        Ok(())
+    }
+
+    /// Opens the pipes, in whatever order the server does. False where a signal came first.
+    fn open_lanes(&mut self, options: &Options) -> Result<bool, String> {
+        for path in options.lanes.iter().flat_map(|(requests, replies)| [requests, replies]) {
+            if !of(path.display(), fs::metadata(path))?.file_type().is_fifo() {
+                return Err(format!("{}: it is no pipe", path.display()));
+            }
+        }
+        let mut pipe = File::options();
+        pipe.read(true).custom_flags(system::NONBLOCK);
+        let replies: Result<Vec<_>, _> = options.lanes.iter().map(|(_, it)| of(it.display(), pipe.open(it))).collect();
+        pipe.read(false).write(true);
+        for (place, ((path, _), replies)) in options.lanes.iter().zip(replies?).enumerate() {
+            let requests = loop {
+                match pipe.open(path) {
+                    Err(fault) if fault.raw_os_error() == Some(NO_READER) => {}
+                    opened => break of(path.display(), opened)?,
+                }
+                if of("events", self.shared.epoll.wait(&mut [Event::default()], PAUSE))? > 0 {
+                    return Ok(false);
+                }
+            };
+            self.lanes.push(of(path.display(), Lane::new(place, requests, replies, &self.shared.epoll))?);
+        }
+        Ok(true)
+    }
+
+    /// Waits for events, so long at most, and does what they ask for. True where a signal came.
+    fn turn(&mut self, patience: Duration) -> Result<bool, String> {
+        let mut events = [Event::default(); EVENTS];
+        let count = of("events", self.shared.epoll.wait(&mut events, patience))?;
+        self.shared.now = Instant::now();
+        let mut ends = false;
+        for Event { flags, token } in events[..count].iter().copied() {
+            let place = (token >> 32) as usize;
+            match token {
+                SIGNALS => ends = true,
+                LISTENERS.. => self.take_client((token - LISTENERS) as usize),
+                _ => of(format_args!("lane {place} has ended"), self.lanes[place].see(token, flags, &mut self.shared))?,
+            }
+        }
+        for (place, lane) in self.lanes.iter_mut().enumerate() {
+            of(format_args!("lane {place} has ended"), lane.hand_over(&mut self.shared))?;
+        }
+        self.shared.wakes = false;
+        Ok(ends)
+    }
+
+    fn take_client(&mut self, listener: usize) {
+        match system::accept(&self.listeners[listener]) {
+            Ok(socket) if self.shared.clients < self.connections => {
+                self.lanes[self.next].take_client(socket, &mut self.shared);
+                self.next = (self.next + 1) % self.lanes.len();
+            }
+            // A new socket has room for it.
+            Ok(mut socket) => drop(socket.write(REFUSAL)),
+            // The client has gone.
+            Err(fault) if matches!(fault.kind(), ErrorKind::WouldBlock | ErrorKind::ConnectionAborted) => {}
+            Err(_) => thread::sleep(PAUSE),
+        }
+    }
+
+    /// Takes no new input, and waits until nothing is owed, a second at most. A lane that fails by now owes nothing.
+    fn stop(&mut self) {
+        self.listeners.clear();
+        self.lanes.iter_mut().for_each(|it| it.end_inputs(&mut self.shared));
+        // Further signals change nothing.
+        let _ = self.shared.epoll.watch(&self.signals, INPUT, 0, SIGNALS);
+        let end = Instant::now() + END;
+        while self.lanes.iter().any(|it| !it.is_free()) {
+            let left = end.saturating_duration_since(Instant::now());
+            if left.is_zero() || self.turn(left).is_err() {
+                return;
+            }
+        }
+    }
 }

@@ -20,9 +20,9 @@ ROOT = Path(__file__).resolve().parent.parent
 LIMITS = {
     "README.md": 1100, "docs/ARCHITECTURE.md": 1800, "docs/GUARANTEES.md": 4000, "docs/FORMATS.md": 1200,
     "docs/DECISIONS.md": 3000, "docs/PERFORMANCE.md": 1000, "docs/SERVER.md": 1400, "CHANGELOG.md": 600,
-    "CONTRIBUTING.md": 1000, "crates/*/README.md": 300,
+    "CONTRIBUTING.md": 1000, "crates/*/README.md": 300, "front/README.md": 300,
 }
-PAGES = ("README.md", "CONTRIBUTING.md", "docs/*.md", "crates/README.md", "crates/*/README.md")
+PAGES = ("README.md", "CONTRIBUTING.md", "docs/*.md", "crates/README.md", "crates/*/README.md", "front/README.md")
 FOLDERS = {"src", "specs", "proofs", "must-fail", "more-edits", *(it.name for it in [*ROOT.iterdir(), *ROOT.glob("crates/*")])}
 FILE = re.compile(r"\.(rt|antt|md|sh|py|c|rs|txt|edit|svg)$")
 PASSED_OVER = re.compile(r"NAME|MODULE|FUNCTION|(^|/)out(/|$)")

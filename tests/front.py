@@ -197,12 +197,12 @@ def too_many_are_refused(work, _):
 def too_few_files_are_told(work, _):
     front = Front(work, "--connections", "100", limits=[(resource.RLIMIT_NOFILE, 48)])
     with front:
-        clients = [front.client() for _ in range(8)]
+        clients = [front.client() for _ in range(30)]
         for client in clients:
             pong(client)
         assert received(front.client(), 100) == b"-ERR max number of clients reached\r\n"
         front.process.terminate()
-        assert front.ended(0) == "front: 8 connections at most, since 48 files may be open\n"
+        assert front.ended(0) == "front: 30 connections at most, since 48 files may be open\n"
 
 
 def refused_memory_closes_one_client(work, _):
@@ -251,10 +251,10 @@ def a_signal_waits_for_replies(work, _):
         with Front(work, lanes=2, unix=True) as front:
             owed, silent = front.client(), front.client()
             pong(silent)
-            owed.sendall(b"LATE 0.3\nBIG %d\n" % (9 * MEBIBYTE))
+            owed.sendall(b"LATE 0.1\nBIG %d\n" % (9 * MEBIBYTE))
             until(lambda: front.lanes[0].count(DATA) == 1, "the request")
             front.process.send_signal(name)
-            time.sleep(0.1)
+            time.sleep(0.03)
             with contextlib.suppress(OSError):
                 owed.sendall(b"ECHO too late\n")
             want = b"late\n" + b"x" * 9 * MEBIBYTE
@@ -276,7 +276,7 @@ def a_signal_waits_a_second_at_most(work, _):
         time.sleep(0.1)
         assert front.rests(), "it is busy at the end"
         assert front.ended(0) == ""
-        assert 0.9 < time.monotonic() - began < 3
+        assert 0.9 < time.monotonic() - began < 10
         assert is_closed(client)
 
 
@@ -310,7 +310,7 @@ def idle_clients_are_closed(work, _):
         pong(silent)
         began = time.monotonic()
         until(lambda: pong(active) or front.lanes[0].count(CLOSE), "the close of who is silent")
-        assert 0.9 < time.monotonic() - began < 4
+        assert 0.9 < time.monotonic() - began < 10
         assert is_closed(silent)
         pong(active)
         assert front.lanes[1].count(CLOSE) == 0
