@@ -172,7 +172,12 @@ impl Lane {
         Ok(())
     }
 
-    fn has_room(&self) -> bool {
+    /// Whether there is room for more, if need be once what waits was written.
+    fn has_room(&mut self) -> bool {
+        if self.requests.waiting() >= INPUT_LIMIT {
+            // A fault comes again when the lane is handed over what waits.
+            let _ = self.requests.flush();
+        }
         self.requests.waiting() < INPUT_LIMIT
     }
 

@@ -1,4 +1,7 @@
-"""Tries the front, with lanes in threads in the place of a server's: front.py FOLDER CLIENTS, where FOLDER has the program."""
+"""Tries the front, with lanes in threads in the place of a server's: front.py FOLDER CLIENTS [TRIAL]...
+
+FOLDER has the program, and a TRIAL is the name of one of the functions here; all are made where none is named.
+"""
 import contextlib
 import os
 import random
@@ -11,7 +14,8 @@ import subprocess
 import sys
 import time
 
-from front_parts import CLOSE, DATA, OPEN, PATIENCE, WAKE, Front, asked, frame, is_closed, pong, received, until
+from front_parts import (CLOSE, DATA, OPEN, PATIENCE, WAKE, Front, asked, fill, frame, is_closed, pong, received, sender,
+                         until)
 
 MEBIBYTE = 1 << 20
 
@@ -46,17 +50,6 @@ def bytes_come_one_by_one_and_many_at_once(work, _):
             assert received(client, len(want)) == want
         asked(client, b"BIG %d" % (9 * MEBIBYTE), b"x" * 9 * MEBIBYTE)
         assert front.rests()
-
-
-@contextlib.contextmanager
-def sender(client, data):
-    """Sends beside what is done meanwhile."""
-    import threading
-    thread = threading.Thread(target=client.sendall, args=(data,), daemon=True)
-    thread.start()
-    yield
-    thread.join(PATIENCE)
-    assert not thread.is_alive(), "it was not all taken"
 
 
 def who_does_not_read_is_closed_alone(work, _):
@@ -95,18 +88,12 @@ def a_busy_lane_stops_its_senders(work, _):
         pong(beside)
         front.lanes[0].reads.clear()
         beside.sendall(b"ECHO wakes the lane, which then waits\n")
-        greedy.settimeout(0.5)
         data = b"".join(b"ECHO %d %s\n" % (at, b"z" * 60000) for at in range(1000))
-        sent = 0
-        with contextlib.suppress(TimeoutError):
-            while sent < len(data):
-                sent += greedy.send(data[sent:sent + 65536])
-        assert sent < len(data), "all was taken"
+        sent = fill(greedy, data, 1)
         assert front.memory() < 16 * MEBIBYTE, front.memory()
         pong(other)
         assert front.rests(), "it waits for a busy lane"
         front.lanes[0].reads.set()
-        greedy.settimeout(PATIENCE)
         want = data.replace(b"ECHO ", b"")
         with sender(greedy, data[sent:]):
             assert received(greedy, len(want)) == want
@@ -168,17 +155,18 @@ def a_wake_goes_to_every_lane(work, _):
         for client in clients:
             pong(client)
         clients[1].sendall(b"WAKE\n")
-        until(lambda: [it.count(WAKE) for it in front.lanes] == [1, 1, 1], "a wake for each")
-        assert all((WAKE, 0, b"") in it.frames for it in front.lanes)
+        until(lambda: all(it.count(WAKE) for it in front.lanes), "a wake for each")
+        for client in clients * 3:
+            pong(client)
+        assert all(it.frames.count((WAKE, 0, b"")) == it.count(WAKE) == 1 for it in front.lanes), "more than one wake"
         front.lanes[0].reads.clear()
-        clients[1].sendall(b"WAKE\n" * 20000)
-        until(lambda: front.lanes[1].count(DATA) and front.lanes[2].frames[-1][0] == WAKE, "more wakes")
+        fill(clients[0], b"NOTHING\n" * 8192, 1000)
+        clients[1].sendall(b"WAKE\n" * 2000)
+        until(lambda: all(it.count(WAKE) > 1 for it in front.lanes[1:]), "more wakes")
         pong(clients[1])
         assert front.memory() < 16 * MEBIBYTE, front.memory()
         front.lanes[0].reads.set()
-        pong(clients[0])
-        for lane in front.lanes:
-            until(lambda: lane.count(WAKE) > 1, "a wake for each, later")
+        until(lambda: front.lanes[0].count(WAKE) > 1, "a wake for the lane that was busy")
 
 
 def too_many_are_refused(work, _):
@@ -305,15 +293,22 @@ def a_lane_that_fails_ends_it(work, _):
 
 
 def idle_clients_are_closed(work, _):
-    with Front(work, "--timeout", "1", lanes=2) as front:
-        silent, active = front.client(), front.client()
-        pong(silent)
+    with Front(work, "--timeout", "3") as front:
+        silent, sending, hearing = front.client(), front.client(), front.client()
+        lane = front.lanes[0]
+        for client in (silent, sending, hearing):
+            pong(client)
         began = time.monotonic()
-        until(lambda: pong(active) or front.lanes[0].count(CLOSE), "the close of who is silent")
-        assert 0.9 < time.monotonic() - began < 10
+        while not lane.count(CLOSE):
+            sending.sendall(b"NOTHING\n")
+            lane.send(frame(DATA, 2, b"."))
+            time.sleep(0.02)
+            assert time.monotonic() - began < 15, "nobody was closed"
+        assert time.monotonic() - began > 2.9, "it was closed too early"
         assert is_closed(silent)
-        pong(active)
-        assert front.lanes[1].count(CLOSE) == 0
+        pong(sending)
+        assert hearing.recv(1) == b"."
+        assert lane.count(CLOSE) == 1
 
 
 def a_unix_socket_is_its_owners(work, _):
@@ -385,10 +380,9 @@ def main():
     resource.setrlimit(resource.RLIMIT_NOFILE, (files, files))
     # Threads here wait for each other often, and a switch is 5 ms else.
     sys.setswitchinterval(1e-4)
+    trials = [it for it in TRIALS if it.__name__ in sys.argv[3:] or not sys.argv[3:]]
     wrong = 0
-    for trial in TRIALS:
-        if sys.argv[3:] and trial.__name__ not in sys.argv[3:]:
-            continue
+    for trial in trials:
         began = time.monotonic()
         try:
             trial(work, clients)
@@ -397,7 +391,7 @@ def main():
             wrong += 1
             told = f"FAILED: {type(fault).__name__} {fault}, line {fault.__traceback__.tb_next.tb_lineno}"
         print(f"{trial.__name__.replace('_', ' ')}: {told}" + f" ({time.monotonic() - began:.1f} s)", flush=True)
-    print(f"{len(TRIALS)} trials of the front, {wrong} wrong")
+    print(f"{len(trials)} trials of the front, {wrong} wrong")
     sys.exit(1 if wrong else 0)
 
 

@@ -1,7 +1,7 @@
 """What front.py tries the front with: a front in a process, lanes in threads, and clients."""
 import contextlib
 import os
-import queue
+import resource
 import socket
 import struct
 import subprocess
@@ -132,7 +132,6 @@ class Front:
 
         def limit():
             for which, value in limits:
-                import resource
                 resource.setrlimit(which, (value, value))
 
         pipes = {"stdout": subprocess.PIPE, "stderr": subprocess.PIPE}
@@ -209,3 +208,25 @@ def is_closed(client):
         return client.recv(1 << 20) == b""
     except ConnectionResetError:
         return True
+
+
+@contextlib.contextmanager
+def sender(client, data):
+    """Sends beside what is done meanwhile."""
+    thread = threading.Thread(target=client.sendall, args=(data,), daemon=True)
+    thread.start()
+    yield
+    thread.join(PATIENCE)
+    assert not thread.is_alive(), "it was not all taken"
+
+
+def fill(client, data, most):
+    """Sends the data again and again, until it is not taken, and says how many bytes were."""
+    client.settimeout(0.5)
+    sent = 0
+    with contextlib.suppress(TimeoutError):
+        while sent < most * len(data):
+            sent += client.send(data[sent % len(data):])
+    assert sent < most * len(data), "all was taken"
+    client.settimeout(PATIENCE)
+    return sent
