@@ -3,21 +3,17 @@
 FOLDER has the program, and a TRIAL is the name of one of the functions here; all are made where none is named.
 """
 import contextlib
-import os
 import random
 import resource
-import signal
 import socket
-import stat
 import struct
 import subprocess
 import sys
 import time
 
-from front_parts import (CLOSE, DATA, OPEN, PATIENCE, WAKE, Front, asked, fill, frame, is_closed, pong, received, sender,
+import front_ends
+from front_parts import (CLOSE, DATA, MEBIBYTE, OPEN, WAKE, Front, asked, fill, frame, is_closed, pong, received, sender,
                          until)
-
-MEBIBYTE = 1 << 20
 
 
 def each_client_gets_its_own(work, clients):
@@ -43,6 +39,10 @@ def bytes_come_one_by_one_and_many_at_once(work, _):
         for byte in b"ECHO in pieces\n":
             client.sendall(bytes([byte]))
         assert received(client, 10) == b"in pieces\n"
+        for byte in frame(DATA, 0, b"so too") + frame(DATA, 0) + frame(DATA, 0, b" the other way"):
+            front.lanes[0].send(bytes([byte]))
+            time.sleep(0.002)
+        assert received(client, 20) == b"so too the other way"
         lines = [b"ECHO %d %s\n" % (at, b"y" * random.randrange(3000)) for at in range(2000)]
         client.settimeout(None)
         with sender(client, b"".join(lines)):
@@ -79,6 +79,11 @@ def who_reads_late_gets_all(work, _):
         pong(front.client())
         assert received(late, 20 * MEBIBYTE) == b"x" * 20 * MEBIBYTE
         assert received(late, 4) == b"end\n"
+        lines = b"".join(b"ECHO %d %s\n" % (at, b"y" * 60000) for at in range(600))
+        with sender(late, lines):
+            time.sleep(0.3)
+            want = lines.replace(b"ECHO ", b"")
+            assert received(late, len(want)) == want
         pong(late)
 
 
@@ -147,6 +152,10 @@ def who_ends_its_input_gets_what_it_is_owed(work, _):
         assert received(client, len(want)) == want
         assert is_closed(client)
         until(lambda: not front.lanes[0].halves, "the close")
+        front.lanes[0].closes = False
+        front.client().shutdown(socket.SHUT_WR)
+        until(lambda: front.lanes[0].withheld, "another close")
+        assert front.rests(), "it waits for a close"
 
 
 def a_wake_goes_to_every_lane(work, _):
@@ -182,116 +191,6 @@ def too_many_are_refused(work, _):
         pong(front.client())
 
 
-def too_few_files_are_told(work, _):
-    front = Front(work, "--connections", "100", limits=[(resource.RLIMIT_NOFILE, 48)])
-    with front:
-        clients = [front.client() for _ in range(30)]
-        for client in clients:
-            pong(client)
-        assert received(front.client(), 100) == b"-ERR max number of clients reached\r\n"
-        front.process.terminate()
-        assert front.ended(0) == "front: 30 connections at most, since 48 files may be open\n"
-
-
-def refused_memory_closes_one_client(work, _):
-    limit = 400 * MEBIBYTE
-    with Front(work, "--output-limit", str(1 << 40), limits=[(resource.RLIMIT_AS, limit)]) as front:
-        lazy, other = front.client(), front.client()
-        for _ in range(100):
-            with contextlib.suppress(OSError):
-                lazy.sendall(b"BIG %d\n" % (4 * MEBIBYTE))
-            pong(other)
-        assert (CLOSE, 0, b"") in front.lanes[0].frames
-        assert front.process.poll() is None
-
-
-def faults_at_the_start(work, _):
-    program, pipe = os.path.join(work, "front"), os.path.join(work, "pipe")
-    os.mkfifo(pipe)
-    lane = ["--lane", pipe, pipe]
-
-    def tell(status, want, *words):
-        ran = subprocess.run([program, *words], stdin=subprocess.DEVNULL, capture_output=True, timeout=PATIENCE)
-        told = ran.stderr.decode()
-        assert (ran.returncode, ran.stdout) == (status, b"") and want in told, (words, ran)
-        assert len(told.splitlines()) == (1 if status == 1 else 2), told
-
-    with socket.create_server(("127.0.0.1", 0)) as taken:
-        port = str(taken.getsockname()[1])
-        tell(1, f"127.0.0.1:{port}: Address already in use", "--port", port, *lane)
-    tell(1, "192.0.2.1:0: Cannot assign", "--port", "0", "--bind", "192.0.2.1", *lane)
-    tell(1, "/none/socket: No such file", "--unix", "/none/socket", *lane)
-    tell(1, "/none/pipe: No such file", "--port", "0", "--lane", "/none/pipe", pipe)
-    tell(1, f"{program}: it is no pipe", "--port", "0", "--lane", pipe, program)
-    tell(2, "there is no --lane", "--port", "0")
-    tell(2, "neither --port nor --unix", *lane)
-    tell(2, "--port 65536: no value", "--port", "65536", *lane)
-    tell(2, "--timeout -1: no value", "--port", "0", "--timeout", "-1", *lane)
-    tell(2, "--bind here: no value", "--port", "0", "--bind", "here", *lane)
-    tell(2, "--connections x: no value", "--port", "0", "--connections", "x", *lane)
-    tell(2, "--output-limit : no value", "--port", "0", "--output-limit", "", *lane)
-    tell(2, "--lane lacks its value", "--port", "0", "--lane", pipe)
-    tell(2, "--more is no option", "--more")
-
-
-def a_signal_waits_for_replies(work, _):
-    for name in (signal.SIGTERM, signal.SIGINT):
-        with Front(work, lanes=2, unix=True) as front:
-            owed, silent = front.client(), front.client()
-            pong(silent)
-            owed.sendall(b"LATE 0.1\nBIG %d\n" % (9 * MEBIBYTE))
-            until(lambda: front.lanes[0].count(DATA) == 1, "the request")
-            front.process.send_signal(name)
-            time.sleep(0.03)
-            with contextlib.suppress(OSError):
-                owed.sendall(b"ECHO too late\n")
-            want = b"late\n" + b"x" * 9 * MEBIBYTE
-            assert received(owed, len(want)) == want
-            assert is_closed(owed) and is_closed(silent)
-            assert front.ended(0) == ""
-            assert not front.path.exists()
-
-
-def a_signal_waits_a_second_at_most(work, _):
-    with Front(work) as front:
-        client = front.client()
-        pong(client)
-        front.lanes[0].closes = False
-        began = time.monotonic()
-        front.process.terminate()
-        time.sleep(0.1)
-        front.process.send_signal(signal.SIGINT)
-        time.sleep(0.1)
-        assert front.rests(), "it is busy at the end"
-        assert front.ended(0) == ""
-        assert 0.9 < time.monotonic() - began < 10
-        assert is_closed(client)
-
-
-def a_signal_ends_it_before_the_lanes_come(work, _):
-    front = Front(work, unix=True)
-    until(front.path.exists, "the socket")
-    time.sleep(0.1)
-    front.process.terminate()
-    assert front.ended(0) == ""
-    assert not front.path.exists()
-    front.__exit__()
-
-
-def a_lane_that_fails_ends_it(work, _):
-    faults = [b"DIE", b"RAW 09" + b"00" * 8, b"RAW 01" + b"00" * 8, b"RAW 02" + b"00" * 7 + b"01"]
-    for fault in faults:
-        with Front(work, lanes=2, unix=True) as front:
-            clients = [front.client() for _ in range(4)]
-            for client in clients:
-                pong(client)
-            clients[1].sendall(fault + b"\n")
-            told = front.ended(1)
-            assert told.startswith("front: lane 1 has ended: ") and len(told.splitlines()) == 1, told
-            assert all(is_closed(it) for it in clients)
-            assert not front.path.exists()
-
-
 def idle_clients_are_closed(work, _):
     with Front(work, "--timeout", "3") as front:
         silent, sending, hearing = front.client(), front.client(), front.client()
@@ -309,30 +208,6 @@ def idle_clients_are_closed(work, _):
         pong(sending)
         assert hearing.recv(1) == b"."
         assert lane.count(CLOSE) == 1
-
-
-def a_unix_socket_is_its_owners(work, _):
-    with Front(work, unix=True) as front:
-        mode = front.path.stat().st_mode
-        assert stat.S_ISSOCK(mode) and stat.S_IMODE(mode) == 0o600, oct(mode)
-        assert front.ready.split()[2] == str(front.path)
-        pong(front.client(unix=True))
-        pong(front.client())
-        client = front.client(unix=True)
-        client.sendall(b"BIG %d\nQUIT\n" % (9 * MEBIBYTE))
-        assert received(client, 9 * MEBIBYTE + 6) == b"x" * 9 * MEBIBYTE + b"+OK\r\n"
-        second = [os.path.join(work, "front"), "--unix", front.path, "--lane", *front.lanes[0].paths]
-        ran = subprocess.run(second, capture_output=True, timeout=PATIENCE)
-        assert ran.returncode == 1 and str(front.path) in ran.stderr.decode()
-        pong(front.client(unix=True))
-        front.process.kill()
-        front.process.wait()
-        assert front.path.exists()
-        third = Front(work, "--unix", str(front.path), port="")
-        with third:
-            assert third.ready == f"ready {front.path}\n"
-            third.path = front.path
-            pong(third.client(unix=True))
 
 
 def clients_come_and_go_in_any_way(work, clients):
@@ -367,10 +242,8 @@ def clients_come_and_go_in_any_way(work, clients):
 TRIALS = [
     each_client_gets_its_own, bytes_come_one_by_one_and_many_at_once, who_does_not_read_is_closed_alone,
     who_reads_late_gets_all, a_busy_lane_stops_its_senders, numbers_are_used_again_after_both_closes,
-    a_lane_closes_once_all_is_out, who_ends_its_input_gets_what_it_is_owed, a_wake_goes_to_every_lane, too_many_are_refused,
-    too_few_files_are_told, refused_memory_closes_one_client, faults_at_the_start, a_signal_waits_for_replies,
-    a_signal_waits_a_second_at_most, a_signal_ends_it_before_the_lanes_come, a_lane_that_fails_ends_it,
-    idle_clients_are_closed, a_unix_socket_is_its_owners, clients_come_and_go_in_any_way,
+    a_lane_closes_once_all_is_out, who_ends_its_input_gets_what_it_is_owed, a_wake_goes_to_every_lane,
+    too_many_are_refused, idle_clients_are_closed, clients_come_and_go_in_any_way, *front_ends.TRIALS,
 ]
 
 

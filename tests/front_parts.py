@@ -11,6 +11,7 @@ from pathlib import Path
 
 DATA, OPEN, CLOSE, WAKE = range(4)
 HEAD = struct.Struct(">BII")
+MEBIBYTE = 1 << 20
 # How long anything may take that has to come.
 PATIENCE = 20
 

@@ -1,0 +1,152 @@
+"""Trials of front.py: how the front starts and ends, and what it lets the system give it."""
+import contextlib
+import os
+import resource
+import signal
+import socket
+import stat
+import subprocess
+import time
+
+from front_parts import CLOSE, DATA, MEBIBYTE, PATIENCE, Front, is_closed, pong, received, until
+
+
+def refused_memory_closes_one_client(work, _):
+    limit = 400 * MEBIBYTE
+    with Front(work, "--output-limit", str(1 << 40), limits=[(resource.RLIMIT_AS, limit)]) as front:
+        lazy, other = front.client(), front.client()
+        for _ in range(100):
+            with contextlib.suppress(OSError):
+                lazy.sendall(b"BIG %d\n" % (4 * MEBIBYTE))
+            pong(other)
+        assert (CLOSE, 0, b"") in front.lanes[0].frames
+        assert front.process.poll() is None
+
+
+def faults_at_the_start(work, _):
+    program, pipe = os.path.join(work, "front"), os.path.join(work, "pipe")
+    os.mkfifo(pipe)
+    lane = ["--lane", pipe, pipe]
+
+    def tell(status, want, *words):
+        ran = subprocess.run([program, *words], stdin=subprocess.DEVNULL, capture_output=True, timeout=PATIENCE)
+        told = ran.stderr.decode()
+        assert (ran.returncode, ran.stdout) == (status, b"") and want in told, (words, ran)
+        assert len(told.splitlines()) == (1 if status == 1 else 2), told
+
+    with socket.create_server(("127.0.0.1", 0)) as taken:
+        port = str(taken.getsockname()[1])
+        tell(1, f"127.0.0.1:{port}: Address already in use", "--port", port, *lane)
+    tell(1, "192.0.2.1:0: Cannot assign", "--port", "0", "--bind", "192.0.2.1", *lane)
+    tell(1, "/none/socket: No such file", "--unix", "/none/socket", *lane)
+    tell(1, "/none/pipe: No such file", "--port", "0", "--lane", "/none/pipe", pipe)
+    tell(1, f"{program}: it is no pipe", "--port", "0", "--lane", pipe, program)
+    tell(2, "there is no --lane", "--port", "0")
+    tell(2, "neither --port nor --unix", *lane)
+    tell(2, "--port 65536: no value", "--port", "65536", *lane)
+    tell(2, "--timeout -1: no value", "--port", "0", "--timeout", "-1", *lane)
+    tell(2, "--bind here: no value", "--port", "0", "--bind", "here", *lane)
+    tell(2, "--connections x: no value", "--port", "0", "--connections", "x", *lane)
+    tell(2, "--output-limit : no value", "--port", "0", "--output-limit", "", *lane)
+    tell(2, "--lane lacks its value", "--port", "0", "--lane", pipe)
+    tell(2, "--more is no option", "--more")
+
+
+def a_signal_waits_for_replies(work, _):
+    for name in (signal.SIGTERM, signal.SIGINT):
+        with Front(work, lanes=2, unix=True) as front:
+            owed, silent = front.client(), front.client()
+            pong(silent)
+            owed.sendall(b"LATE 0.1\nBIG %d\n" % (9 * MEBIBYTE))
+            until(lambda: front.lanes[0].count(DATA) == 1, "the request")
+            front.process.send_signal(name)
+            time.sleep(0.03)
+            with contextlib.suppress(OSError):
+                owed.sendall(b"ECHO too late\n")
+            want = b"late\n" + b"x" * 9 * MEBIBYTE
+            assert received(owed, len(want)) == want
+            assert is_closed(owed) and is_closed(silent)
+            assert front.ended(0) == ""
+            assert not front.path.exists()
+
+
+def a_signal_waits_a_second_at_most(work, _):
+    with Front(work) as front:
+        client = front.client()
+        pong(client)
+        front.lanes[0].closes = False
+        began = time.monotonic()
+        front.process.terminate()
+        time.sleep(0.1)
+        front.process.send_signal(signal.SIGINT)
+        time.sleep(0.1)
+        assert front.rests(), "it is busy at the end"
+        assert front.ended(0) == ""
+        assert 0.9 < time.monotonic() - began < 10
+        assert is_closed(client)
+
+
+def a_signal_ends_it_before_the_lanes_come(work, _):
+    front = Front(work, unix=True)
+    until(front.path.exists, "the socket")
+    time.sleep(0.1)
+    front.process.terminate()
+    assert front.ended(0) == ""
+    assert not front.path.exists()
+    front.__exit__()
+
+
+def a_lane_that_fails_ends_it(work, _):
+    faults = [b"DIE", b"RAW 09" + b"00" * 8, b"RAW 01" + b"00" * 8, b"RAW 02" + b"00" * 7 + b"01"]
+    for fault in faults:
+        with Front(work, lanes=2, unix=True) as front:
+            clients = [front.client() for _ in range(4)]
+            for client in clients:
+                pong(client)
+            clients[1].sendall(fault + b"\n")
+            told = front.ended(1)
+            assert told.startswith("front: lane 1 has ended: ") and len(told.splitlines()) == 1, told
+            assert all(is_closed(it) for it in clients)
+            assert not front.path.exists()
+
+
+def a_unix_socket_is_its_owners(work, _):
+    with Front(work, unix=True) as front:
+        mode = front.path.stat().st_mode
+        assert stat.S_ISSOCK(mode) and stat.S_IMODE(mode) == 0o600, oct(mode)
+        assert front.ready.split()[2] == str(front.path)
+        pong(front.client(unix=True))
+        pong(front.client())
+        client = front.client(unix=True)
+        client.sendall(b"BIG %d\nQUIT\n" % (9 * MEBIBYTE))
+        assert received(client, 9 * MEBIBYTE + 6) == b"x" * 9 * MEBIBYTE + b"+OK\r\n"
+        second = [os.path.join(work, "front"), "--unix", front.path, "--lane", *front.lanes[0].paths]
+        ran = subprocess.run(second, capture_output=True, timeout=PATIENCE)
+        assert ran.returncode == 1 and str(front.path) in ran.stderr.decode()
+        pong(front.client(unix=True))
+        front.process.kill()
+        front.process.wait()
+        assert front.path.exists()
+        third = Front(work, "--unix", str(front.path), port="")
+        with third:
+            assert third.ready == f"ready {front.path}\n"
+            third.path = front.path
+            pong(third.client(unix=True))
+
+
+def too_few_files_are_told(work, _):
+    front = Front(work, "--connections", "100", limits=[(resource.RLIMIT_NOFILE, 48)])
+    with front:
+        clients = [front.client() for _ in range(30)]
+        for client in clients:
+            pong(client)
+        assert received(front.client(), 100) == b"-ERR max number of clients reached\r\n"
+        front.process.terminate()
+        assert front.ended(0) == "front: 30 connections at most, since 48 files may be open\n"
+
+
+TRIALS = [
+    refused_memory_closes_one_client, faults_at_the_start, a_signal_waits_for_replies,
+    a_signal_waits_a_second_at_most, a_signal_ends_it_before_the_lanes_come, a_lane_that_fails_ends_it,
+    a_unix_socket_is_its_owners, too_few_files_are_told,
+]
