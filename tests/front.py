@@ -5,6 +5,7 @@ FOLDER has the program, and a TRIAL is the name of one of the functions here; al
 import contextlib
 import random
 import resource
+import signal
 import socket
 import struct
 import subprocess
@@ -79,6 +80,14 @@ def who_reads_late_gets_all(work, _):
         pong(front.client())
         assert received(late, 20 * MEBIBYTE) == b"x" * 20 * MEBIBYTE
         assert received(late, 4) == b"end\n"
+        late.sendall(b"BIG %d\n" % (20 * MEBIBYTE))
+        pong(front.client())
+        # The front finds more for the client, and behind that its socket with room again.
+        front.process.send_signal(signal.SIGSTOP)
+        front.lanes[0].send(frame(DATA, 0, b"tail"))
+        part = received(late, 2 * MEBIBYTE)
+        front.process.send_signal(signal.SIGCONT)
+        assert part + received(late, 18 * MEBIBYTE + 4) == b"x" * 20 * MEBIBYTE + b"tail"
         lines = b"".join(b"ECHO %d %s\n" % (at, b"y" * 60000) for at in range(600))
         with sender(late, lines):
             time.sleep(0.3)
@@ -141,6 +150,16 @@ def a_lane_closes_once_all_is_out(work, _):
         assert is_closed(client)
         assert lane.frames.count((CLOSE, 0, b"")) == 1
         until(lambda: front.client() and (OPEN, 0, b"") in lane.frames[2:], "the number again")
+        client = front.client()
+        pong(client)
+        number = lane.frames[-1][1]
+        # The front finds the close first, and then what the client has sent meanwhile.
+        front.process.send_signal(signal.SIGSTOP)
+        lane.closing.add(number)
+        lane.send(frame(DATA, number, b"bye") + frame(CLOSE, number))
+        client.sendall(b"PING\n")
+        front.process.send_signal(signal.SIGCONT)
+        assert received(client, 4) == b"bye", "it was reset"
 
 
 def who_ends_its_input_gets_what_it_is_owed(work, _):
