@@ -197,18 +197,22 @@ impl Front {
         let mut pipe = File::options();
         pipe.read(true).custom_flags(system::NONBLOCK);
         let replies: Result<Vec<_>, _> = options.lanes.iter().map(|(_, it)| of(it.display(), pipe.open(it))).collect();
+        let replies = replies?;
         pipe.read(false).write(true);
-        for (place, ((path, _), replies)) in options.lanes.iter().zip(replies?).enumerate() {
-            let requests = loop {
+        let mut requests: Vec<Option<File>> = replies.iter().map(|_| None).collect();
+        while requests.iter().any(Option::is_none) {
+            for ((path, _), file) in options.lanes.iter().zip(&mut requests).filter(|(_, file)| file.is_none()) {
                 match pipe.open(path) {
                     Err(fault) if fault.raw_os_error() == Some(NO_READER) => {}
-                    opened => break of(path.display(), opened)?,
+                    opened => *file = Some(of(path.display(), opened)?),
                 }
-                if of("events", self.shared.epoll.wait(&mut [Event::default()], PAUSE))? > 0 {
-                    return Ok(false);
-                }
-            };
-            self.lanes.push(of(path.display(), Lane::new(place, requests, replies, &self.shared.epoll))?);
+            }
+            if of("events", self.shared.epoll.wait(&mut [Event::default()], PAUSE))? > 0 {
+                return Ok(false);
+            }
+        }
+        for (place, (requests, replies)) in requests.into_iter().flatten().zip(replies).enumerate() {
+            self.lanes.push(of("events", Lane::new(place, requests, replies, &self.shared.epoll))?);
         }
         Ok(true)
     }

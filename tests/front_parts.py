@@ -42,11 +42,13 @@ class Lane(threading.Thread):
         for path in self.paths:
             os.mkfifo(path)
 
-    def run(self):
+    def open(self):
         order = [(1, os.O_WRONLY), (0, os.O_RDONLY)] if self.replies_first else [(0, os.O_RDONLY), (1, os.O_WRONLY)]
         opened = {which: os.open(self.paths[which], how) for which, how in order}
-        self.output = opened[1]
-        with contextlib.suppress(BrokenPipeError, EOFError), open(opened[0], "rb", 0) as requests:
+        self.input, self.output = opened[0], opened[1]
+
+    def run(self):
+        with contextlib.suppress(BrokenPipeError, EOFError), open(self.input, "rb", 0) as requests:
             while True:
                 self.reads.wait()
                 kind, connection, length = HEAD.unpack(self.exactly(requests, HEAD.size))
@@ -139,9 +141,13 @@ class Front:
         self.process = subprocess.Popen(command, stdin=subprocess.DEVNULL, preexec_fn=limit, **pipes)
         self.clients = []
 
-    def __enter__(self):
+    def open_lanes(self):
         for lane in reversed(self.lanes):
+            lane.open()
             lane.start()
+
+    def __enter__(self):
+        threading.Thread(target=self.open_lanes, daemon=True).start()
         self.ready = self.process.stdout.readline().decode()
         assert self.ready.startswith("ready "), self.process.stderr.read()
         self.address = self.ready.split()[1]
