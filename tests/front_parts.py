@@ -148,8 +148,13 @@ class Front:
 
     def __enter__(self):
         threading.Thread(target=self.open_lanes, daemon=True).start()
+        limit = threading.Timer(PATIENCE, self.process.kill)
+        limit.start()
         self.ready = self.process.stdout.readline().decode()
-        assert self.ready.startswith("ready "), self.process.stderr.read()
+        limit.cancel()
+        if not self.ready.startswith("ready "):
+            self.process.kill()
+            raise AssertionError(f"it is not ready: {self.process.stderr.read().decode()}")
         self.address = self.ready.split()[1]
         return self
 
