@@ -14,5 +14,5 @@ if ! command -v rustc >/dev/null; then
 fi
 work=$(mktemp -d)
 trap 'rm -rf "$work"' EXIT
-rustc -O --edition 2021 -D warnings -o "$work/front" "$tests/../front/main.rs"
+rustc -O --edition 2021 -o "$work/front" "$tests/../front/main.rs"
 /usr/bin/python3 -B "$tests/front.py" "$work" "$clients"
