@@ -1,2 +1,4 @@
-pub mod Words
 pub mod Counts
+pub mod Taking
+pub mod Tops
+pub mod Words
