@@ -1,0 +1,50 @@
+use Rattle.std.proofs.Common.{◌≡◌, ◌≢◌, ◌<◌, ◌⊎◌, ◌+◌, inl, inr, ℕ, List, length, take, get_or, arith, subst, ap, refl, sym}
+use Rattle.resp.specs.Lines.{Lacks}
+use Rattle.resp.specs.Parsing.{AreWithin}
+use Rattle.resp.specs.Requests.{inline, IsLine, IsPlain}
+use Rattle.resp.proofs.Arrays.{within_longer}
+use Rattle.resp.proofs.Inlines.{front_is_line, line_short, line_whole, line_bad, byte_cause}
+use Rattle.std.proofs.lemmas.List.{take_all}
+use Rattle.resp.proofs.inline.inline_at.Goals as goal
+
+pub returns-then-at-bytes : goal.returns-then-at-bytes
+returns-then-at-bytes c =
+    let bytes = c.args.bytes.now in
+    let at = c.plain_len-at.result in
+    let most = c.args.limits.line in
+    let front = front_is_line most at bytes c.plain_len-at.ensures.within c.plain_len-at.ensures.few c.plain_len-at.ensures.plain c.requires.unmarked in
+    let all : take at bytes ≡ bytes = take_all at bytes (omega (arith, c.if-at-bytes.true)) in
+    line_short most bytes (subst (IsLine most) all front)
+
+pub returns-then-bytes-at-eq10 : goal.returns-then-bytes-at-eq10
+returns-then-bytes-at-eq10 c =
+    let bytes = c.args.bytes.now in
+    let at = c.plain_len-at.result in
+    let most = c.args.limits.line in
+    let within : at < length bytes = omega (arith, c.plain_len-at.ensures.within, c.if-at-bytes.false) in
+    let front = front_is_line most at bytes c.plain_len-at.ensures.within c.plain_len-at.ensures.few c.plain_len-at.ensures.plain c.requires.unmarked in (
+      take at bytes,
+      line_whole most at bytes within front c.if-bytes-at-eq10.true,
+      c.in_ok-push_words.ensures.words,
+      omega arith,
+      within_longer at (length bytes) c.push_words.new.spans.items (omega arith) c.in_ok-push_words.ensures.spans_within,
+    )
+
+pub returns-then-at-most : goal.returns-then-at-most
+returns-then-at-most c =
+    let bytes = c.args.bytes.now in
+    let at = c.plain_len-at.result in
+    let most = c.args.limits.line in
+    let within : at < length bytes = omega (arith, c.plain_len-at.ensures.within, c.if-at-bytes.false) in
+    let front = front_is_line most at bytes c.plain_len-at.ensures.within c.plain_len-at.ensures.few c.plain_len-at.ensures.plain c.requires.unmarked in
+    (line_bad most at bytes within front c.if-bytes-at-eq10.false (inl c.if-at-most.true), (c.requires.unmarked, c.if-at-most.true))
+
+pub returns : goal.returns
+returns c =
+    let bytes = c.args.bytes.now in
+    let at = c.plain_len-at.result in
+    let most = c.args.limits.line in
+    let within : at < length bytes = omega (arith, c.plain_len-at.ensures.within, c.if-at-bytes.false) in
+    let few : at < most = omega (arith, c.plain_len-at.ensures.few, c.if-at-most.false) in
+    let front = front_is_line most at bytes c.plain_len-at.ensures.within c.plain_len-at.ensures.few c.plain_len-at.ensures.plain c.requires.unmarked in
+    (line_bad most at bytes within front c.if-bytes-at-eq10.false (inr (c.plain_len-at.ensures.end within few)), byte_cause c.args.limits bytes at c.fault_of.result c.requires.unmarked c.fault_of.ensures)
