@@ -1,5 +1,5 @@
 -- Requests of all kinds, and what bytes have of one.
-use Rattle.std.proofs.Common.{◌≡◌, ◌≢◌, ◌⊎◌, ℕ, ◌+◌, ◌*◌, ◌^◌, ◌<◌, ◌≤◌, zero, suc, inl, inr, List, [], ◌∷◌, ◌++◌, length, take, drop, get_or, refl, sym, ap, ◌∙◌, arith, subst, append_assoc, append-nil, length-append, length-take, take-append-drop}
+use Rattle.std.proofs.Common.{◌≡◌, ◌≢◌, ℕ, ◌+◌, ◌*◌, ◌^◌, ◌<◌, ◌≤◌, zero, suc, inr, List, [], ◌∷◌, ◌++◌, length, take, drop, get_or, refl, sym, ap, ◌∙◌, arith, subst, append-nil, length-append, length-take}
 use Rattle.std.proofs.lemmas.List.{get_or-take, nil_from_length}
 use Rattle.std.specs.Prelude.{decimal}
 use Rattle.std.specs.List.{flat_map}
@@ -7,11 +7,10 @@ use Rattle.std.proofs.lemmas.Fmt.{decimal_digit, decimal_nonempty, length-decima
 use Rattle.resp.specs.declared.limits.Limits.{Limits}
 use Rattle.resp.specs.declared.place.Span.{Span}
 use Rattle.resp.specs.declared.outcome.Fault.{Fault}
-use Rattle.resp.specs.declared.outcome.Fault.TheVariants.{ArrayLength}
 use Rattle.resp.specs.declared.outcome.Parsed.{Parsed}
 use Rattle.resp.specs.declared.outcome.Parsed.TheVariants.{Request, Incomplete, Malformed}
-use Rattle.resp.specs.Lines.{IsDigit, number, line, Lacks, Spoilt, Begins, IsPositive}
-use Rattle.resp.specs.Requests.{bulk, array, negative, inline, total, words, IsSmall, IsLine, Command, command, arguments_of, IsAdmitted, longest}
+use Rattle.resp.specs.Lines.{IsDigit, number, line, Lacks, Spoilt, IsPositive}
+use Rattle.resp.specs.Requests.{bulk, array, negative, inline, total, IsSmall, IsLine, Command, command, arguments_of, IsAdmitted, longest}
 use Rattle.resp.specs.Requests.{Array, Negative, Inline}
 use Rattle.resp.specs.Parsing.{arguments_in, AreWithin, IsCause, ParsesArray, ParsesNegative, ParsesInline, Parses, Again, IsBounded}
 use Rattle.resp.specs.Laws.{AreNumbers}
@@ -37,7 +36,7 @@ behind_two [] c d some one two = absurd (omega arith)
 behind_two (a ∷ []) c d some one two = absurd (omega arith)
 behind_two (a ∷ b ∷ r) c d some one two = cc
 
-two_taken : (bytes : List ℕ) (c d at : ℕ) → 1 < length bytes → 0 < at → get_or bytes 0 0 ≡ c → get_or bytes 1 0 ≡ d → (r : List ℕ) × (take (at + 1) bytes ≡ c ∷ d ∷ r)
+pub two_taken : (bytes : List ℕ) (c d at : ℕ) → 1 < length bytes → 0 < at → get_or bytes 0 0 ≡ c → get_or bytes 1 0 ≡ d → (r : List ℕ) × (take (at + 1) bytes ≡ c ∷ d ∷ r)
 two_taken bytes c d at some later one two =
     two_first (take (at + 1) bytes) c d (omega (arith, length-take (at + 1) bytes)) (get_or-take (at + 1) bytes 0 0 (omega arith) ∙ one) (get_or-take (at + 1) bytes 1 0 (omega arith) ∙ two)
 
@@ -50,7 +49,7 @@ one_taken bytes at some =
     let r = one_first (take (at + 1) bytes) (omega (arith, length-take (at + 1) bytes)) in
     (r.0, r.1 ∙ ap (λ c. c ∷ r.0) (get_or-take (at + 1) bytes 0 0 (omega arith)))
 
-no_minus : (n : ℕ) (r tail : List ℕ) → n < 2 ^ 64 → 45 ∷ r ≡ number n ++ tail → ⊥
+pub no_minus : (n : ℕ) (r tail : List ℕ) → n < 2 ^ 64 → 45 ∷ r ≡ number n ++ tail → ⊥
 no_minus n r tail small e =
     let digit : IsDigit 45 = begins_with_digit n (decimal n) 45 r tail small refl (decimal_nonempty n small) (decimal_digits n small) (e ∙ number_tail n tail) in
     omega (arith, digit.0)
@@ -135,17 +134,17 @@ array_later limits bytes zero some is bad =
 pub array_is : (limits : Limits) (bytes : List ℕ) (spans : List Span) (p : Parsed) → 1 < length bytes → get_or bytes 0 0 ≡ 42 → get_or bytes 1 0 ≢ 45 → ParsesArray limits bytes spans p → Parses limits bytes spans p
 array_is limits bytes spans (Request consumed) some one two found = record {
   value = Array (arguments_in bytes spans);
-  begins = kind_begins array (IsSmall limits) command (IsAdmitted limits) Array (λ x. refl) (λ x h. h) bytes (arguments_in bytes spans) consumed found.0;
+  begins = kind_begins array (IsSmall limits) command (IsAdmitted limits) Array (λ x h. refl) (λ x h. h) bytes (arguments_in bytes spans) consumed found.0;
   arguments = refl;
   within = found.1;
   spans_within = found.2;
 }
 array_is limits bytes spans (Incomplete n) some one two lacks =
     let f = two_first bytes 42 (get_or bytes 1 0) some one refl in
-    kind_lacks array (IsSmall limits) command (IsAdmitted limits) Array (λ x. refl) (λ x h. h) bytes n (only_front array (IsSmall limits) limits bytes (42 ∷ get_or bytes 1 0 ∷ f.0) f.1 (array_only limits (get_or bytes 1 0) f.0 two)) lacks
+    kind_lacks array (IsSmall limits) command (IsAdmitted limits) Array (λ x h. refl) (λ x h. h) bytes n (only_front array (IsSmall limits) limits bytes (42 ∷ get_or bytes 1 0 ∷ f.0) f.1 (array_only limits (get_or bytes 1 0) f.0 two)) lacks
 array_is limits bytes spans (Malformed at fault) some one two bad =
     let f = two_taken bytes 42 (get_or bytes 1 0) at some (array_later limits bytes at (omega arith) one bad.0) one refl in (
-      kind_spoilt array (IsSmall limits) command (IsAdmitted limits) Array (λ x. refl) (λ x h. h) bytes at (only_front array (IsSmall limits) limits (take (at + 1) bytes) (42 ∷ get_or bytes 1 0 ∷ f.0) f.1 (array_only limits (get_or bytes 1 0) f.0 two)) bad.0,
+      kind_spoilt array (IsSmall limits) command (IsAdmitted limits) Array (λ x h. refl) (λ x h. h) bytes at (only_front array (IsSmall limits) limits (take (at + 1) bytes) (42 ∷ get_or bytes 1 0 ∷ f.0) f.1 (array_only limits (get_or bytes 1 0) f.0 two)) bad.0,
       bad.1,
     )
 
@@ -164,35 +163,35 @@ negative_is limits bytes spans (Request consumed) fits some one two none found =
     let begins = found.1 in
     record {
       value = Negative found.0;
-      begins = kind_begins negative (IsPositive (2 ^ 63)) command (IsAdmitted limits) Negative (λ x. refl) (λ x h. h) bytes found.0 consumed begins;
+      begins = kind_begins negative (IsPositive (2 ^ 63)) command (IsAdmitted limits) Negative (λ x h. refl) (λ x h. h) bytes found.0 consumed begins;
       arguments = ap (arguments_in bytes) none;
       within = omega (arith, ap length begins.is, length-append (negative found.0) begins.rest, begins.long);
       spans_within = subst (AreWithin (length bytes)) (sym none) tt;
     }
 negative_is limits bytes spans (Incomplete n) fits some one two none lacks =
     let f = two_first bytes 42 45 some one two in
-    kind_lacks negative (IsPositive (2 ^ 63)) command (IsAdmitted limits) Negative (λ x. refl) (λ x h. h) bytes n (only_front negative (IsPositive (2 ^ 63)) limits bytes (42 ∷ 45 ∷ f.0) f.1 (negative_only limits f.0 fits)) lacks
+    kind_lacks negative (IsPositive (2 ^ 63)) command (IsAdmitted limits) Negative (λ x h. refl) (λ x h. h) bytes n (only_front negative (IsPositive (2 ^ 63)) limits bytes (42 ∷ 45 ∷ f.0) f.1 (negative_only limits f.0 fits)) lacks
 negative_is limits bytes spans (Malformed at fault) fits some one two none bad =
     let f = two_taken bytes 42 45 at some (negative_later bytes at (omega arith) one bad.0) one two in
     let Cause : Fault → Type 0 = IsCause limits bytes at in (
-      kind_spoilt negative (IsPositive (2 ^ 63)) command (IsAdmitted limits) Negative (λ x. refl) (λ x h. h) bytes at (only_front negative (IsPositive (2 ^ 63)) limits (take (at + 1) bytes) (42 ∷ 45 ∷ f.0) f.1 (negative_only limits f.0 fits)) bad.0,
+      kind_spoilt negative (IsPositive (2 ^ 63)) command (IsAdmitted limits) Negative (λ x h. refl) (λ x h. h) bytes at (only_front negative (IsPositive (2 ^ 63)) limits (take (at + 1) bytes) (42 ∷ 45 ∷ f.0) f.1 (negative_only limits f.0 fits)) bad.0,
       subst Cause (sym bad.1) (inr bad.0),
     )
 
 pub inline_is : (limits : Limits) (bytes : List ℕ) (spans : List Span) (p : Parsed) → 0 < length bytes → get_or bytes 0 0 ≢ 42 → ParsesInline limits bytes spans p → Parses limits bytes spans p
 inline_is limits bytes spans (Request consumed) some ne found = record {
   value = Inline found.0;
-  begins = kind_begins inline (IsLine limits.line) command (IsAdmitted limits) Inline (λ x. refl) (λ x h. h) bytes found.0 consumed found.1;
+  begins = kind_begins inline (IsLine limits.line) command (IsAdmitted limits) Inline (λ x h. refl) (λ x h. h) bytes found.0 consumed found.1;
   arguments = found.2;
   within = found.3;
   spans_within = found.4;
 }
 inline_is limits bytes spans (Incomplete n) some ne lacks =
     let f = one_first bytes some in
-    kind_lacks inline (IsLine limits.line) command (IsAdmitted limits) Inline (λ x. refl) (λ x h. h) bytes n (only_front inline (IsLine limits.line) limits bytes (get_or bytes 0 0 ∷ f.0) f.1 (inline_only limits (get_or bytes 0 0) f.0 ne)) lacks
+    kind_lacks inline (IsLine limits.line) command (IsAdmitted limits) Inline (λ x h. refl) (λ x h. h) bytes n (only_front inline (IsLine limits.line) limits bytes (get_or bytes 0 0 ∷ f.0) f.1 (inline_only limits (get_or bytes 0 0) f.0 ne)) lacks
 inline_is limits bytes spans (Malformed at fault) some ne bad =
     let f = one_taken bytes at some in (
-      kind_spoilt inline (IsLine limits.line) command (IsAdmitted limits) Inline (λ x. refl) (λ x h. h) bytes at (only_front inline (IsLine limits.line) limits (take (at + 1) bytes) (get_or bytes 0 0 ∷ f.0) f.1 (inline_only limits (get_or bytes 0 0) f.0 ne)) bad.0,
+      kind_spoilt inline (IsLine limits.line) command (IsAdmitted limits) Inline (λ x h. refl) (λ x h. h) bytes at (only_front inline (IsLine limits.line) limits (take (at + 1) bytes) (get_or bytes 0 0 ∷ f.0) f.1 (inline_only limits (get_or bytes 0 0) f.0 ne)) bad.0,
       bad.1,
     )
 

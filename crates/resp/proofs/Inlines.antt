@@ -1,5 +1,5 @@
 -- Lines of words as they are spelled, and what bytes have of one.
-use Rattle.std.proofs.Common.{◌≡◌, ◌≢◌, ◌⊎◌, ℕ, ◌+◌, ◌-◌, ◌<◌, ◌≤◌, zero, suc, inl, inr, List, [], ◌∷◌, ◌++◌, length, take, drop, get_or, refl, sym, ap, ◌∙◌, arith, subst, append_assoc, length-append, take-append-drop, length-take-le, append-nil}
+use Rattle.std.proofs.Common.{◌≡◌, ◌≢◌, ◌⊎◌, ℕ, ◌+◌, ◌<◌, ◌≤◌, zero, suc, inl, inr, List, [], ◌∷◌, ◌++◌, length, take, drop, get_or, refl, sym, ap, ◌∙◌, arith, subst, append_assoc, length-append, take-append-drop, length-take-le, append-nil}
 use Rattle.std.proofs.lemmas.Bool.{cases_eq}
 use Rattle.std.specs.List.{AllByRecursion}
 use Rattle.resp.specs.Lines.{Lacks, Spoilt, Begins}
@@ -49,13 +49,13 @@ line_whole most n bytes within line end = record {
   long = length-append (take n bytes) (10 ∷ []) ∙ ap (λ k. k + 1) (length-take-le n bytes (omega arith));
 }
 
--- another byte than an LF, which is not plain or for which there is no room
-nothing_fits : (most c : ℕ) (front k more tail : List ℕ) → c ≢ 10 → (length front ≡ most) ⊎ ¬ (IsPlain c) → length (front ++ k) ≤ most → AllByRecursion IsPlain k → c ∷ more ≡ k ++ 10 ∷ tail → ⊥
-nothing_fits most c front [] more tail ne why short plain e = ne cc
-nothing_fits most c front (d ∷ k) more tail ne (inl full) short plain e = omega (arith, length-append front (d ∷ k))
-nothing_fits most c front (d ∷ k) more tail ne (inr other) short plain e =
+-- another byte than the end, which is not of the kind or for which there is no room
+pub nothing_fits : (P : ℕ → Type 0) (end most c : ℕ) (front k more tail : List ℕ) → c ≢ end → (length front ≡ most) ⊎ ¬ (P c) → length (front ++ k) ≤ most → AllByRecursion P k → c ∷ more ≡ k ++ end ∷ tail → ⊥
+nothing_fits P end most c front [] more tail ne why short plain e = ne cc
+nothing_fits P end most c front (d ∷ k) more tail ne (inl full) short plain e = omega (arith, length-append front (d ∷ k))
+nothing_fits P end most c front (d ∷ k) more tail ne (inr other) short plain e =
     let same : d ≡ c = cc in
-    other (subst IsPlain same plain.0)
+    other (subst P same plain.0)
 
 pub line_bad : (most n : ℕ) (bytes : List ℕ) → n < length bytes → IsLine most (take n bytes) → get_or bytes n 0 ≢ 10 → (n ≡ most) ⊎ ¬ (IsPlain (get_or bytes n 0)) → Spoilt inline (IsLine most) bytes n
 line_bad most n bytes within line ne why =
@@ -71,7 +71,7 @@ line_bad most n bytes within line ne why =
           let with = one_more bytes (take n bytes) n (get_or bytes n 0) within refl refl in
           let there : take n bytes ++ get_or bytes n 0 ∷ more ≡ inline x ++ tail = sym (append_assoc (take n bytes) (get_or bytes n 0 ∷ []) more) ∙ (ap (λ l. l ++ more) (sym with) ∙ e) in
           let r = line_cut most (take n bytes) (get_or bytes n 0 ∷ more) x tail line.plain may there in
-          nothing_fits most (get_or bytes n 0) (take n bytes) r.0 more tail ne (subst Why (sym len) why) (omega (arith, may.short, ap length r.1)) (all_behind IsPlain (take n bytes) r.0 x r.1 may.plain) r.2;
+          nothing_fits IsPlain 10 most (get_or bytes n 0) (take n bytes) r.0 more tail ne (subst Why (sym len) why) (omega (arith, may.short, ap length r.1)) (all_behind IsPlain (take n bytes) r.0 x r.1 may.plain) r.2;
     }
 
 only_end : (most : ℕ) (k x tail : List ℕ) → AllByRecursion IsPlain k → 10 ∷ x ≡ k ++ 10 ∷ tail → (k ≡ []) × (x ≡ tail)

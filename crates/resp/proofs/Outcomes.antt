@@ -1,5 +1,5 @@
 -- What outcomes keep: behind a front, of one kind among several, and against each other.
-use Rattle.std.proofs.Common.{◌≡◌, ℕ, ◌+◌, ◌<◌, ◌≤◌, List, [], ◌∷◌, ◌++◌, length, take, drop, refl, sym, ap, ◌∙◌, arith, append_assoc, append-nil, length-append, take-append-drop}
+use Rattle.std.proofs.Common.{◌≡◌, ℕ, ◌+◌, List, [], ◌++◌, length, take, drop, sym, ap, ◌∙◌, arith, append_assoc, append-nil, length-append, take-append-drop}
 use Rattle.std.proofs.lemmas.List.{append_cancel_left}
 use Rattle.std.proofs.Math.Seq.{take-append-add}
 use Rattle.std.specs.Prelude.{Result, Ok, Err, IfOk, OnOk}
@@ -36,11 +36,15 @@ front_lacks spell May front rest bytes n is lacks = record {
       lacks.least x more tail may (append_cancel_left front (rest ++ more) (spell x ++ tail) there);
 }
 
+pub taken_behind : (front rest bytes : List ℕ) (at all : ℕ) → bytes ≡ front ++ rest → all ≡ length front + at → take (all + 1) bytes ≡ front ++ take (at + 1) rest
+taken_behind front rest bytes at all is sum =
+    let next : all + 1 ≡ length front + (at + 1) = omega arith in
+    ap (λ l. take (all + 1) l) is ∙ (ap (λ n. take n (front ++ rest)) next ∙ take-append-add front rest (at + 1))
+
 pub front_spoilt : {X : Type 0} (spell : X → List ℕ) (May : X → Type 0) (front rest bytes : List ℕ) (at all : ℕ) → bytes ≡ front ++ rest → all ≡ length front + at → Spoilt spell May rest at → Spoilt (λ x. front ++ spell x) May bytes all
 front_spoilt spell May front rest bytes at all is sum bad =
     let before : take all bytes ≡ front ++ take at rest = ap (λ l. take all l) is ∙ (ap (λ n. take n (front ++ rest)) sum ∙ take-append-add front rest at) in
-    let next : all + 1 ≡ length front + (at + 1) = omega arith in
-    let with : take (all + 1) bytes ≡ front ++ take (at + 1) rest = ap (λ l. take (all + 1) l) is ∙ (ap (λ n. take n (front ++ rest)) next ∙ take-append-add front rest (at + 1)) in
+    let with = taken_behind front rest bytes at all is sum in
     record {
       within = omega (arith, ap length is, length-append front rest, bad.within);
       value = bad.value;
@@ -58,34 +62,34 @@ front_spoilt spell May front rest bytes at all is sum bad =
 abbrev pub Only : {X Y : Type 0} (spell : X → List ℕ) (May : X → Type 0) (all : Y → List ℕ) (MayAll : Y → Type 0) (front : List ℕ) → Type 0
 Only {X} {Y} spell May all MayAll front = (y : Y) (more tail : List ℕ) → MayAll y → front ++ more ≡ all y ++ tail → (x : X) × May x × (spell x ≡ all y)
 
-pub kind_begins : {X Y : Type 0} (spell : X → List ℕ) (May : X → Type 0) (all : Y → List ℕ) (MayAll : Y → Type 0) (kind : X → Y) → ((x : X) → all (kind x) ≡ spell x) → ((x : X) → May x → MayAll (kind x)) → (bytes : List ℕ) (v : X) (len : ℕ) → Begins spell May bytes v len → Begins all MayAll bytes (kind v) len
+pub kind_begins : {X Y : Type 0} (spell : X → List ℕ) (May : X → Type 0) (all : Y → List ℕ) (MayAll : Y → Type 0) (kind : X → Y) → ((x : X) → May x → all (kind x) ≡ spell x) → ((x : X) → May x → MayAll (kind x)) → (bytes : List ℕ) (v : X) (len : ℕ) → Begins spell May bytes v len → Begins all MayAll bytes (kind v) len
 kind_begins spell May all MayAll kind same may_be bytes v len begins = record {
   may = may_be v begins.may;
   rest = begins.rest;
-  is = begins.is ∙ ap (λ l. l ++ begins.rest) (sym (same v));
-  long = ap length (same v) ∙ begins.long;
+  is = begins.is ∙ ap (λ l. l ++ begins.rest) (sym (same v begins.may));
+  long = ap length (same v begins.may) ∙ begins.long;
 }
 
-pub kind_lacks : {X Y : Type 0} (spell : X → List ℕ) (May : X → Type 0) (all : Y → List ℕ) (MayAll : Y → Type 0) (kind : X → Y) → ((x : X) → all (kind x) ≡ spell x) → ((x : X) → May x → MayAll (kind x)) → (bytes : List ℕ) (n : ℕ) → Only spell May all MayAll bytes → Lacks spell May bytes n → Lacks all MayAll bytes n
+pub kind_lacks : {X Y : Type 0} (spell : X → List ℕ) (May : X → Type 0) (all : Y → List ℕ) (MayAll : Y → Type 0) (kind : X → Y) → ((x : X) → May x → all (kind x) ≡ spell x) → ((x : X) → May x → MayAll (kind x)) → (bytes : List ℕ) (n : ℕ) → Only spell May all MayAll bytes → Lacks spell May bytes n → Lacks all MayAll bytes n
 kind_lacks spell May all MayAll kind same may_be bytes n only lacks = record {
   some = lacks.some;
   value = kind lacks.value;
   may = may_be lacks.value lacks.may;
   rest = lacks.rest;
-  is = lacks.is ∙ sym (same lacks.value);
+  is = lacks.is ∙ sym (same lacks.value lacks.may);
   long = lacks.long;
   least = λ y more tail may e.
       let one = only y more tail may e in
       lacks.least one.0 more tail one.1 (e ∙ ap (λ l. l ++ tail) (sym one.2));
 }
 
-pub kind_spoilt : {X Y : Type 0} (spell : X → List ℕ) (May : X → Type 0) (all : Y → List ℕ) (MayAll : Y → Type 0) (kind : X → Y) → ((x : X) → all (kind x) ≡ spell x) → ((x : X) → May x → MayAll (kind x)) → (bytes : List ℕ) (at : ℕ) → Only spell May all MayAll (take (at + 1) bytes) → Spoilt spell May bytes at → Spoilt all MayAll bytes at
+pub kind_spoilt : {X Y : Type 0} (spell : X → List ℕ) (May : X → Type 0) (all : Y → List ℕ) (MayAll : Y → Type 0) (kind : X → Y) → ((x : X) → May x → all (kind x) ≡ spell x) → ((x : X) → May x → MayAll (kind x)) → (bytes : List ℕ) (at : ℕ) → Only spell May all MayAll (take (at + 1) bytes) → Spoilt spell May bytes at → Spoilt all MayAll bytes at
 kind_spoilt spell May all MayAll kind same may_be bytes at only bad = record {
   within = bad.within;
   value = kind bad.value;
   may = may_be bad.value bad.may;
   rest = bad.rest;
-  is = bad.is ∙ sym (same bad.value);
+  is = bad.is ∙ sym (same bad.value bad.may);
   stuck = λ y more tail may e.
       let one = only y more tail may e in
       bad.stuck one.0 more tail one.1 (e ∙ ap (λ l. l ++ tail) (sym one.2));

@@ -1,7 +1,5 @@
-use Rattle.std.proofs.Common.{◌≡◌, ◌≢◌, ◌<◌, ◌⊎◌, ◌+◌, inl, inr, ℕ, List, length, take, get_or, arith, subst, ap, refl, sym}
-use Rattle.resp.specs.Lines.{Lacks}
-use Rattle.resp.specs.Parsing.{AreWithin}
-use Rattle.resp.specs.Requests.{inline, IsLine, IsPlain}
+use Rattle.std.proofs.Common.{◌≡◌, ◌<◌, inl, inr, length, take, arith, subst}
+use Rattle.resp.specs.Requests.{IsLine}
 use Rattle.resp.proofs.Arrays.{within_longer}
 use Rattle.resp.proofs.Inlines.{front_is_line, line_short, line_whole, line_bad, byte_cause}
 use Rattle.std.proofs.lemmas.List.{take_all}
