@@ -1,5 +1,5 @@
 //! A request that is an array: of bulk strings, or of a negative length.
-ghost use Rattle.std.specs.Prelude.{◌≡◌, ◌≢◌, ◌*◌, ◌<◌, [], IfOk, slice_index, length};
+ghost use Rattle.std.specs.Prelude.{◌≡◌, ◌≢◌, ◌*◌, ◌<◌, ◌≤◌, [], IfOk, OnErr, vec_len, vec_capacity, slice_index, length};
 ghost use Rattle.resp.specs.Parsing.{ParsesArray, ParsesNegative};
 
 use crate::bulk::{Bulk, bulk_at};
@@ -27,7 +27,9 @@ pub(crate) fn array_at(
 ) -> Result<Parsed, AllocError>
     requires empty { spans.old.items ≡ [] }
     requires marked { slice_index bytes.now 0 ≡ 42 }
-    ensures { IfOk result (λ p. ParsesArray limits bytes.now spans.new.items p) }
+    ensures parses { IfOk result (λ p. ParsesArray limits bytes.now spans.new.items p) }
+    ensures few { vec_len spans.new ≤ limits.arguments }
+    ensures full { OnErr result (vec_capacity spans.old < limits.arguments) }
 {
     let (count, mut at) = match line_at(bytes, b'*', limits.arguments as u64) {
         Line::Whole { value, len } => (value as u32, len),

@@ -1,5 +1,5 @@
 //! A request that is a line of words, as somebody types it.
-ghost use Rattle.std.specs.Prelude.{◌≡◌, ◌≢◌, ◌<◌, ◌≤◌, ◌↔◌, [], IsTrue, IfOk, OnOk, length, take, slice_index};
+ghost use Rattle.std.specs.Prelude.{◌≡◌, ◌≢◌, ◌<◌, ◌≤◌, ◌↔◌, [], IsTrue, IfOk, OnOk, OnErr, ◌+◌, vec_len, vec_capacity, length, take, slice_index};
 ghost use Rattle.std.specs.List.{AllByRecursion};
 ghost use Rattle.resp.specs.Requests.{IsPlain, is_blank, words};
 ghost use Rattle.resp.specs.Parsing.{ParsesInline, arguments_in, AreWithin, WordIsPut, IsByteCause};
@@ -43,7 +43,10 @@ fn plain_len(bytes: &[u8], most: usize) -> usize
 /// One word more, unless it has no byte.
 fn push_word(spans: &mut Vec<Span>, from: usize, to: usize) -> Result<(), AllocError>
     requires { from ≤ to }
-    ensures { OnOk result (WordIsPut spans.old.items spans.new.items from to) }
+    ensures put { OnOk result (WordIsPut spans.old.items spans.new.items from to) }
+    ensures count { vec_len spans.new + from ≤ vec_len spans.old + to }
+    ensures capacity { vec_capacity spans.old ≤ vec_capacity spans.new }
+    ensures full { OnErr result ((from < to) × (vec_capacity spans.old ≤ vec_len spans.old)) }
 {
     if from < to {
         spans.push(Span {
@@ -60,6 +63,8 @@ fn push_words(bytes: &[u8], end: usize, spans: &mut Vec<Span>) -> Result<(), All
     requires within { end ≤ length bytes.now }
     ensures words { OnOk result (arguments_in bytes.now spans.new.items ≡ words (take end bytes.now)) }
     ensures spans_within { OnOk result (AreWithin end spans.new.items) }
+    ensures few { vec_len spans.new ≤ end }
+    ensures full { OnErr result (vec_capacity spans.old < end) }
 {
     let mut from = 0;
     for at in 0..end {
@@ -94,7 +99,9 @@ pub(crate) fn inline_at(
 ) -> Result<Parsed, AllocError>
     requires empty { spans.old.items ≡ [] }
     requires unmarked { slice_index bytes.now 0 ≢ 42 }
-    ensures { IfOk result (λ p. ParsesInline limits bytes.now spans.new.items p) }
+    ensures parses { IfOk result (λ p. ParsesInline limits bytes.now spans.new.items p) }
+    ensures few { vec_len spans.new ≤ limits.line }
+    ensures full { OnErr result (vec_capacity spans.old < limits.line) }
 {
     let most = limits.line as usize;
     let at = plain_len(bytes, most);

@@ -8,17 +8,17 @@ use Rattle.resp.specs.Parsing.{argument_in, arguments_in, AreWithin}
 use Rattle.resp.proofs.Arrays.{HasArguments, head_short, head_bad, array_short, array_bad, array_cause, array_more, array_whole, within_more, arguments_more}
 use Rattle.resp.proofs.array.array_at.Goals as goal
 
-pub returns-in-Short : goal.returns-in-Short
-returns-in-Short c = rw c.least.ensures (head_short c.args.limits c.in-Short.value c.in-Short.missing c.args.bytes.now (omega arith) (omega arith) c.in-Short.ensures)
+pub returns-in-Short-clause-parses : goal.returns-in-Short-clause-parses
+returns-in-Short-clause-parses c = rw c.least.ensures (head_short c.args.limits c.in-Short.value c.in-Short.missing c.args.bytes.now (omega arith) (omega arith) c.in-Short.ensures)
 
-pub returns-in-Bad : goal.returns-in-Bad
-returns-in-Bad c = (head_bad c.args.limits c.in-Bad.at c.args.bytes.now c.in-Bad.ensures, inl c.in-Bad.ensures)
+pub returns-in-Bad-clause-parses : goal.returns-in-Bad-clause-parses
+returns-in-Bad-clause-parses c = (head_bad c.args.limits c.in-Bad.at c.args.bytes.now c.in-Bad.ensures, inl c.in-Bad.ensures)
 
 counted : (bytes : List ℕ) (spans : List Span) (count done : ℕ) → length spans ≡ done → done < count → count ≡ length (arguments_in bytes spans) + ((count - done - 1) + 1)
 counted bytes spans count done is below = omega (arith, length-map spans (argument_in bytes))
 
-pub returns-in-Short-bulk_at : goal.returns-in-Short-bulk_at
-returns-in-Short-bulk_at c =
+pub returns-in-Short-bulk_at-clause-parses : goal.returns-in-Short-bulk_at-clause-parses
+returns-in-Short-bulk_at-clause-parses c =
     let bytes = c.args.bytes.now in
     let at = c.loop-done.at in
     let spans = c.loop-done.spans.items in
@@ -29,8 +29,8 @@ returns-in-Short-bulk_at c =
     let lacks : Lacks bulk (IsShortOf c.loop-done.room) (drop at bytes) n = subst P (take_rest bytes at) c.in-Short-bulk_at.ensures.0 in
     rw c.least-in-Short-bulk_at.ensures (array_short c.args.limits bytes count c.loop-done.room at (count - done - 1) n (arguments_in bytes spans) c.loop-done.invariant.has (counted bytes spans count done c.loop-done.invariant.counted (omega arith)) lacks)
 
-pub returns-in-Bad-bulk_at : goal.returns-in-Bad-bulk_at
-returns-in-Bad-bulk_at c =
+pub returns-in-Bad-bulk_at-clause-parses : goal.returns-in-Bad-bulk_at-clause-parses
+returns-in-Bad-bulk_at-clause-parses c =
     let bytes = c.args.bytes.now in
     let at = c.loop-done.at in
     let spans = c.loop-done.spans.items in
@@ -71,10 +71,12 @@ loop-done-preserved c =
       has = more c.args.limits bytes spans c.push.new.self.items c.in-Whole.value c.loop-done.done room at from len c.loop-done.invariant.has whole items;
       counted = omega (arith, ap length items, length_push spans s);
       within = subst W (sym items) (within_more (length bytes) spans s c.loop-done.invariant.within (omega (arith, whole.1, length-drop at bytes, c.loop-done.invariant.has.within)));
+      few = omega (arith, c.in_ok-push-in-Whole-bulk_at.ensures.len, c.loop-done.invariant.few);
+      room = omega (arith, c.push.ensures.capacity, c.loop-done.invariant.room);
     }
 
-pub returns : goal.returns
-returns c =
+pub returns-clause-parses : goal.returns-clause-parses
+returns-clause-parses c =
     let bytes = c.args.bytes.now in
     let spans = c.loop-done.spans.items in
     let all : c.in-Whole.value ≡ length (arguments_in bytes spans) = omega (arith, length-map spans (argument_in bytes), c.loop-done.invariant.counted) in (

@@ -5,8 +5,8 @@ use Rattle.resp.proofs.Inlines.{front_is_line, line_short, line_whole, line_bad,
 use Rattle.std.proofs.lemmas.List.{take_all}
 use Rattle.resp.proofs.inline.inline_at.Goals as goal
 
-pub returns-then-at-bytes : goal.returns-then-at-bytes
-returns-then-at-bytes c =
+pub returns-then-at-bytes-clause-parses : goal.returns-then-at-bytes-clause-parses
+returns-then-at-bytes-clause-parses c =
     let bytes = c.args.bytes.now in
     let at = c.plain_len-at.result in
     let most = c.args.limits.line in
@@ -14,8 +14,8 @@ returns-then-at-bytes c =
     let all : take at bytes ≡ bytes = take_all at bytes (omega (arith, c.if-at-bytes.true)) in
     line_short most bytes (subst (IsLine most) all front)
 
-pub returns-then-bytes-at-eq10 : goal.returns-then-bytes-at-eq10
-returns-then-bytes-at-eq10 c =
+pub returns-then-bytes-at-eq10-clause-parses : goal.returns-then-bytes-at-eq10-clause-parses
+returns-then-bytes-at-eq10-clause-parses c =
     let bytes = c.args.bytes.now in
     let at = c.plain_len-at.result in
     let most = c.args.limits.line in
@@ -28,8 +28,8 @@ returns-then-bytes-at-eq10 c =
       within_longer at (length bytes) c.push_words.new.spans.items (omega arith) c.in_ok-push_words.ensures.spans_within,
     )
 
-pub returns-then-at-most : goal.returns-then-at-most
-returns-then-at-most c =
+pub returns-then-at-most-clause-parses : goal.returns-then-at-most-clause-parses
+returns-then-at-most-clause-parses c =
     let bytes = c.args.bytes.now in
     let at = c.plain_len-at.result in
     let most = c.args.limits.line in
@@ -37,8 +37,8 @@ returns-then-at-most c =
     let front = front_is_line most at bytes c.plain_len-at.ensures.within c.plain_len-at.ensures.few c.plain_len-at.ensures.plain c.requires.unmarked in
     (line_bad most at bytes within front c.if-bytes-at-eq10.false (inl c.if-at-most.true), (c.requires.unmarked, c.if-at-most.true))
 
-pub returns : goal.returns
-returns c =
+pub returns-clause-parses : goal.returns-clause-parses
+returns-clause-parses c =
     let bytes = c.args.bytes.now in
     let at = c.plain_len-at.result in
     let most = c.args.limits.line in
