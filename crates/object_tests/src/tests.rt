@@ -1,5 +1,5 @@
-//! Encodings and objects, many pairs in the order of their keys, devices in the process and in files, and the machine of
-//! lawful logs.
+//! Encodings and objects, many pairs in the order of their keys, devices in the process and in files, the machine of lawful
+//! logs, and requests and replies of the protocol of Redis.
 mod common;
 mod devices;
 mod encodings;
@@ -9,7 +9,10 @@ mod file_runs;
 mod folders;
 mod logs;
 mod many;
+mod numbers;
 mod objects;
 mod orders;
 mod pairs;
+mod replies;
+mod requests;
 mod tampered;

@@ -1,7 +1,7 @@
 use Rattle.std.proofs.Common.{◌≡◌, ◌<◌, length, take, get_or, ℕ, List, [], ◌∷◌, arith, ap, sym, subst, rules}
 use Rattle.std.proofs.lemmas.List.{nil_from_length}
 use Rattle.resp.specs.Lines.{number, Lacks, IsPositive}
-use Rattle.resp.proofs.Numbers.{positive_yet, zero_first, positive_is}
+use Rattle.resp.proofs.Positives.{positive_yet, zero_first, positive_is}
 use Rattle.resp.proofs.line.positive_at.Goals as goal
 
 first_alone : (bytes : List ℕ) (c : ℕ) → 0 < length bytes → get_or bytes 0 0 ≡ c → take 1 bytes ≡ c ∷ []
