@@ -10,6 +10,7 @@ mod lanes;
 mod machine;
 mod maps;
 mod objects;
+mod protocol;
 mod recycling;
 mod rows;
 mod tables;
@@ -19,6 +20,7 @@ use std::io;
 
 fn main(rt: HostRuntime) -> io::Result<()> {
     objects::tell_all(&rt)?;
+    protocol::tell_all(&rt)?;
     devices::tell_all(&rt)?;
     machine::tell_all(&rt)?;
     rows::tell_all(&rt)?;
