@@ -10,6 +10,7 @@ use Rattle.resp.specs.Laws.{AreNumbers}
 use Rattle.resp.specs.Requests.{bulk, IsShortOf}
 use Rattle.resp.specs.Replies.{Token, token, token_in, text_line, IsText, IsTaken, Receives, ReadsAgain}
 use Rattle.resp.specs.Replies.{Simple, Failure, Number, String, Nothing, Count, NoArray}
+use Rattle.resp.proofs.Numbers.{first_taken}
 use Rattle.resp.proofs.Texts.{text_short}
 use Rattle.resp.proofs.Marks.{differ, token_alone, only_simple, only_failure}
 use Rattle.resp.proofs.Outcomes.{Only, front_begins, front_lacks, front_spoilt, taken_behind, kind_begins, kind_lacks, kind_spoilt, begins_not_lacks, begins_not_spoilt}
@@ -56,10 +57,6 @@ plain_lacks most bytes v n lacks = record {
   long = lacks.long;
   least = λ x more tail may e. (lacks.least x more tail may e).1;
 }
-
-pub first_taken : (bytes : List ℕ) (c : ℕ) → 0 < length bytes → get_or bytes 0 0 ≡ c → take 1 bytes ≡ c ∷ []
-first_taken [] c some one = absurd (omega arith)
-first_taken (a ∷ r) c some one = ap (λ x. x ∷ []) one
 
 pub bulk_later : (most at : ℕ) (bytes : List ℕ) → 0 < length bytes → get_or bytes 0 0 ≡ 36 → Spoilt bulk (IsShortOf most) bytes at → 0 < at
 bulk_later most (suc at) bytes some is bad = omega arith

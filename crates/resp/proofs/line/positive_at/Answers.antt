@@ -1,12 +1,9 @@
-use Rattle.std.proofs.Common.{◌≡◌, ◌<◌, length, take, get_or, ℕ, List, [], ◌∷◌, arith, ap, sym, subst, rules}
+use Rattle.std.proofs.Common.{◌≡◌, ◌<◌, length, ℕ, List, arith, sym, subst, rules}
 use Rattle.std.proofs.lemmas.List.{nil_from_length}
 use Rattle.resp.specs.Lines.{number, Lacks, IsPositive}
+use Rattle.resp.proofs.Numbers.{first_taken}
 use Rattle.resp.proofs.Positives.{positive_yet, zero_first, positive_is}
 use Rattle.resp.proofs.line.positive_at.Goals as goal
-
-first_alone : (bytes : List ℕ) (c : ℕ) → 0 < length bytes → get_or bytes 0 0 ≡ c → take 1 bytes ≡ c ∷ []
-first_alone [] c some is = absurd (omega arith)
-first_alone (b ∷ bytes) c some is = ap (λ x. x ∷ []) is
 
 pub returns-then-is_empty : goal.returns-then-is_empty
 returns-then-is_empty c =
@@ -18,7 +15,7 @@ pub returns-then-bytes-eq48 : goal.returns-then-bytes-eq48
 returns-then-bytes-eq48 c =
     let bytes = c.args.bytes.now in
     let some : 0 < length bytes = search rules in
-    zero_first c.args.most bytes (omega arith) (omega arith) some (first_alone bytes 48 some c.if-bytes-eq48.true)
+    zero_first c.args.most bytes (omega arith) (omega arith) some (first_taken bytes 48 some c.if-bytes-eq48.true)
 
 pub returns : goal.returns
 returns c =
