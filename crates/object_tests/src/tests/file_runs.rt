@@ -11,7 +11,7 @@ use std::process::Abort;
 const IDS: usize = 300;
 
 /// How many calls a run makes on a disk that keeps what it is given.
-const CALLS: u32 = 100_000;
+const CALLS: u32 = 20_000;
 
 /// How many calls a run makes on a disk with a flaw.
 const FLAWED_CALLS: u32 = 10_000;
