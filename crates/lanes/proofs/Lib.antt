@@ -1,0 +1,4 @@
+pub mod Turning
+pub mod Slotting
+pub mod Serving
+pub mod Known

@@ -1,0 +1,6 @@
+pub mod Calls
+pub mod Lanes
+pub mod Slots
+pub mod Turns
+pub mod Served
+pub mod Frames

@@ -1,0 +1,90 @@
+//! A reader and a writer as the frames that come and go.
+ghost use Rattle.std.specs.Prelude.{◌≡◌, [], false};
+ghost use Rattle.lanes.specs.Frames.{TellsRead, TellsWritten};
+
+use crate::duplex::{Broken, Duplex};
+use crate::moving::read_frame;
+use crate::putting::write_frame;
+use resp::Limits;
+use std::alloc::Global;
+use std::io::{BufRead, Write};
+
+/// Frames over a reader and a writer. After a failed call each further one fails, and nothing is read or written any more.
+#[derive(Drop)]
+pub struct Wire<R, W> {
+    input: R,
+    output: W,
+    limits: Limits,
+    header: Vec<u8>,
+    broken: bool,
+}
+
+impl<R: BufRead, W: Write> Wire<R, W> {
+    pub fn new(alloc: Global, input: R, output: W, limits: Limits) -> Self
+        ensures nothing { ⟦<Wire<R, W> as Duplex>⟧.tells result result [] [] }
+        ensures parts { (result.input ≡ input) × (result.output ≡ output) }
+        ensures limits { result.limits ≡ limits }
+    {
+        Wire {
+            input,
+            output,
+            limits,
+            header: Vec::new(alloc),
+            broken: false,
+        }
+    }
+}
+
+impl<R: BufRead, W: Write> Duplex for Wire<R, W> {
+    ghost tells = { λ v w came sent. TellsRead (R.remaining v.input) (R.remaining w.input) w.broken came × TellsWritten (W.contents v.output) (W.contents w.output) w.broken sent };
+
+    ghost whole = { λ w. w.broken ≡ false };
+
+    ghost limits = { λ w. w.limits };
+
+    fn limits(&self) -> Limits {
+        self.limits
+    }
+
+    fn read(&mut self, room: &mut Vec<u8>) -> Result<Option<u32>, Broken> {
+        if self.broken {
+            return Err(Broken);
+        }
+        match read_frame(&mut self.input, &mut self.header, room) {
+            Ok(connection) => Ok(connection),
+            Err(_) => {
+                self.broken = true;
+                Err(Broken)
+            }
+        }
+    }
+
+    fn write(&mut self, connection: u32, bytes: &[u8]) -> Result<(), Broken> {
+        if self.broken {
+            return Err(Broken);
+        }
+        match write_frame(&mut self.output, connection, bytes) {
+            Ok(()) => Ok(()),
+            Err(_) => {
+                self.broken = true;
+                Err(Broken)
+            }
+        }
+    }
+}
+
+impl<R, W> Wire<R, W> {
+    /// The reader and the writer.
+    pub fn into_parts(self) -> (R, W)
+        ensures { (result.0 ≡ self.input) × (result.1 ≡ self.output) }
+    {
+        let Wire {
+            input,
+            output,
+            limits: _,
+            header: _,
+            broken: _,
+        } = self;
+        (input, output)
+    }
+}

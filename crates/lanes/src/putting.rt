@@ -1,0 +1,68 @@
+//! Frames to a writer.
+ghost use Rattle.std.specs.Prelude.{◌≡◌, ℕ, ◌≤◌, List, length, take, IfOk, OnOk, OnErr};
+ghost use Rattle.std.specs.Io.KnownBytes.{Keeps, Appends};
+ghost use Rattle.lanes.specs.Frames.{frame_bytes};
+
+use crate::duplex::Broken;
+use std::io::{ErrorKind, Write};
+
+/// Writes some of the bytes, and says how many: none where the write was interrupted.
+fn put_some<W: Write>(output: &mut W, bytes: &[u8]) -> Result<usize, Broken>
+    ensures within { IfOk result (λ n. n ≤ length bytes.now) }
+    ensures put { IfOk result (λ n. Appends (W.contents output.old) (W.contents output.new) (take n bytes.now)) }
+    ensures kept { OnErr result ((part : List ℕ) × Appends (W.contents output.old) (W.contents output.new) part) }
+{
+    match output.write(bytes) {
+        Ok(n) => {
+            if n == 0 {
+                return Err(Broken);
+            }
+            Ok(n)
+        }
+        Err(error) => {
+            if error.kind() == ErrorKind::Interrupted {
+                Ok(0)
+            } else {
+                Err(Broken)
+            }
+        }
+    }
+}
+
+fn put_all<W: Write>(output: &mut W, bytes: &[u8]) -> Result<(), Broken>
+    ensures put { OnOk result (Appends (W.contents output.old) (W.contents output.new) bytes.now) }
+    ensures part { OnErr result ((part : List ℕ) × Appends (W.contents output.old) (W.contents output.new) part) }
+{
+    let mut rest = bytes;
+    for round in 0..u64::MAX {
+        let _ = round;
+        if rest.is_empty() {
+            return Ok(());
+        }
+        let n = put_some(output, rest)?;
+        rest = &rest[n..];
+    }
+    Err(Broken)
+}
+
+/// Writes a frame, and flushes.
+pub(crate) fn write_frame<W: Write>(
+    output: &mut W,
+    connection: u32,
+    bytes: &[u8],
+) -> Result<(), Broken>
+    ensures put { OnOk result (Appends (W.contents output.old) (W.contents output.new) (frame_bytes (connection, bytes.now))) }
+    ensures part { OnErr result ((part : List ℕ) × Appends (W.contents output.old) (W.contents output.new) part) }
+{
+    if bytes.len() > u32::MAX as usize {
+        return Err(Broken);
+    }
+    let len = bytes.len() as u32;
+    put_all(output, &connection.to_be_bytes())?;
+    put_all(output, &len.to_be_bytes())?;
+    put_all(output, bytes)?;
+    match output.flush() {
+        Ok(()) => Ok(()),
+        Err(_) => Err(Broken),
+    }
+}
