@@ -5,7 +5,10 @@ use Rattle.std.proofs.lemmas.List.{get_or-drop}
 use Rattle.std.specs.Io.KnownBytes.{Keeps, Consumes, Appends, prepend_known}
 use Rattle.std.specs.Int.{w32, to_be_bytes, from_be_bytes}
 use Rattle.std.proofs.lemmas.Nat.{be_bytes_4}
-use Rattle.lanes.specs.Frames.{frame_bytes, frames_bytes, TellsRead, TellsWritten}
+use Rattle.lanes.specs.declared.frame.Head.{Head}
+use Rattle.lanes.specs.declared.frame.Kind.{Kind}
+use Rattle.lanes.specs.Lanes.{Frame}
+use Rattle.lanes.specs.Frames.{kind_byte, frame_bytes, frames_bytes, TellsRead, TellsWritten}
 
 pub appends_nothing : (a : Option (List ℕ)) → Appends a a []
 appends_nothing None = tt
@@ -70,18 +73,25 @@ taken None b old new none k = tt
 taken (Some xs) None old new none k = absurd k
 taken (Some xs) (Some ys) old new none k = sym (k ∙ ap (λ l. l ++ xs) none)
 
-pub header_is : (header first second : List ℕ) (connection len : ℕ) → ((i : ℕ) → get_or first i 0 < 256) → ((i : ℕ) → get_or second i 0 < 256) → length first ≡ 4 → length second ≡ 4 → header ≡ first ++ second → connection ≡ from_be_bytes w32 first → len ≡ from_be_bytes w32 second → header ≡ to_be_bytes w32 connection ++ to_be_bytes w32 len
-header_is header first second connection len f s lf ls is c l =
-    is ∙ (ap (λ x. x ++ second) (sym (be_bytes_4 first connection lf f c)) ∙ ap (λ x. to_be_bytes w32 connection ++ x) (sym (be_bytes_4 second len ls s l)))
+pub header_is : (header mark first second : List ℕ) (kind : Kind) (connection len : ℕ) → ((i : ℕ) → get_or first i 0 < 256) → ((i : ℕ) → get_or second i 0 < 256) → length first ≡ 4 → length second ≡ 4 → mark ≡ kind_byte kind ∷ [] → header ≡ mark ++ (first ++ second) → connection ≡ from_be_bytes w32 first → len ≡ from_be_bytes w32 second → header ≡ kind_byte kind ∷ (to_be_bytes w32 connection ++ to_be_bytes w32 len)
+header_is header mark first second kind connection len f s lf ls m is c l =
+    is
+    ∙ (ap (λ x. x ++ (first ++ second)) m
+    ∙ ap (λ x. kind_byte kind ∷ x) (ap (λ x. x ++ second) (sym (be_bytes_4 first connection lf f c)) ∙ ap (λ x. to_be_bytes w32 connection ++ x) (sym (be_bytes_4 second len ls s l))))
 
-pub frame_taken : (a b c : Option (List ℕ)) (header room : List ℕ) (connection len : ℕ) → Consumes a b header → Consumes b c room → header ≡ to_be_bytes w32 connection ++ to_be_bytes w32 len → length room ≡ len → Consumes a c (frame_bytes (connection, room))
-frame_taken a b c header room connection len first second is counted =
-    let whole : header ++ room ≡ frame_bytes (connection, room) =
-    ap (λ l. l ++ room) is ∙ (append_assoc (to_be_bytes w32 connection) (to_be_bytes w32 len) room ∙ ap (λ n. to_be_bytes w32 connection ++ (to_be_bytes w32 n ++ room)) (sym counted)) in
+pub frame_taken : (a b c : Option (List ℕ)) (header room : List ℕ) (head : Head) (len : ℕ) → Consumes a b header → Consumes b c room → header ≡ kind_byte head.kind ∷ (to_be_bytes w32 head.connection ++ to_be_bytes w32 len) → length room ≡ len → Consumes a c (frame_bytes (record { head = head; bytes = room }))
+frame_taken a b c header room head len first second is counted =
+    let whole : header ++ room ≡ frame_bytes (record { head = head; bytes = room }) =
+    ap (λ l. l ++ room) is ∙ ap (λ l. kind_byte head.kind ∷ l) (append_assoc (to_be_bytes w32 head.connection) (to_be_bytes w32 len) room ∙ ap (λ n. to_be_bytes w32 head.connection ++ (to_be_bytes w32 n ++ room)) (sym counted)) in
     let P : List ℕ → Type 0 = Consumes a c in
     subst P whole (consumes_more a b c header room first second)
 
-pub frames-append : (fs : List (ℕ × List ℕ)) (f : ℕ × List ℕ) → frames_bytes (fs ++ f ∷ []) ≡ frames_bytes fs ++ frame_bytes f
+pub one_byte : (l : List ℕ) → length l ≡ 1 → l ≡ get_or l 0 0 ∷ []
+one_byte [] is = absurd (omega arith)
+one_byte (x ∷ []) is = refl
+one_byte (x ∷ y ∷ l) is = absurd (omega arith)
+
+pub frames-append : (fs : List Frame) (f : Frame) → frames_bytes (fs ++ f ∷ []) ≡ frames_bytes fs ++ frame_bytes f
 frames-append [] f = append-nil (frame_bytes f)
 frames-append (e ∷ fs) f = ap (λ l. frame_bytes e ++ l) (frames-append fs f) ∙ sym (append_assoc (frame_bytes e) (frames_bytes fs) (frame_bytes f))
 
@@ -103,13 +113,13 @@ bytes_drop n l fits i = omega (arith, get_or-drop n l i 0, fits (n + i))
 
 -- ---- what a wire tells
 
-pub read_kept : (began a b : Option (List ℕ)) (came : List (ℕ × List ℕ)) → TellsRead began a false came → Keeps a b → TellsRead began b false came
+pub read_kept : (began a b : Option (List ℕ)) (came : List Frame) → TellsRead began a false came → Keeps a b → TellsRead began b false came
 read_kept began a b came t k =
     let P : List ℕ → Type 0 = λ l. Consumes began b l in
     let all : Consumes began b ((frames_bytes came ++ t.0) ++ []) = consumes_more began a b (frames_bytes came ++ t.0) [] t.2 (consumes_of_keeps a b k) in
     (t.0, t.1, subst P (append-nil (frames_bytes came ++ t.0)) all)
 
-pub read_more : (began a b : Option (List ℕ)) (came : List (ℕ × List ℕ)) (f : ℕ × List ℕ) → TellsRead began a false came → Consumes a b (frame_bytes f) → TellsRead began b false (came ++ f ∷ [])
+pub read_more : (began a b : Option (List ℕ)) (came : List Frame) (f : Frame) → TellsRead began a false came → Consumes a b (frame_bytes f) → TellsRead began b false (came ++ f ∷ [])
 read_more began a b came f t k =
     let P : List ℕ → Type 0 = λ l. Consumes began b l in
     let all : Consumes began b ((frames_bytes came ++ t.0) ++ frame_bytes f) = consumes_more began a b (frames_bytes came ++ t.0) (frame_bytes f) t.2 k in
@@ -117,19 +127,19 @@ read_more began a b came f t k =
     ap (λ l. (frames_bytes came ++ l) ++ frame_bytes f) (t.1 refl) ∙ (ap (λ l. l ++ frame_bytes f) (append-nil (frames_bytes came)) ∙ (sym (frames-append came f) ∙ sym (append-nil (frames_bytes (came ++ f ∷ []))))) in
     ([], λ _. refl, subst P same all)
 
-pub read_failed : (began a b : Option (List ℕ)) (came : List (ℕ × List ℕ)) → TellsRead began a false came → (part : List ℕ) × Consumes a b part → TellsRead began b true came
+pub read_failed : (began a b : Option (List ℕ)) (came : List Frame) → TellsRead began a false came → (part : List ℕ) × Consumes a b part → TellsRead began b true came
 read_failed began a b came t k =
     let P : List ℕ → Type 0 = λ l. Consumes began b l in
     let all : Consumes began b ((frames_bytes came ++ t.0) ++ k.0) = consumes_more began a b (frames_bytes came ++ t.0) k.0 t.2 k.1 in
     let never : true ≡ false → t.0 ++ k.0 ≡ [] = λ e. (let none : ⊥ = cc in absurd none) in
     (t.0 ++ k.0, never, subst P (append_assoc (frames_bytes came) t.0 k.0) all)
 
-pub read_marked : (began a : Option (List ℕ)) (came : List (ℕ × List ℕ)) → TellsRead began a false came → TellsRead began a true came
+pub read_marked : (began a : Option (List ℕ)) (came : List Frame) → TellsRead began a false came → TellsRead began a true came
 read_marked began a came t =
     let never : true ≡ false → t.0 ≡ [] = λ e. (let none : ⊥ = cc in absurd none) in
     (t.0, never, t.2)
 
-pub written_more : (began a b : Option (List ℕ)) (sent : List (ℕ × List ℕ)) (f : ℕ × List ℕ) → TellsWritten began a false sent → Appends a b (frame_bytes f) → TellsWritten began b false (sent ++ f ∷ [])
+pub written_more : (began a b : Option (List ℕ)) (sent : List Frame) (f : Frame) → TellsWritten began a false sent → Appends a b (frame_bytes f) → TellsWritten began b false (sent ++ f ∷ [])
 written_more began a b sent f t k =
     let P : List ℕ → Type 0 = λ l. Appends began b l in
     let all : Appends began b ((frames_bytes sent ++ t.0) ++ frame_bytes f) = appends_more began a b (frames_bytes sent ++ t.0) (frame_bytes f) t.2 k in
@@ -137,14 +147,14 @@ written_more began a b sent f t k =
     ap (λ l. (frames_bytes sent ++ l) ++ frame_bytes f) (t.1 refl) ∙ (ap (λ l. l ++ frame_bytes f) (append-nil (frames_bytes sent)) ∙ (sym (frames-append sent f) ∙ sym (append-nil (frames_bytes (sent ++ f ∷ []))))) in
     ([], λ _. refl, subst P same all)
 
-pub written_failed : (began a b : Option (List ℕ)) (sent : List (ℕ × List ℕ)) → TellsWritten began a false sent → (part : List ℕ) × Appends a b part → TellsWritten began b true sent
+pub written_failed : (began a b : Option (List ℕ)) (sent : List Frame) → TellsWritten began a false sent → (part : List ℕ) × Appends a b part → TellsWritten began b true sent
 written_failed began a b sent t k =
     let P : List ℕ → Type 0 = λ l. Appends began b l in
     let all : Appends began b ((frames_bytes sent ++ t.0) ++ k.0) = appends_more began a b (frames_bytes sent ++ t.0) k.0 t.2 k.1 in
     let never : true ≡ false → t.0 ++ k.0 ≡ [] = λ e. (let none : ⊥ = cc in absurd none) in
     (t.0 ++ k.0, never, subst P (append_assoc (frames_bytes sent) t.0 k.0) all)
 
-pub written_marked : (began a : Option (List ℕ)) (sent : List (ℕ × List ℕ)) → TellsWritten began a false sent → TellsWritten began a true sent
+pub written_marked : (began a : Option (List ℕ)) (sent : List Frame) → TellsWritten began a false sent → TellsWritten began a true sent
 written_marked began a sent t =
     let never : true ≡ false → t.0 ≡ [] = λ e. (let none : ⊥ = cc in absurd none) in
     (t.0, never, t.2)
@@ -160,26 +170,26 @@ bytes_all [] fits i = omega arith
 bytes_all (x ∷ l) fits zero = fits 0 (omega arith)
 bytes_all (x ∷ l) fits (suc i) = bytes_all l (λ k within. fits (suc k) (omega arith)) i
 
-abbrev pub Tells : Option (List ℕ) → Option (List ℕ) → Option (List ℕ) → Option (List ℕ) → Bool → List (ℕ × List ℕ) → List (ℕ × List ℕ) → Type 0
+abbrev pub Tells : Option (List ℕ) → Option (List ℕ) → Option (List ℕ) → Option (List ℕ) → Bool → List Frame → List Frame → Type 0
 Tells began a wrote w broken came sent = TellsRead began a broken came × TellsWritten wrote w broken sent
 
-abbrev pub Came : {X : Type 0} → (X → Option (List ℕ)) → (X → Option (List ℕ)) → Option (List ℕ) → Option (List ℕ) → Option (List ℕ) → List ℕ → Option ℕ → Bool → Type 0
+abbrev pub Came : {X : Type 0} → (X → Option (List ℕ)) → (X → Option (List ℕ)) → Option (List ℕ) → Option (List ℕ) → Option (List ℕ) → List ℕ → Option Head → Bool → Type 0
 Came {X} began wrote a b w room r broken =
-    MatchOption r ((start : X) (came sent : List (ℕ × List ℕ)) → Tells (began start) a (wrote start) w broken came sent → Tells (began start) b (wrote start) w broken came sent)
-    (λ c. (start : X) (came sent : List (ℕ × List ℕ)) → Tells (began start) a (wrote start) w broken came sent → Tells (began start) b (wrote start) w broken (came ++ (c, room) ∷ []) sent)
+    MatchOption r ((start : X) (came sent : List Frame) → Tells (began start) a (wrote start) w broken came sent → Tells (began start) b (wrote start) w broken came sent)
+    (λ h. (start : X) (came sent : List Frame) → Tells (began start) a (wrote start) w broken came sent → Tells (began start) b (wrote start) w broken (came ++ record { head = h; bytes = room } ∷ []) sent)
 
-pub came_told : {X : Type 0} (began wrote : X → Option (List ℕ)) (a b w : Option (List ℕ)) (room : List ℕ) (r : Option ℕ) (broken : Bool) → broken ≡ false → MatchOption r (Keeps a b) (λ c. Consumes a b (frame_bytes (c, room))) → Came began wrote a b w room r broken
+pub came_told : {X : Type 0} (began wrote : X → Option (List ℕ)) (a b w : Option (List ℕ)) (room : List ℕ) (r : Option Head) (broken : Bool) → broken ≡ false → MatchOption r (Keeps a b) (λ h. Consumes a b (frame_bytes (record { head = h; bytes = room }))) → Came began wrote a b w room r broken
 came_told began wrote a b w room None broken is k =
     let P : Bool → Type 0 = λ t. Came began wrote a b w room None t in
     subst P (sym is) (λ start came sent t. (read_kept (began start) a b came t.0 k, t.1))
-came_told began wrote a b w room (Some c) broken is k =
-    let P : Bool → Type 0 = λ t. Came began wrote a b w room (Some c) t in
-    subst P (sym is) (λ start came sent t. (read_more (began start) a b came (c, room) t.0 k, t.1))
+came_told began wrote a b w room (Some h) broken is k =
+    let P : Bool → Type 0 = λ t. Came began wrote a b w room (Some h) t in
+    subst P (sym is) (λ start came sent t. (read_more (began start) a b came (record { head = h; bytes = room }) t.0 k, t.1))
 
-abbrev pub Sent : {X : Type 0} → (X → Option (List ℕ)) → (X → Option (List ℕ)) → Option (List ℕ) → Option (List ℕ) → Option (List ℕ) → ℕ × List ℕ → Bool → Type 0
-Sent {X} began wrote a w v f broken = (start : X) (came sent : List (ℕ × List ℕ)) → Tells (began start) a (wrote start) w broken came sent → Tells (began start) a (wrote start) v broken came (sent ++ f ∷ [])
+abbrev pub Sent : {X : Type 0} → (X → Option (List ℕ)) → (X → Option (List ℕ)) → Option (List ℕ) → Option (List ℕ) → Option (List ℕ) → Frame → Bool → Type 0
+Sent {X} began wrote a w v f broken = (start : X) (came sent : List Frame) → Tells (began start) a (wrote start) w broken came sent → Tells (began start) a (wrote start) v broken came (sent ++ f ∷ [])
 
-pub sent_told : {X : Type 0} (began wrote : X → Option (List ℕ)) (a w v : Option (List ℕ)) (f : ℕ × List ℕ) (broken : Bool) → broken ≡ false → Appends w v (frame_bytes f) → Sent began wrote a w v f broken
+pub sent_told : {X : Type 0} (began wrote : X → Option (List ℕ)) (a w v : Option (List ℕ)) (f : Frame) (broken : Bool) → broken ≡ false → Appends w v (frame_bytes f) → Sent began wrote a w v f broken
 sent_told began wrote a w v f broken is k =
     let P : Bool → Type 0 = λ t. Sent began wrote a w v f t in
     subst P (sym is) (λ start came sent t. (t.0, written_more (wrote start) w v sent f t.1 k))

@@ -1,4 +1,7 @@
+pub mod Saying
+pub mod Standing
 pub mod Turning
-pub mod Slotting
-pub mod Serving
+pub mod Requests
+pub mod Seeing
+pub mod Framing
 pub mod Known

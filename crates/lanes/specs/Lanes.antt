@@ -1,39 +1,105 @@
--- What came from a connection, and what it has to be sent.
-use Rattle.std.specs.Prelude.{◌≡◌, ℕ, List, [], ◌∷◌, ◌++◌, ◌==◌, if◌then◌else◌, ◌⊎◌, codes}
+-- What came on a connection, and what has to be sent on it.
+use Rattle.std.specs.Prelude.{◌≡◌, ℕ, ◌+◌, ◌<◌, ◌≤◌, List, [], ◌∷◌, ◌++◌, length, map, ◌⊎◌, codes}
 use Rattle.resp.specs.declared.limits.Limits.{Limits}
 use Rattle.resp.specs.Lines.{Lacks, Spoilt}
-use Rattle.resp.specs.Requests.{request, IsAdmitted}
+use Rattle.resp.specs.Requests.{command, IsAdmitted, longest}
+use Rattle.resp.specs.declared.outcome.Fault.{Fault}
+use Rattle.resp.specs.declared.outcome.Fault.TheVariants.{ArrayLength, Mark, StringLength, StringEnd, LongLine, Quote, Control}
+use Rattle.resp.specs.Parsing.{IsCause}
 use Rattle.resp.specs.Replies.{reply_of, Failure}
-use Rattle.lanes.specs.Calls.{Exchange, asked, replied, AreAdmitted}
+use Rattle.lanes.specs.declared.frame.Head.{Head}
+use Rattle.lanes.specs.declared.frame.Kind.{Kind}
+use Rattle.lanes.specs.declared.frame.Kind.TheVariants.{Data, Open, Close, Wake}
+use Rattle.lanes.specs.Marks.{Mark as Said, Piece, Stop, Else, said, stops}
+use Rattle.lanes.specs.Calls.{Exchange, asked, replied, AreTaken, AllGoOn, IsLast}
 
--- the bytes that frames have of a connection
-abbrev pub bytes_of : ℕ → List (ℕ × List ℕ) → List ℕ
-bytes_of c [] = []
-bytes_of c (f ∷ frames) = if f.0 == c then f.1 ++ bytes_of c frames else bytes_of c frames
+pub record Frame : Type 0 where
+  pub head : Head
+  pub bytes : List ℕ
 
-abbrev pub protocol_error : List ℕ
-protocol_error = reply_of (Failure (codes "ERR Protocol error"))
+abbrev pub mark_of : Kind → ℕ → List ℕ → Said ℕ
+mark_of Data c bytes = Piece c bytes
+mark_of Open c bytes = Else
+mark_of Close c bytes = Stop c
+mark_of Wake c bytes = Else
+
+abbrev pub frame_mark : Frame → Said ℕ
+frame_mark f = mark_of f.head.kind f.head.connection f.bytes
+
+abbrev pub marks : List Frame → List (Said ℕ)
+marks frames = map frame_mark frames
+
+abbrev pub fault_text : Fault → List ℕ
+fault_text ArrayLength = codes "ERR Protocol error: invalid multibulk length"
+fault_text Mark = codes "ERR Protocol error: expected '$'"
+fault_text StringLength = codes "ERR Protocol error: invalid bulk length"
+fault_text StringEnd = codes "ERR Protocol error: expected CR LF"
+fault_text LongLine = codes "ERR Protocol error: too big inline request"
+fault_text Quote = codes "ERR Protocol error: unbalanced quotes in request"
+fault_text Control = codes "ERR Protocol error: control character in request"
+
+abbrev pub protocol_error : Fault → List ℕ
+protocol_error fault = reply_of (Failure (fault_text fault))
+
+-- No whole request stands at the front of what is held: it has the beginning of one, and fewer bytes behind that than it
+-- lacks at least. Once so many bytes are there as are wanted, it is looked at again.
+pub record IsBegun (limits : Limits) (held : List ℕ) (wanted : ℕ) : Type 0 where
+  pub begun : List ℕ
+  pub more : List ℕ
+  pub is : held ≡ begun ++ more
+  pub missing : ℕ
+  pub lacks : Lacks command (IsAdmitted limits) begun missing
+  pub wanted_is : wanted ≡ length begun + missing
+  pub bounded : wanted ≤ longest limits
+  pub few : length held < wanted
 
 -- the bytes that came are those of the requests, and then the beginning of another; what was sent are the replies
-pub record IsOpen (limits : Limits) (came sent : List ℕ) (es : List Exchange) (rest : List ℕ) : Type 0 where
-  pub is : came ≡ asked es ++ rest
-  pub each : AreAdmitted limits es
-  pub missing : ℕ
-  pub begun : Lacks request (IsAdmitted limits) rest missing
+pub record IsOpen (limits : Limits) (came sent : List ℕ) (es : List Exchange) (held : List ℕ) (wanted : ℕ) : Type 0 where
+  pub is : came ≡ asked es ++ held
+  pub each : AreTaken limits es
+  pub go_on : AllGoOn es
+  pub begun : IsBegun limits held wanted
   pub sent_is : sent ≡ replied es
 
--- the bytes that came are those of the requests, and then some that are no request's; what was sent are the replies, and an error
+-- the bytes that came are those of the requests, then some that are no request's, and some that were not read; what was
+-- sent are the replies, and an error
 pub record IsBroken (limits : Limits) (came sent : List ℕ) (es : List Exchange) : Type 0 where
   pub rest : List ℕ
-  pub is : came ≡ asked es ++ rest
-  pub each : AreAdmitted limits es
+  pub behind : List ℕ
+  pub is : came ≡ asked es ++ (rest ++ behind)
+  pub each : AreTaken limits es
+  pub go_on : AllGoOn es
   pub at : ℕ
-  pub spoilt : Spoilt request (IsAdmitted limits) rest at
-  pub sent_is : sent ≡ replied es ++ protocol_error
+  pub spoilt : Spoilt command (IsAdmitted limits) rest at
+  pub fault : Fault
+  pub cause : IsCause limits rest at fault
+  pub sent_is : sent ≡ replied es ++ protocol_error fault
 
--- no reply is owed
-abbrev pub IsSettledBy : Limits → List ℕ → List ℕ → List Exchange → Type 0
-IsSettledBy limits came sent es = ((rest : List ℕ) × IsOpen limits came sent es rest) ⊎ IsBroken limits came sent es
+-- the connection ends behind the last request: of the bytes behind it none was read; what was sent are the replies
+pub record IsEnded (limits : Limits) (came sent : List ℕ) (es : List Exchange) : Type 0 where
+  pub rest : List ℕ
+  pub is : came ≡ asked es ++ rest
+  pub each : AreTaken limits es
+  pub before : List Exchange
+  pub last : Exchange
+  pub es_is : es ≡ before ++ last ∷ []
+  pub go_on : AllGoOn before
+  pub is_last : IsLast last
+  pub sent_is : sent ≡ replied es
 
-abbrev pub IsSettled : Limits → List ℕ → List ℕ → Type 0
-IsSettled limits came sent = (es : List Exchange) × IsSettledBy limits came sent es
+abbrev pub IsOver : Limits → List ℕ → List ℕ → List Exchange → Type 0
+IsOver limits came sent es = IsBroken limits came sent es ⊎ IsEnded limits came sent es
+
+-- Where k connections of the number went before: no reply is owed on it. The lane has closed it if it is over, and else
+-- just if the client has.
+abbrev pub IsSettledBy : Limits → ℕ → ℕ → ℕ → List ℕ → List ℕ → List Exchange → Type 0
+IsSettledBy limits k came_stops sent_stops came sent es =
+    ((held : List ℕ) × (wanted : ℕ) × IsOpen limits came sent es held wanted × (k < sent_stops → k < came_stops) × (k < came_stops → k < sent_stops))
+    ⊎ (IsOver limits came sent es × (k < sent_stops))
+
+-- the same of the k-th connection of number c, from frames that came and that were sent
+abbrev pub IsSettledAt : Limits → ℕ → ℕ → List (Said ℕ) → List (Said ℕ) → List Exchange → Type 0
+IsSettledAt limits c k came sent es = IsSettledBy limits k (stops c came) (stops c sent) (said c k came) (said c k sent) es
+
+abbrev pub AreSettled : Limits → List Frame → List Frame → Type 0
+AreSettled limits came sent = (c k : ℕ) → (es : List Exchange) × IsSettledAt limits c k (marks came) (marks sent) es

@@ -1,6 +1,7 @@
+pub mod Marks
 pub mod Calls
 pub mod Lanes
+pub mod Served
 pub mod Slots
 pub mod Turns
-pub mod Served
 pub mod Frames

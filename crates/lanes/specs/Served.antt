@@ -1,28 +1,35 @@
 -- What a lane did.
-use Rattle.std.specs.Prelude.{◌≡◌, ℕ, List, ◌++◌}
+use Rattle.std.specs.Prelude.{◌≡◌, ℕ, List, [], ◌++◌, ◌⊎◌}
 use Rattle.resp.specs.declared.limits.Limits.{Limits}
-use Rattle.resp.specs.Replies.{Reply}
-use Rattle.lanes.specs.Calls.{Exchange, asked, replied, AreAdmitted, Call, exchanges, Run}
-use Rattle.lanes.specs.Lanes.{bytes_of, protocol_error, IsSettledBy}
+use Rattle.resp.specs.declared.outcome.Fault.{Fault}
+use Rattle.lanes.specs.Marks.{Mark, said, stops}
+use Rattle.lanes.specs.Calls.{Call, Exchange, asked, replied, AreTaken, Step, step_marks, Run}
+use Rattle.lanes.specs.Lanes.{Frame, marks, protocol_error, IsSettledAt}
 
--- The calls were answered one after another. What came from a connection are the requests of its calls, in order, and what
--- it was sent are the replies to them.
-pub record Served {X : Type 0} (answers : X → ℕ → List (List ℕ) → Reply → X → Type 0) (limits : Limits) (x y : X) (came sent : List (ℕ × List ℕ)) : Type 0 where
-  pub calls : List Call
-  pub run : Run answers x calls y
-  pub each : (c : ℕ) → IsSettledBy limits (bytes_of c came) (bytes_of c sent) (exchanges c calls)
+-- The service was called for the steps, one after another. On each connection the requests that came are those of its steps,
+-- in order, and what was sent are the replies to them.
+pub record Served {X : Type 0} (does : X → Call → X → Type 0) (limits : Limits) (x y : X) (came sent : List Frame) : Type 0 where
+  pub steps : List Step
+  pub run : Run does x steps y
+  pub each : (c k : ℕ) → IsSettledAt limits c k (marks came) (marks sent) (said c k (step_marks steps))
+  pub left : (c : ℕ) → stops c (step_marks steps) ≡ stops c (marks sent)
 
 -- a beginning of what came are the requests, and what was sent is a beginning of the replies
 pub record IsBegunBy (limits : Limits) (came sent : List ℕ) (es : List Exchange) : Type 0 where
   pub rest : List ℕ
   pub is : came ≡ asked es ++ rest
-  pub each : AreAdmitted limits es
+  pub each : AreTaken limits es
   pub owed : List ℕ
-  pub sent_is : sent ++ owed ≡ replied es ++ protocol_error
+  pub error : List ℕ
+  pub error_is : (error ≡ []) ⊎ ((fault : Fault) × (error ≡ protocol_error fault))
+  pub sent_is : sent ++ owed ≡ replied es ++ error
+
+abbrev pub AreBegun : Limits → List (Mark ℕ) → List (Mark ℕ) → List (Mark Exchange) → Type 0
+AreBegun limits came sent steps = (c k : ℕ) → IsBegunBy limits (said c k came) (said c k sent) (said c k steps)
 
 -- the same where a fault ended it
-pub record Begun {X : Type 0} (answers : X → ℕ → List (List ℕ) → Reply → X → Type 0) (limits : Limits) (x : X) (came sent : List (ℕ × List ℕ)) : Type 0 where
-  pub calls : List Call
+pub record Begun {X : Type 0} (does : X → Call → X → Type 0) (limits : Limits) (x : X) (came sent : List Frame) : Type 0 where
+  pub steps : List Step
   pub last : X
-  pub run : Run answers x calls last
-  pub each : (c : ℕ) → IsBegunBy limits (bytes_of c came) (bytes_of c sent) (exchanges c calls)
+  pub run : Run does x steps last
+  pub each : AreBegun limits (marks came) (marks sent) (step_marks steps)

@@ -1,44 +1,112 @@
--- What was answered of a connection's bytes.
-use Rattle.std.specs.Prelude.{◌≡◌, ◌≢◌, ℕ, ◌≤◌, Bool, true, false, List, [], ◌++◌, length, take, drop}
+-- What the parts of a lane's loop do.
+use Rattle.std.specs.Prelude.{◌≡◌, ℕ, ◌+◌, ◌<◌, ◌≤◌, Bool, true, false, List, [], ◌∷◌, ◌++◌, length, drop}
 use Rattle.resp.specs.declared.limits.Limits.{Limits}
 use Rattle.resp.specs.Lines.{Lacks, Spoilt}
-use Rattle.resp.specs.Requests.{request, IsAdmitted}
-use Rattle.resp.specs.Replies.{Reply}
-use Rattle.lanes.specs.Calls.{Exchange, asked, replied, AreAdmitted, calls_by, Run}
-use Rattle.lanes.specs.Lanes.{protocol_error}
-use Rattle.lanes.specs.declared.slots.Held.{Held}
-use Rattle.lanes.specs.Slots.{held_at}
+use Rattle.resp.specs.Requests.{command, IsAdmitted, longest}
+use Rattle.resp.specs.declared.outcome.Fault.{Fault}
+use Rattle.resp.specs.Parsing.{IsCause}
+use Rattle.lanes.specs.declared.service.Next.{Next}
+use Rattle.lanes.specs.declared.service.Next.TheVariants.{GoOn, WakeAll, End}
+use Rattle.lanes.specs.declared.taking.Taken.{Taken}
+use Rattle.lanes.specs.declared.taking.Taken.TheVariants.{Whole, Short, Bad}
+use Rattle.lanes.specs.declared.answering.Turned.{Turned}
+use Rattle.lanes.specs.declared.answering.Turned.TheVariants.{Holds, Closes}
+use Rattle.lanes.specs.declared.frame.Head.{Head}
+use Rattle.lanes.specs.declared.frame.Kind.TheVariants.{Close}
+use Rattle.lanes.specs.declared.slots.Slot.{Slot}
+use Rattle.lanes.specs.Marks.{Mark, said, stops}
+use Rattle.lanes.specs.Calls.{Call, Exchange, request_bytes, reply_bytes, IsTaken, GoesOn, IsLast, Step, Took, step_marks, Does, Run}
+use Rattle.lanes.specs.Lanes.{Frame, marks, protocol_error, IsBegun, IsOver}
+use Rattle.lanes.specs.Served.{AreBegun}
+use Rattle.lanes.specs.Slots.{Seen, AllStand, InTurn, IsAnswered}
 
--- the front of the bytes are these requests, and the replies were pushed
-pub record IsAnswered {X : Type 0} (answers : X → ℕ → List (List ℕ) → Reply → X → Type 0) (limits : Limits) (c : ℕ) (x y : X) (bytes : List ℕ) (at : ℕ) (old out : List ℕ) (es : List Exchange) : Type 0 where
-  pub run : Run answers x (calls_by c es) y
-  pub each : AreAdmitted limits es
-  pub front : take at bytes ≡ asked es
-  pub within : at ≤ length bytes
-  pub out_is : out ≡ old ++ replied es
+-- these were said on connection c besides, and nothing on others
+pub record Says {A : Type 0} (c : ℕ) (xs : List A) (old new : List (Mark A)) : Type 0 where
+  pub here : said c (stops c old) new ≡ said c (stops c old) old ++ xs
+  pub elsewhere : (d k : ℕ) → (d ≡ c → k ≡ stops c old → ⊥) → said d k new ≡ said d k old
+  pub stops_are : (d : ℕ) → stops d new ≡ stops d old
 
--- behind them is the beginning of a request, or what is none
-abbrev pub EndsSo : Limits → List ℕ → Bool → Type 0
-EndsSo limits rest false = (n : ℕ) × Lacks request (IsAdmitted limits) rest n
-EndsSo limits rest true = (at : ℕ) × Spoilt request (IsAdmitted limits) rest at
+-- all frames that came were dealt with
+pub record Stands {D X : Type 0} (tells : D → D → List Frame → List Frame → Type 0) (does : X → Call → X → Type 0) (limits : Limits) (start now : D) (x y : X) (slots : List Slot) : Type 0 where
+  pub came : List Frame
+  pub sent : List Frame
+  pub steps : List Step
+  pub told : tells start now came sent
+  pub run : Run does x steps y
+  pub stand : AllStand limits slots (marks came) (marks sent) (step_marks steps)
 
-abbrev pub error_where : Bool → List ℕ
-error_where false = []
-error_where true = protocol_error
+-- all but the last, whose mark this is
+pub record Comes {D X : Type 0} (tells : D → D → List Frame → List Frame → Type 0) (does : X → Call → X → Type 0) (limits : Limits) (start now : D) (x y : X) (slots : List Slot) (m : Mark ℕ) : Type 0 where
+  pub came : List Frame
+  pub sent : List Frame
+  pub steps : List Step
+  pub before : List (Mark ℕ)
+  pub is : marks came ≡ before ++ m ∷ []
+  pub told : tells start now came sent
+  pub run : Run does x steps y
+  pub stand : AllStand limits slots before (marks sent) (step_marks steps)
 
-pub record Answered {X : Type 0} (answers : X → ℕ → List (List ℕ) → Reply → X → Type 0) (limits : Limits) (c : ℕ) (x y : X) (bytes : List ℕ) (at : ℕ) (broken : Bool) (old out : List ℕ) : Type 0 where
-  pub es : List Exchange
-  pub before : List ℕ
-  pub answered : IsAnswered answers limits c x y bytes at old before es
-  pub ends : EndsSo limits (drop at bytes) broken
-  pub out_is : out ≡ before ++ error_where broken
+-- in a turn of connection c
+pub record Turns {D X : Type 0} (P : List ℕ → List ℕ → List Exchange → Type 0) (tells : D → D → List Frame → List Frame → Type 0) (does : X → Call → X → Type 0) (limits : Limits) (c : ℕ) (start now : D) (x y : X) (slots : List Slot) (out : List ℕ) : Type 0 where
+  pub came : List Frame
+  pub sent : List Frame
+  pub steps : List Step
+  pub told : tells start now came sent
+  pub run : Run does x steps y
+  pub turn : InTurn P limits c slots out (marks came) (marks sent) (step_marks steps)
 
--- The others' slots stay. Of a broken connection nothing is read. Else its bytes and the frame's are those of requests, which
--- were answered, and then what is held
-abbrev pub TurnsSlot : {X : Type 0} → (X → ℕ → List (List ℕ) → Reply → X → Type 0) → Limits → ℕ → X → X → List ℕ × Bool → List ℕ × Bool → List ℕ → List ℕ → Type 0
-TurnsSlot answers limits c x y (held, true) new frame out = (x ≡ y) × (out ≡ []) × (new.1 ≡ true)
-TurnsSlot answers limits c x y (held, false) new frame out = (at : ℕ) × Answered answers limits c x y (held ++ frame) at new.1 [] out × (new.0 ≡ drop at (held ++ frame))
+-- whatever was done is a beginning
+pub record Faulty {D X : Type 0} (tells : D → D → List Frame → List Frame → Type 0) (does : X → Call → X → Type 0) (limits : Limits) (start now : D) (x : X) : Type 0 where
+  pub came : List Frame
+  pub sent : List Frame
+  pub steps : List Step
+  pub last : X
+  pub told : tells start now came sent
+  pub run : Run does x steps last
+  pub each : AreBegun limits (marks came) (marks sent) (step_marks steps)
 
-pub record Turned {X : Type 0} (answers : X → ℕ → List (List ℕ) → Reply → X → Type 0) (limits : Limits) (c : ℕ) (x y : X) (old new : List Held) (frame out : List ℕ) : Type 0 where
-  pub others : (d : ℕ) → d ≢ c → held_at new d ≡ held_at old d
-  pub slot : TurnsSlot answers limits c x y (held_at old c) (held_at new c) frame out
+abbrev pub NextIs : Next → Exchange → Type 0
+NextIs GoOn e = GoesOn e
+NextIs WakeAll e = GoesOn e
+NextIs End e = IsLast e
+
+-- a request at the front of bytes was taken
+pub record TakesWhole {X : Type 0} (does : X → Call → X → Type 0) (limits : Limits) (c : ℕ) (x y : X) (bytes : List ℕ) (consumed : ℕ) (next : Next) (old out : List ℕ) : Type 0 where
+  pub what : Exchange
+  pub step : Does does x (Took c what) y
+  pub taken : IsTaken limits what
+  pub next_is : NextIs next what
+  pub rest : List ℕ
+  pub is : bytes ≡ request_bytes what ++ rest
+  pub long : length (request_bytes what) ≡ consumed
+  pub some : 0 < consumed
+  pub within : consumed ≤ length bytes
+  pub out_is : out ≡ old ++ reply_bytes what
+
+abbrev pub Takes : {X : Type 0} → (X → Call → X → Type 0) → Limits → ℕ → X → X → List ℕ → List ℕ → List ℕ → Taken → Type 0
+Takes does limits c x y bytes old out (Whole consumed next) = TakesWhole does limits c x y bytes consumed next old out
+Takes does limits c x y bytes old out (Short missing) = (x ≡ y) × Lacks command (IsAdmitted limits) bytes missing × (length bytes + missing ≤ longest limits) × (out ≡ old)
+Takes does limits c x y bytes old out Bad = (x ≡ y) × (at : ℕ) × (fault : Fault) × Spoilt command (IsAdmitted limits) bytes at × IsCause limits bytes at fault × (out ≡ old ++ protocol_error fault)
+
+-- so far as the requests were answered: the beginning of one is left, or the connection is over
+abbrev pub AnswersSo : {D X : Type 0} → (D → D → List Frame → List Frame → Type 0) → (X → Call → X → Type 0) → Limits → ℕ → D → D → X → X → List Slot → List ℕ → List ℕ → Turned → Type 0
+AnswersSo tells does limits c start now x y slots bytes out (Holds at wanted) = (at ≤ length bytes) × IsBegun limits (drop at bytes) wanted × Turns (IsAnswered limits (drop at bytes)) tells does limits c start now x y slots out
+AnswersSo tells does limits c start now x y slots bytes out Closes = Turns (IsOver limits) tells does limits c start now x y slots out
+
+-- what a slot holds behind a turn
+abbrev pub seen_after : List ℕ → Turned → Seen
+seen_after bytes (Holds at wanted) = record { over = false; held = drop at bytes; wanted = wanted }
+seen_after bytes Closes = record { over = true; held = []; wanted = 0 }
+
+abbrev pub goes_on : Next → Bool
+goes_on GoOn = true
+goes_on WakeAll = true
+goes_on End = false
+
+abbrev pub closing : ℕ → Frame
+closing c = record { head = record { kind = Close; connection = c }; bytes = [] }
+
+-- it holds what stands there
+abbrev pub IsWithin : ℕ → Turned → Type 0
+IsWithin n (Holds at wanted) = at ≤ n
+IsWithin n Closes = Unit {0}

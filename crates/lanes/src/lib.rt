@@ -1,7 +1,11 @@
 //! A lane: it reads frames of many connections, answers their requests in order, and writes frames.
 #![tactic(auto)]
 
+mod answering;
+mod dealing;
 mod duplex;
+mod fault;
+mod frame;
 mod looped;
 mod moving;
 mod over;
@@ -9,10 +13,12 @@ mod putting;
 mod served;
 mod service;
 mod slots;
-mod turn;
+mod taking;
 
-pub use duplex::{Broken, Duplex};
-pub use looped::{LaneFault, serve};
+pub use duplex::Duplex;
+pub use fault::{FrameFault, LaneFault};
+pub use frame::{Head, Kind};
+pub use looped::serve;
 pub use over::Wire;
 pub use served::serve_over;
-pub use service::Service;
+pub use service::{Next, Service, Woken};

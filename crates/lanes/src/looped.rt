@@ -1,66 +1,52 @@
 //! A lane's loop.
 ghost use Rattle.std.specs.Prelude.{◌≡◌, ℕ, List, [], OnOk, OnErr};
+ghost use Rattle.lanes.specs.Lanes.{Frame};
 ghost use Rattle.lanes.specs.Served.{Served, Begun};
 
+use crate::dealing::take_frame;
 use crate::duplex::Duplex;
-use crate::service::Service;
-use crate::slots::Held;
-use crate::turn::turn;
+use crate::fault::LaneFault;
+use crate::service::{Service, Woken};
+use crate::slots::Slot;
 use std::alloc::Global;
 
-/// Why a lane ended before its frames did.
-#[derive(Debug, Drop)]
-pub enum LaneFault {
-    /// A frame can't be read or written.
-    Broken,
-    /// A growth was refused.
-    Memory,
-    /// It took more frames than there are numbers.
-    Counted,
-}
-
-/// Reads frames until there are no more, answers the requests of each connection in order, and writes the replies before it
-/// reads on.
+/// Reads frames until there are no more, or the service leaves at a wake. The requests of each connection are answered in
+/// order, and the replies are written before it reads on.
 pub fn serve<D: Duplex, S: Service>(
     alloc: Global,
     duplex: &mut D,
     service: &mut S,
 ) -> Result<(), LaneFault>
     requires { D.tells duplex.old duplex.old [] [] }
-    ensures served { OnOk result ((came : List (ℕ × List ℕ)) × (sent : List (ℕ × List ℕ)) × D.tells duplex.old duplex.new came sent × Served S.answers (D.limits duplex.old) service.old service.new came sent × D.whole duplex.new) }
-    ensures fault { OnErr result ((came : List (ℕ × List ℕ)) × (sent : List (ℕ × List ℕ)) × D.tells duplex.old duplex.new came sent × Begun S.answers (D.limits duplex.old) service.old came sent) }
+    ensures served { OnOk result ((came : List Frame) × (sent : List Frame) × D.tells duplex.old duplex.new came sent × Served S.does (D.limits duplex.old) service.old service.new came sent × D.whole duplex.new) }
+    ensures fault { OnErr result ((came : List Frame) × (sent : List Frame) × D.tells duplex.old duplex.new came sent × Begun S.does (D.limits duplex.old) service.old came sent) }
 {
     let limits = duplex.limits();
-    let mut slots: Vec<Held> = Vec::new(alloc);
+    let mut slots: Vec<Slot> = Vec::new(alloc);
     let mut frame = Vec::new(alloc);
     let mut spans = Vec::new(alloc);
     let mut out = Vec::new(alloc);
     for round in 0..u64::MAX {
         let _ = round;
-        let connection = match duplex.read(&mut frame) {
-            Ok(Some(connection)) => connection,
+        let head = match duplex.read(&mut frame) {
+            Ok(Some(head)) => head,
             Ok(None) => return Ok(()),
-            Err(_) => return Err(LaneFault::Broken),
+            Err(fault) => return Err(LaneFault::Frame(fault)),
         };
-        out.clear();
-        match turn(
+        match take_frame(
             alloc,
+            duplex,
             service,
             limits,
             &mut slots,
-            connection,
+            head,
             frame.as_slice(),
             &mut spans,
             &mut out,
         ) {
-            Ok(()) => {}
-            Err(_) => return Err(LaneFault::Memory),
-        }
-        if !out.is_empty() {
-            match duplex.write(connection, out.as_slice()) {
-                Ok(()) => {}
-                Err(_) => return Err(LaneFault::Broken),
-            }
+            Ok(Woken::Stay) => {}
+            Ok(Woken::Leave) => return Ok(()),
+            Err(fault) => return Err(fault),
         }
     }
     Err(LaneFault::Counted)

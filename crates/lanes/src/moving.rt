@@ -1,35 +1,47 @@
 //! Frames from a reader.
-ghost use Rattle.std.specs.Prelude.{◌≡◌, ℕ, ◌+◌, ◌≤◌, List, true, length, IfOk, OnErr, MatchOption};
+ghost use Rattle.std.specs.Prelude.{◌≡◌, ℕ, ◌+◌, ◌≤◌, List, true, length, IfOk, IfSome, OnErr, MatchOption};
 ghost use Rattle.std.specs.Int.{w32, from_be_bytes};
 ghost use Rattle.std.specs.Io.KnownBytes.{Keeps, prepend_known, Consumes};
-ghost use Rattle.lanes.specs.Frames.{frame_bytes};
+ghost use Rattle.lanes.specs.Frames.{kind_byte, frame_bytes};
 
-use crate::duplex::Broken;
-use std::io::BufRead;
+use crate::fault::FrameFault;
+use crate::frame::{Head, Kind};
+use std::io::{BufRead, ErrorKind};
 
 /// The most bytes of a frame.
 const LONGEST: u32 = 1 << 24;
 
-/// Moves bytes from the reader behind those of the room, so many at most, and says how many. None where the reader has none.
-fn move_some<R: BufRead>(input: &mut R, room: &mut Vec<u8>, most: usize) -> Result<usize, Broken>
+/// Moves bytes from the reader behind those of the room, so many at most, and says how many. None where the read was
+/// interrupted, and 0 where the reader has no byte.
+fn move_some<R: BufRead>(
+    input: &mut R,
+    room: &mut Vec<u8>,
+    most: usize,
+) -> Result<Option<usize>, FrameFault>
     ensures moved { Keeps (prepend_known room.old.items (R.remaining input.old)) (prepend_known room.new.items (R.remaining input.new)) }
-    ensures count { IfOk result (λ n. (length room.new.items ≡ length room.old.items + n) × (n ≤ most)) }
+    ensures count { IfOk result (λ r. MatchOption r (length room.new.items ≡ length room.old.items) (λ n. (length room.new.items ≡ length room.old.items + n) × (n ≤ most))) }
 {
     let available = match input.fill_buf() {
         Ok(available) => available,
-        Err(_) => return Err(Broken),
+        Err(error) => {
+            return if error.kind() == ErrorKind::Interrupted {
+                Ok(None)
+            } else {
+                Err(FrameFault::Io)
+            };
+        }
     };
     let count = available.len().min(most);
     match room.extend_from_slice(&available[..count]) {
         Ok(()) => {}
-        Err(_) => return Err(Broken),
+        Err(_) => return Err(FrameFault::Memory),
     }
     input.consume(count);
-    Ok(count)
+    Ok(Some(count))
 }
 
 /// Moves so many bytes, and says whether the reader had them.
-fn move_all<R: BufRead>(input: &mut R, room: &mut Vec<u8>, count: usize) -> Result<bool, Broken>
+fn move_all<R: BufRead>(input: &mut R, room: &mut Vec<u8>, count: usize) -> Result<bool, FrameFault>
     ensures moved { Keeps (prepend_known room.old.items (R.remaining input.old)) (prepend_known room.new.items (R.remaining input.new)) }
     ensures all { IfOk result (λ whole. whole ≡ true → length room.new.items ≡ length room.old.items + count) }
 {
@@ -39,13 +51,18 @@ fn move_all<R: BufRead>(input: &mut R, room: &mut Vec<u8>, count: usize) -> Resu
         if left == 0 {
             return Ok(true);
         }
-        let n = move_some(input, room, left)?;
-        if n == 0 {
-            return Ok(false);
+        match move_some(input, room, left) {
+            Ok(Some(n)) => {
+                if n == 0 {
+                    return Ok(false);
+                }
+                left -= n;
+            }
+            Ok(None) => {}
+            Err(fault) => return Err(fault),
         }
-        left -= n;
     }
-    Err(Broken)
+    Err(FrameFault::Io)
 }
 
 fn number_of(bytes: &[u8]) -> u32
@@ -55,33 +72,50 @@ fn number_of(bytes: &[u8]) -> u32
     u32::from_be_bytes([bytes[0], bytes[1], bytes[2], bytes[3]])
 }
 
-/// The next frame's connection; its bytes take the place of what `room` had. None where the reader has no byte.
+fn kind_of(byte: u8) -> Option<Kind>
+    ensures { IfSome result (λ kind. byte ≡ kind_byte kind) }
+{
+    match byte {
+        0 => Some(Kind::Data),
+        1 => Some(Kind::Open),
+        2 => Some(Kind::Close),
+        3 => Some(Kind::Wake),
+        _ => None,
+    }
+}
+
+/// The next frame; its bytes take the place of what `room` had. None where the reader has no byte.
 pub(crate) fn read_frame<R: BufRead>(
     input: &mut R,
     header: &mut Vec<u8>,
     room: &mut Vec<u8>,
-) -> Result<Option<u32>, Broken>
-    ensures read { IfOk result (λ r. MatchOption r (Keeps (R.remaining input.old) (R.remaining input.new)) (λ c. Consumes (R.remaining input.old) (R.remaining input.new) (frame_bytes (c, room.new.items)))) }
+) -> Result<Option<Head>, FrameFault>
+    ensures read { IfOk result (λ r. MatchOption r (Keeps (R.remaining input.old) (R.remaining input.new)) (λ h. Consumes (R.remaining input.old) (R.remaining input.new) (frame_bytes (record { head = h; bytes = room.new.items })))) }
     ensures part { OnErr result ((part : List ℕ) × Consumes (R.remaining input.old) (R.remaining input.new) part) }
 {
     header.clear();
     room.clear();
-    if !move_all(input, header, 8)? {
+    if !move_all(input, header, 9)? {
         return if header.is_empty() {
             Ok(None)
         } else {
-            Err(Broken)
+            Err(FrameFault::Cut)
         };
     }
-    let (first, second) = header.as_slice().split_at(4);
+    let (mark, numbers) = header.as_slice().split_at(1);
+    let (first, second) = numbers.split_at(4);
     let connection = number_of(first);
     let len = number_of(second);
-    if len > LONGEST {
-        return Err(Broken);
+    let Some(kind) = kind_of(mark[0]) else {
+        return Err(FrameFault::Kind);
+    };
+    let most = if kind == Kind::Data { LONGEST } else { 0 };
+    if len > most {
+        return Err(FrameFault::TooLong);
     }
     if move_all(input, room, len as usize)? {
-        Ok(Some(connection))
+        Ok(Some(Head { kind, connection }))
     } else {
-        Err(Broken)
+        Err(FrameFault::Cut)
     }
 }

@@ -2,7 +2,9 @@
 ghost use Rattle.std.specs.Prelude.{◌≡◌, [], false};
 ghost use Rattle.lanes.specs.Frames.{TellsRead, TellsWritten};
 
-use crate::duplex::{Broken, Duplex};
+use crate::duplex::Duplex;
+use crate::fault::FrameFault;
+use crate::frame::Head;
 use crate::moving::read_frame;
 use crate::putting::write_frame;
 use resp::Limits;
@@ -46,28 +48,28 @@ impl<R: BufRead, W: Write> Duplex for Wire<R, W> {
         self.limits
     }
 
-    fn read(&mut self, room: &mut Vec<u8>) -> Result<Option<u32>, Broken> {
+    fn read(&mut self, room: &mut Vec<u8>) -> Result<Option<Head>, FrameFault> {
         if self.broken {
-            return Err(Broken);
+            return Err(FrameFault::Failed);
         }
         match read_frame(&mut self.input, &mut self.header, room) {
-            Ok(connection) => Ok(connection),
-            Err(_) => {
+            Ok(head) => Ok(head),
+            Err(fault) => {
                 self.broken = true;
-                Err(Broken)
+                Err(fault)
             }
         }
     }
 
-    fn write(&mut self, connection: u32, bytes: &[u8]) -> Result<(), Broken> {
+    fn write(&mut self, head: Head, bytes: &[u8]) -> Result<(), FrameFault> {
         if self.broken {
-            return Err(Broken);
+            return Err(FrameFault::Failed);
         }
-        match write_frame(&mut self.output, connection, bytes) {
+        match write_frame(&mut self.output, head, bytes) {
             Ok(()) => Ok(()),
-            Err(_) => {
+            Err(fault) => {
                 self.broken = true;
-                Err(Broken)
+                Err(fault)
             }
         }
     }

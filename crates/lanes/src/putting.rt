@@ -1,13 +1,14 @@
 //! Frames to a writer.
 ghost use Rattle.std.specs.Prelude.{◌≡◌, ℕ, ◌≤◌, List, length, take, IfOk, OnOk, OnErr};
 ghost use Rattle.std.specs.Io.KnownBytes.{Keeps, Appends};
-ghost use Rattle.lanes.specs.Frames.{frame_bytes};
+ghost use Rattle.lanes.specs.Frames.{kind_byte, frame_bytes};
 
-use crate::duplex::Broken;
+use crate::fault::FrameFault;
+use crate::frame::{Head, Kind};
 use std::io::{ErrorKind, Write};
 
 /// Writes some of the bytes, and says how many: none where the write was interrupted.
-fn put_some<W: Write>(output: &mut W, bytes: &[u8]) -> Result<usize, Broken>
+fn put_some<W: Write>(output: &mut W, bytes: &[u8]) -> Result<usize, FrameFault>
     ensures within { IfOk result (λ n. n ≤ length bytes.now) }
     ensures put { IfOk result (λ n. Appends (W.contents output.old) (W.contents output.new) (take n bytes.now)) }
     ensures kept { OnErr result ((part : List ℕ) × Appends (W.contents output.old) (W.contents output.new) part) }
@@ -15,7 +16,7 @@ fn put_some<W: Write>(output: &mut W, bytes: &[u8]) -> Result<usize, Broken>
     match output.write(bytes) {
         Ok(n) => {
             if n == 0 {
-                return Err(Broken);
+                return Err(FrameFault::Io);
             }
             Ok(n)
         }
@@ -23,13 +24,13 @@ fn put_some<W: Write>(output: &mut W, bytes: &[u8]) -> Result<usize, Broken>
             if error.kind() == ErrorKind::Interrupted {
                 Ok(0)
             } else {
-                Err(Broken)
+                Err(FrameFault::Io)
             }
         }
     }
 }
 
-fn put_all<W: Write>(output: &mut W, bytes: &[u8]) -> Result<(), Broken>
+fn put_all<W: Write>(output: &mut W, bytes: &[u8]) -> Result<(), FrameFault>
     ensures put { OnOk result (Appends (W.contents output.old) (W.contents output.new) bytes.now) }
     ensures part { OnErr result ((part : List ℕ) × Appends (W.contents output.old) (W.contents output.new) part) }
 {
@@ -42,27 +43,39 @@ fn put_all<W: Write>(output: &mut W, bytes: &[u8]) -> Result<(), Broken>
         let n = put_some(output, rest)?;
         rest = &rest[n..];
     }
-    Err(Broken)
+    Err(FrameFault::Io)
+}
+
+fn byte_of(kind: Kind) -> u8
+    ensures { result ≡ kind_byte kind }
+{
+    match kind {
+        Kind::Data => 0,
+        Kind::Open => 1,
+        Kind::Close => 2,
+        Kind::Wake => 3,
+    }
 }
 
 /// Writes a frame, and flushes.
 pub(crate) fn write_frame<W: Write>(
     output: &mut W,
-    connection: u32,
+    head: Head,
     bytes: &[u8],
-) -> Result<(), Broken>
-    ensures put { OnOk result (Appends (W.contents output.old) (W.contents output.new) (frame_bytes (connection, bytes.now))) }
+) -> Result<(), FrameFault>
+    ensures put { OnOk result (Appends (W.contents output.old) (W.contents output.new) (frame_bytes (record { head = head; bytes = bytes.now }))) }
     ensures part { OnErr result ((part : List ℕ) × Appends (W.contents output.old) (W.contents output.new) part) }
 {
     if bytes.len() > u32::MAX as usize {
-        return Err(Broken);
+        return Err(FrameFault::TooLong);
     }
     let len = bytes.len() as u32;
-    put_all(output, &connection.to_be_bytes())?;
+    put_all(output, &[byte_of(head.kind)])?;
+    put_all(output, &head.connection.to_be_bytes())?;
     put_all(output, &len.to_be_bytes())?;
     put_all(output, bytes)?;
     match output.flush() {
         Ok(()) => Ok(()),
-        Err(_) => Err(Broken),
+        Err(_) => Err(FrameFault::Io),
     }
 }

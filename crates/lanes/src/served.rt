@@ -1,10 +1,12 @@
 //! A lane from the reader's bytes to the writer's.
 ghost use Rattle.std.specs.Prelude.{ℕ, List, IfOk};
 ghost use Rattle.std.specs.Io.KnownBytes.{Consumes, Appends};
+ghost use Rattle.lanes.specs.Lanes.{Frame};
 ghost use Rattle.lanes.specs.Served.{Served};
 ghost use Rattle.lanes.specs.Frames.{frames_bytes};
 
-use crate::looped::{LaneFault, serve};
+use crate::fault::LaneFault;
+use crate::looped::serve;
 use crate::over::Wire;
 use crate::service::Service;
 use resp::Limits;
@@ -20,7 +22,7 @@ pub fn serve_over<R: BufRead + Drop, W: Write + Drop, S: Service>(
     limits: Limits,
     service: &mut S,
 ) -> Result<(R, W), LaneFault>
-    ensures { IfOk result (λ parts. (came : List (ℕ × List ℕ)) × (sent : List (ℕ × List ℕ)) × Consumes (R.remaining input) (R.remaining parts.0) (frames_bytes came) × Appends (W.contents output) (W.contents parts.1) (frames_bytes sent) × Served S.answers limits service.old service.new came sent) }
+    ensures { IfOk result (λ parts. (came : List Frame) × (sent : List Frame) × Consumes (R.remaining input) (R.remaining parts.0) (frames_bytes came) × Appends (W.contents output) (W.contents parts.1) (frames_bytes sent) × Served S.does limits service.old service.new came sent) }
 {
     let mut wire = Wire::new(alloc, input, output, limits);
     match serve(alloc, &mut wire, service) {

@@ -1,0 +1,276 @@
+//! What a lane does with a frame of a connection.
+ghost use Rattle.std.specs.Prelude.{◌≡◌, ◌<◌, ◌≤◌, ℕ, List, [], false, vec_len, length, drop, IfOk, OnOk};
+ghost use Rattle.lanes.specs.declared.slots.Slot.{Slot};
+ghost use Rattle.lanes.specs.Marks.{Piece, Stop};
+ghost use Rattle.lanes.specs.Lanes.{mark_of};
+ghost use Rattle.lanes.specs.Slots.{slot_at, OthersSame, IsAnswered};
+ghost use Rattle.lanes.specs.Turns.{Stands, Comes, Turns, Faulty};
+
+use crate::answering::{Turned, answer, leave};
+use crate::duplex::Duplex;
+use crate::fault::LaneFault;
+use crate::frame::{Head, Kind};
+use crate::service::{Service, Woken};
+use crate::slots::{FIRST, Slot, State, open, set_slot, state_at, take_held};
+use resp::{Limits, Span};
+use std::alloc::{AllocError, Global};
+
+/// What stands behind the requests that were taken.
+fn rest_of(alloc: Global, held: Vec<u8>, at: usize) -> Result<Vec<u8>, AllocError>
+    requires { at ≤ vec_len held }
+    ensures { IfOk result (λ rest. rest.items ≡ drop at held.items) }
+{
+    if at == 0 {
+        return Ok(held);
+    }
+    match Vec::from_slice(alloc, &held[at..]) {
+        Ok(rest) => Ok(rest),
+        Err(refused) => Err(refused),
+    }
+}
+
+/// Answers what stands in a frame, where nothing is held from before: the bytes of a whole request are not copied.
+fn answer_frame<D: Duplex, S: Service>(
+    alloc: Global,
+    duplex: &mut D,
+    service: &mut S,
+    limits: Limits,
+    slots: &mut Vec<Slot>,
+    connection: u32,
+    frame: &[u8],
+    mut held: Vec<u8>,
+    spans: &mut Vec<Span>,
+    out: &mut Vec<u8>,
+) -> Result<(), LaneFault>
+    requires room { connection < vec_len slots.old }
+    requires nothing { held.items ≡ [] }
+    requires empty { out.old.items ≡ [] }
+    ensures stands { OnOk result ((start : D) (x : S) (before : List Slot) → Turns (IsAnswered limits frame.now) D.tells S.does limits connection start duplex.old x service.old before [] → OthersSame connection before slots.old.items → Stands D.tells S.does limits start duplex.new x service.new slots.new.items) }
+    ensures begun { (start : D) (x : S) (before : List Slot) → Turns (IsAnswered limits frame.now) D.tells S.does limits connection start duplex.old x service.old before [] → Faulty D.tells S.does limits start duplex.new x }
+    ensures empty { OnOk result (out.new.items ≡ []) }
+    ensures limits { D.limits duplex.new ≡ D.limits duplex.old }
+{
+    match answer(duplex, service, limits, connection, frame, spans, out) {
+        Ok(Turned::Holds { at, wanted }) => {
+            match held.extend_from_slice(&frame[at..]) {
+                Ok(()) => {}
+                Err(_) => return Err(LaneFault::Memory),
+            }
+            let state = State::Running;
+            set_slot(
+                slots,
+                connection,
+                Slot {
+                    state,
+                    held,
+                    wanted,
+                },
+            );
+            Ok(())
+        }
+        Ok(Turned::Closes) => {
+            set_slot(slots, connection, Slot::new(alloc, State::Over, 0));
+            Ok(())
+        }
+        Err(fault) => Err(fault),
+    }
+}
+
+/// Answers what stands in the bytes that were held, with a frame's behind them.
+fn answer_held<D: Duplex, S: Service>(
+    alloc: Global,
+    duplex: &mut D,
+    service: &mut S,
+    limits: Limits,
+    slots: &mut Vec<Slot>,
+    connection: u32,
+    held: Vec<u8>,
+    spans: &mut Vec<Span>,
+    out: &mut Vec<u8>,
+) -> Result<(), LaneFault>
+    requires room { connection < vec_len slots.old }
+    requires empty { out.old.items ≡ [] }
+    ensures stands { OnOk result ((start : D) (x : S) (before : List Slot) → Turns (IsAnswered limits held.items) D.tells S.does limits connection start duplex.old x service.old before [] → OthersSame connection before slots.old.items → Stands D.tells S.does limits start duplex.new x service.new slots.new.items) }
+    ensures begun { (start : D) (x : S) (before : List Slot) → Turns (IsAnswered limits held.items) D.tells S.does limits connection start duplex.old x service.old before [] → Faulty D.tells S.does limits start duplex.new x }
+    ensures empty { OnOk result (out.new.items ≡ []) }
+    ensures limits { D.limits duplex.new ≡ D.limits duplex.old }
+{
+    match answer(
+        duplex,
+        service,
+        limits,
+        connection,
+        held.as_slice(),
+        spans,
+        out,
+    ) {
+        Ok(Turned::Holds { at, wanted }) => {
+            let held = match rest_of(alloc, held, at) {
+                Ok(rest) => rest,
+                Err(_) => return Err(LaneFault::Memory),
+            };
+            let state = State::Running;
+            set_slot(
+                slots,
+                connection,
+                Slot {
+                    state,
+                    held,
+                    wanted,
+                },
+            );
+            Ok(())
+        }
+        Ok(Turned::Closes) => {
+            set_slot(slots, connection, Slot::new(alloc, State::Over, 0));
+            Ok(())
+        }
+        Err(fault) => Err(fault),
+    }
+}
+
+/// Takes bytes of a connection that runs. They are looked at once there are as many as were missing.
+fn take_bytes<D: Duplex, S: Service>(
+    alloc: Global,
+    duplex: &mut D,
+    service: &mut S,
+    limits: Limits,
+    slots: &mut Vec<Slot>,
+    connection: u32,
+    frame: &[u8],
+    spans: &mut Vec<Span>,
+    out: &mut Vec<u8>,
+) -> Result<(), LaneFault>
+    requires room { connection < vec_len slots.old }
+    requires runs { (slot_at slots.old.items connection).over ≡ false }
+    requires empty { out.old.items ≡ [] }
+    ensures stands { OnOk result ((start : D) (x : S) → Comes D.tells S.does limits start duplex.old x service.old slots.old.items (Piece connection frame.now) → Stands D.tells S.does limits start duplex.new x service.new slots.new.items) }
+    ensures begun { (start : D) (x : S) → Comes D.tells S.does limits start duplex.old x service.old slots.old.items (Piece connection frame.now) → Faulty D.tells S.does limits start duplex.new x }
+    ensures empty { OnOk result (out.new.items ≡ []) }
+    ensures limits { D.limits duplex.new ≡ D.limits duplex.old }
+{
+    let (mut held, wanted) = take_held(alloc, slots, connection);
+    if held.is_empty() {
+        return answer_frame(
+            alloc, duplex, service, limits, slots, connection, frame, held, spans, out,
+        );
+    }
+    match held.extend_from_slice(frame) {
+        Ok(()) => {}
+        Err(_) => return Err(LaneFault::Memory),
+    }
+    if held.len() < wanted {
+        let state = State::Running;
+        set_slot(
+            slots,
+            connection,
+            Slot {
+                state,
+                held,
+                wanted,
+            },
+        );
+        return Ok(());
+    }
+    answer_held(
+        alloc, duplex, service, limits, slots, connection, held, spans, out,
+    )
+}
+
+/// The client closes its connection.
+fn take_close<D: Duplex, S: Service>(
+    alloc: Global,
+    duplex: &mut D,
+    service: &mut S,
+    limits: Limits,
+    slots: &mut Vec<Slot>,
+    connection: u32,
+) -> Result<(), LaneFault>
+    ensures stands { OnOk result ((start : D) (x : S) → Comes D.tells S.does limits start duplex.old x service.old slots.old.items (Stop connection) → Stands D.tells S.does limits start duplex.new x service.new slots.new.items) }
+    ensures begun { (start : D) (x : S) → Comes D.tells S.does limits start duplex.old x service.old slots.old.items (Stop connection) → Faulty D.tells S.does limits start duplex.new x }
+    ensures limits { D.limits duplex.new ≡ D.limits duplex.old }
+{
+    match state_at(slots.as_slice(), connection) {
+        State::Free => Err(LaneFault::OutOfTurn),
+        State::Running => match leave(duplex, service, connection) {
+            Ok(()) => {
+                set_slot(slots, connection, Slot::new(alloc, State::Free, FIRST));
+                Ok(())
+            }
+            Err(fault) => Err(fault),
+        },
+        State::Over => {
+            set_slot(slots, connection, Slot::new(alloc, State::Free, FIRST));
+            Ok(())
+        }
+    }
+}
+
+/// Takes a frame of bytes. Those behind the lane's own close are passed over.
+fn take_data<D: Duplex, S: Service>(
+    alloc: Global,
+    duplex: &mut D,
+    service: &mut S,
+    limits: Limits,
+    slots: &mut Vec<Slot>,
+    connection: u32,
+    frame: &[u8],
+    spans: &mut Vec<Span>,
+    out: &mut Vec<u8>,
+) -> Result<(), LaneFault>
+    requires empty { out.old.items ≡ [] }
+    ensures stands { OnOk result ((start : D) (x : S) → Comes D.tells S.does limits start duplex.old x service.old slots.old.items (Piece connection frame.now) → Stands D.tells S.does limits start duplex.new x service.new slots.new.items) }
+    ensures begun { (start : D) (x : S) → Comes D.tells S.does limits start duplex.old x service.old slots.old.items (Piece connection frame.now) → Faulty D.tells S.does limits start duplex.new x }
+    ensures empty { OnOk result (out.new.items ≡ []) }
+    ensures limits { D.limits duplex.new ≡ D.limits duplex.old }
+{
+    match state_at(slots.as_slice(), connection) {
+        State::Free => Err(LaneFault::OutOfTurn),
+        State::Over => Ok(()),
+        State::Running => take_bytes(
+            alloc, duplex, service, limits, slots, connection, frame, spans, out,
+        ),
+    }
+}
+
+/// Does what a frame says. Whether the lane leaves.
+pub(crate) fn take_frame<D: Duplex, S: Service>(
+    alloc: Global,
+    duplex: &mut D,
+    service: &mut S,
+    limits: Limits,
+    slots: &mut Vec<Slot>,
+    head: Head,
+    frame: &[u8],
+    spans: &mut Vec<Span>,
+    out: &mut Vec<u8>,
+) -> Result<Woken, LaneFault>
+    requires empty { out.old.items ≡ [] }
+    ensures stands { OnOk result ((start : D) (x : S) → Comes D.tells S.does limits start duplex.old x service.old slots.old.items (mark_of head.kind head.connection frame.now) → Stands D.tells S.does limits start duplex.new x service.new slots.new.items) }
+    ensures begun { (start : D) (x : S) → Comes D.tells S.does limits start duplex.old x service.old slots.old.items (mark_of head.kind head.connection frame.now) → Faulty D.tells S.does limits start duplex.new x }
+    ensures leaves { IfOk result (λ w. w ≡ Woken.Leave → duplex.new ≡ duplex.old) }
+    ensures empty { OnOk result (out.new.items ≡ []) }
+    ensures limits { D.limits duplex.new ≡ D.limits duplex.old }
+{
+    let connection = head.connection;
+    match head.kind {
+        Kind::Data => match take_data(
+            alloc, duplex, service, limits, slots, connection, frame, spans, out,
+        ) {
+            Ok(()) => Ok(Woken::Stay),
+            Err(fault) => Err(fault),
+        },
+        Kind::Open => match open(alloc, slots, connection) {
+            Ok(()) => Ok(Woken::Stay),
+            Err(fault) => Err(fault),
+        },
+        Kind::Close => match take_close(alloc, duplex, service, limits, slots, connection) {
+            Ok(()) => Ok(Woken::Stay),
+            Err(fault) => Err(fault),
+        },
+        Kind::Wake => match service.wake() {
+            Ok(woken) => Ok(woken),
+            Err(_) => Err(LaneFault::Memory),
+        },
+    }
+}

@@ -1,0 +1,61 @@
+//! A request at the front of bytes is answered.
+ghost use Rattle.std.specs.Prelude.{◌≡◌, IfOk};
+ghost use Rattle.lanes.specs.Lanes.{fault_text as text_of};
+ghost use Rattle.lanes.specs.Turns.{Takes};
+
+use crate::service::{Next, Service};
+use resp::{Fault, Limits, Parsed, Span, parse, push_failure};
+use std::alloc::AllocError;
+
+/// What was taken.
+pub(crate) enum Taken {
+    /// A request of so many bytes.
+    Whole { consumed: usize, next: Next },
+    /// Nothing: so many bytes of the request are missing at least.
+    Short { missing: usize },
+    /// Nothing, and an error was pushed.
+    Bad,
+}
+
+/// What a client is told, in Redis' words where it has some.
+fn fault_text(fault: Fault) -> &'static [u8]
+    ensures { result.now ≡ text_of fault }
+{
+    match fault {
+        Fault::ArrayLength => b"ERR Protocol error: invalid multibulk length",
+        Fault::Mark => b"ERR Protocol error: expected '$'",
+        Fault::StringLength => b"ERR Protocol error: invalid bulk length",
+        Fault::StringEnd => b"ERR Protocol error: expected CR LF",
+        Fault::LongLine => b"ERR Protocol error: too big inline request",
+        Fault::Quote => b"ERR Protocol error: unbalanced quotes in request",
+        Fault::Control => b"ERR Protocol error: control character in request",
+    }
+}
+
+/// Takes a request, and pushes the reply to it. One without arguments gets none.
+pub(crate) fn take_one<S: Service>(
+    service: &mut S,
+    limits: Limits,
+    connection: u32,
+    bytes: &[u8],
+    spans: &mut Vec<Span>,
+    out: &mut Vec<u8>,
+) -> Result<Taken, AllocError>
+    ensures { IfOk result (λ t. Takes S.does limits connection service.old service.new bytes.now out.old.items out.new.items t) }
+{
+    match parse(bytes, limits, spans)? {
+        Parsed::Request { consumed } => {
+            if spans.is_empty() {
+                let next = Next::GoOn;
+                return Ok(Taken::Whole { consumed, next });
+            }
+            let next = service.answer(connection, bytes, spans.as_slice(), out)?;
+            Ok(Taken::Whole { consumed, next })
+        }
+        Parsed::Incomplete { missing } => Ok(Taken::Short { missing }),
+        Parsed::Malformed { at: _, fault } => {
+            push_failure(out, fault_text(fault))?;
+            Ok(Taken::Bad)
+        }
+    }
+}
