@@ -13,7 +13,8 @@ use Rattle.lanes.specs.Served.{AreBegun, Served, Begun}
 use Rattle.lanes.specs.Slots.{Seen, slot_at, Replaces, StandsSo, StandsAt, AllStand, IsAnswered}
 use Rattle.lanes.specs.Turns.{Says, Stands, Comes, Turns, Faulty, closing}
 use Rattle.lanes.proofs.Saying.{StopsAt, says_piece, says_else, stops_at}
-use Rattle.lanes.proofs.Standing.{SameOn, same_on, nothing_on, idle, seen_same, enter, leave_off, all_free, client_left, client_left_too, passed_over, begun, begun_says, begun_same}
+use Rattle.lanes.proofs.Standing.{SameOn, same_on, nothing_on, idle, seen_same, enter, leave_off}
+use Rattle.lanes.proofs.Closing.{all_free, client_left, client_left_too, passed_over, begun, begun_says, begun_same}
 use Rattle.lanes.proofs.Turning.{run_more, says_close, ends_step}
 
 pub nothing_begun : (limits : Limits) → IsBegun limits [] 1

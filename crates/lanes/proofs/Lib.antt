@@ -1,5 +1,6 @@
 pub mod Saying
 pub mod Standing
+pub mod Closing
 pub mod Turning
 pub mod Requests
 pub mod Seeing

@@ -3,7 +3,8 @@ use Rattle.std.proofs.Common.{◌≡◌, ◌≢◌, ℕ, ◌<◌, List, [], ◌�
 use Rattle.resp.specs.declared.limits.Limits.{Limits}
 use Rattle.resp.specs.declared.place.Span.{Span}
 use Rattle.resp.specs.Parsing.{arguments_in, IsFound}
-use Rattle.resp.specs.Replies.{Reply, reply_of}
+use Rattle.resp.specs.Replies.{Token, token}
+use Rattle.std.specs.List.{flat_map}
 use Rattle.resp.specs.Requests.{Command, command, arguments_of, Array, Negative, Inline}
 use Rattle.lanes.specs.declared.service.Next.{Next}
 use Rattle.lanes.specs.declared.service.Next.TheVariants.{GoOn, WakeAll, End}
@@ -15,7 +16,7 @@ command_some (Array a) = omega arith
 command_some (Negative n) = omega arith
 command_some (Inline text) = omega (arith, length-append text (10 ∷ []))
 
-next_is : (next : Next) (what : Command) (r : Reply) → NextIs next (Answered what r next)
+next_is : (next : Next) (what : Command) (r : List Token) → NextIs next (Answered what r next)
 next_is GoOn what r = λ e. (let none : ⊥ = cc in none)
 next_is WakeAll what r = λ e. (let none : ⊥ = cc in none)
 next_is End what r = refl
@@ -24,7 +25,7 @@ some_arguments : (bytes : List ℕ) (spans : List Span) → 0 < length spans →
 some_arguments bytes [] some = absurd (omega arith)
 some_arguments bytes (s ∷ spans) some = omega arith
 
-pub took_request : {X : Type 0} (does : X → Call → X → Type 0) (limits : Limits) (c : ℕ) (x y : X) (bytes : List ℕ) (spans : List Span) (n : ℕ) (next : Next) (r : Reply) (old out : List ℕ) → IsFound limits bytes spans n → 0 < length spans → does x (Asked c (arguments_in bytes spans) r next) y → out ≡ old ++ reply_of r → TakesWhole does limits c x y bytes n next old out
+pub took_request : {X : Type 0} (does : X → Call → X → Type 0) (limits : Limits) (c : ℕ) (x y : X) (bytes : List ℕ) (spans : List Span) (n : ℕ) (next : Next) (r : List Token) (old out : List ℕ) → IsFound limits bytes spans n → 0 < length spans → does x (Asked c (arguments_in bytes spans) r next) y → out ≡ old ++ flat_map token r → TakesWhole does limits c x y bytes n next old out
 took_request does limits c x y bytes spans n next r old out found some step is = record {
   what = Answered found.value r next;
   step = (let P : List (List ℕ) → Type 0 = λ l. does x (Asked c l r next) y in subst P found.arguments step);

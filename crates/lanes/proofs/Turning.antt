@@ -21,7 +21,8 @@ use Rattle.lanes.specs.Served.{IsBegunBy}
 use Rattle.lanes.specs.Slots.{IsAnswered, InTurn, Replaces}
 use Rattle.lanes.specs.Turns.{Says, Stands, Turns, Faulty, NextIs, TakesWhole, goes_on, closing, AnswersSo}
 use Rattle.lanes.proofs.Saying.{StopsAt, stops_at, says_piece, says_nothing, says_else}
-use Rattle.lanes.proofs.Standing.{asked-append, replied-append, taken-append, go_on-append, took, wrote, leave_off, shut, begun_turn, begun_answered, begun_closed, begun_same}
+use Rattle.lanes.proofs.Standing.{asked-append, replied-append, taken-append, go_on-append, took, wrote, leave_off, shut}
+use Rattle.lanes.proofs.Closing.{begun_turn, begun_answered, begun_closed, begun_same}
 
 pub run_more : {X : Type 0} (does : X → Call → X → Type 0) (steps : List Step) (x m y : X) (s : Step) → Run does x steps m → Does does m s y → Run does x (steps ++ s ∷ []) y
 run_more {X} does [] x m y s run step =

@@ -6,7 +6,7 @@ use Rattle.resp.specs.Requests.{command, IsAdmitted, longest}
 use Rattle.resp.specs.declared.outcome.Fault.{Fault}
 use Rattle.resp.specs.declared.outcome.Fault.TheVariants.{ArrayLength, Mark, StringLength, StringEnd, LongLine, Quote, Control}
 use Rattle.resp.specs.Parsing.{IsCause}
-use Rattle.resp.specs.Replies.{reply_of, Failure}
+use Rattle.resp.specs.Replies.{token, Failure}
 use Rattle.lanes.specs.declared.frame.Head.{Head}
 use Rattle.lanes.specs.declared.frame.Kind.{Kind}
 use Rattle.lanes.specs.declared.frame.Kind.TheVariants.{Data, Open, Close, Wake}
@@ -39,7 +39,7 @@ fault_text Quote = codes "ERR Protocol error: unbalanced quotes in request"
 fault_text Control = codes "ERR Protocol error: control character in request"
 
 abbrev pub protocol_error : Fault → List ℕ
-protocol_error fault = reply_of (Failure (fault_text fault))
+protocol_error fault = token (Failure (fault_text fault))
 
 -- No whole request stands at the front of what is held: it has the beginning of one, and fewer bytes behind that than it
 -- lacks at least. Once so many bytes are there as are wanted, it is looked at again.

@@ -5,7 +5,7 @@ use Rattle.lanes.specs.declared.slots.Slot.{Slot}
 use Rattle.lanes.specs.Lanes.{IsOver}
 use Rattle.lanes.specs.Slots.{Seen, IsAnswered, Replaces}
 use Rattle.lanes.specs.Turns.{Turns, AnswersSo, seen_after, IsWithin}
-use Rattle.lanes.proofs.Standing.{begun_answered, begun_closed}
+use Rattle.lanes.proofs.Closing.{begun_answered, begun_closed}
 use Rattle.lanes.proofs.Turning.{turn_wrote, turn_faulty, answers_faulty, stands_held, stands_shut, shut_faulty}
 use Rattle.lanes.proofs.answering.answer.Goals as goal
 

@@ -10,7 +10,7 @@ use Rattle.lanes.specs.declared.taking.Taken.{Taken}
 use Rattle.lanes.specs.Lanes.{protocol_error, IsOver}
 use Rattle.lanes.specs.Slots.{IsAnswered}
 use Rattle.lanes.specs.Turns.{Turns, Takes, TakesWhole, goes_on}
-use Rattle.lanes.proofs.Standing.{begun_answered}
+use Rattle.lanes.proofs.Closing.{begun_answered}
 use Rattle.lanes.proofs.Turning.{turn_more, turn_last, turn_bad, turn_wrote, turn_faulty, begun_rest, not_end, is_end}
 use Rattle.lanes.proofs.answering.answer_all.Goals as goal
 
