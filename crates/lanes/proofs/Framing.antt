@@ -1,19 +1,18 @@
 -- A frame that came is dealt with.
-use Rattle.std.proofs.Common.{◌≡◌, ℕ, ◌+◌, ◌<◌, ◌≤◌, Bool, true, false, List, [], ◌∷◌, ◌++◌, length, map, refl, sym, ap, ◌∙◌, arith, append_assoc, append-nil, subst}
+use Rattle.std.proofs.Common.{◌≡◌, ℕ, ◌<◌, Bool, true, false, List, [], ◌∷◌, ◌++◌, length, refl, sym, ap, ◌∙◌, arith, append_assoc, subst}
 use Rattle.std.proofs.lemmas.List.{map-append}
 use Rattle.resp.specs.declared.limits.Limits.{Limits}
-use Rattle.resp.specs.Requests.{command, IsAdmitted, longest}
 use Rattle.resp.proofs.Commands.{nothing_there}
 use Rattle.lanes.specs.declared.slots.Slot.{Slot}
 use Rattle.lanes.specs.declared.service.Woken.{Woken}
 use Rattle.lanes.specs.Marks.{Mark, Piece, Stop, Else, stops}
-use Rattle.lanes.specs.Calls.{Call, Left, Awake, Exchange, Step, Ended, Woke, step_mark, step_marks, Run}
-use Rattle.lanes.specs.Lanes.{Frame, frame_mark, marks, IsBegun, IsOpen, AreSettled}
+use Rattle.lanes.specs.Calls.{Call, Left, Awake, Exchange, Step, Ended, Woke, step_mark, step_marks}
+use Rattle.lanes.specs.Lanes.{Frame, frame_mark, marks, IsBegun, AreSettled}
 use Rattle.lanes.specs.Served.{AreBegun, Served, Begun}
 use Rattle.lanes.specs.Slots.{Seen, slot_at, Replaces, StandsSo, StandsAt, AllStand, IsAnswered}
 use Rattle.lanes.specs.Turns.{Says, Stands, Comes, Turns, Faulty, closing}
 use Rattle.lanes.proofs.Saying.{StopsAt, says_piece, says_else, stops_at}
-use Rattle.lanes.proofs.Standing.{SameOn, same_on, nothing_on, idle, seen_same, enter, leave_off}
+use Rattle.lanes.proofs.Standing.{same_on, nothing_on, idle, seen_same, enter, leave_off}
 use Rattle.lanes.proofs.Closing.{all_free, client_left, client_left_too, passed_over, begun, begun_says, begun_same}
 use Rattle.lanes.proofs.Turning.{run_more, says_close, ends_step}
 

@@ -1,14 +1,14 @@
 -- A request is taken.
-use Rattle.std.proofs.Common.{◌≡◌, ◌≢◌, ℕ, ◌<◌, List, [], ◌∷◌, ◌++◌, length, refl, sym, ap, ◌∙◌, arith, append-nil, length-append, subst}
+use Rattle.std.proofs.Common.{◌≡◌, ℕ, ◌<◌, List, [], ◌∷◌, ◌++◌, length, refl, sym, ap, ◌∙◌, arith, append-nil, length-append, subst}
 use Rattle.resp.specs.declared.limits.Limits.{Limits}
 use Rattle.resp.specs.declared.place.Span.{Span}
 use Rattle.resp.specs.Parsing.{arguments_in, IsFound}
 use Rattle.resp.specs.Replies.{Token, token}
 use Rattle.std.specs.List.{flat_map}
-use Rattle.resp.specs.Requests.{Command, command, arguments_of, Array, Negative, Inline}
+use Rattle.resp.specs.Requests.{Command, command, Array, Negative, Inline}
 use Rattle.lanes.specs.declared.service.Next.{Next}
 use Rattle.lanes.specs.declared.service.Next.TheVariants.{GoOn, WakeAll, End}
-use Rattle.lanes.specs.Calls.{Call, Asked, Exchange, Answered, Passed}
+use Rattle.lanes.specs.Calls.{Call, Asked, Answered, Passed}
 use Rattle.lanes.specs.Turns.{NextIs, TakesWhole}
 
 command_some : (a : Command) → 0 < length (command a)

@@ -1,16 +1,11 @@
 -- How connections stand, as frames come, requests are taken and frames are sent.
-use Rattle.std.proofs.Common.{◌≡◌, ◌≢◌, ◌⊎◌, ℕ, ◌+◌, ◌<◌, zero, suc, inl, inr, Bool, true, false, List, [], ◌∷◌, ◌++◌, length, refl, sym, ap, ◌∙◌, arith, append_assoc, append-nil, length-append, subst}
+use Rattle.std.proofs.Common.{◌≡◌, ◌≢◌, ℕ, ◌<◌, suc, inl, inr, Bool, true, false, List, [], ◌∷◌, ◌++◌, refl, sym, ap, ◌∙◌, arith, append_assoc, append-nil, subst}
 use Rattle.std.proofs.lemmas.Bool.Decides.{eqb_tells}
-use Rattle.std.proofs.lemmas.List.{take-append-le}
-use Rattle.std.specs.Prelude.{take}
 use Rattle.resp.specs.declared.limits.Limits.{Limits}
-use Rattle.resp.specs.Lines.{Lacks, Spoilt}
-use Rattle.resp.specs.Requests.{command, IsAdmitted}
 use Rattle.lanes.specs.declared.slots.Slot.{Slot}
 use Rattle.lanes.specs.Marks.{Mark, said, stops}
-use Rattle.lanes.specs.Calls.{Exchange, request_bytes, reply_bytes, asked, replied, IsTaken, GoesOn, IsLast, AreTaken, AllGoOn}
-use Rattle.lanes.specs.Lanes.{protocol_error, IsBegun, IsOpen, IsBroken, IsEnded, IsOver, IsSettledBy, IsSettledAt}
-use Rattle.lanes.specs.Served.{IsBegunBy, AreBegun}
+use Rattle.lanes.specs.Calls.{Exchange, request_bytes, reply_bytes, asked, replied, AreTaken, AllGoOn}
+use Rattle.lanes.specs.Lanes.{IsBegun, IsOpen, IsOver, IsSettledBy, IsSettledAt}
 use Rattle.lanes.specs.Slots.{Seen, slot_at, Replaces, StandsSo, StandsAt, AllStand, InTurn, IsAnswered}
 use Rattle.lanes.specs.Turns.{Says}
 use Rattle.lanes.proofs.Saying.{StopsAt, said-fresh}

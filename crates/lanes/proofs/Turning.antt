@@ -1,5 +1,5 @@
 -- A turn of a connection, step by step.
-use Rattle.std.proofs.Common.{◌≡◌, ◌≢◌, ℕ, ◌+◌, ◌<◌, ◌≤◌, inl, inr, Bool, true, false, List, [], ◌∷◌, ◌++◌, length, take, drop, map, refl, sym, ap, ◌∙◌, arith, append_assoc, append-nil, length-append, length-drop, take-append-drop, subst}
+use Rattle.std.proofs.Common.{◌≡◌, ◌≢◌, ℕ, ◌+◌, ◌≤◌, inl, inr, true, false, List, [], ◌∷◌, ◌++◌, length, drop, refl, sym, ap, ◌∙◌, arith, append_assoc, append-nil, subst}
 use Rattle.std.proofs.lemmas.List.{map-append, drop-drop}
 use Rattle.std.proofs.Math.Seq.{drop-append_seam}
 use Rattle.resp.specs.declared.limits.Limits.{Limits}
@@ -12,10 +12,9 @@ use Rattle.lanes.specs.declared.service.Next.TheVariants.{GoOn, WakeAll, End}
 use Rattle.lanes.specs.declared.answering.Turned.{Turned}
 use Rattle.lanes.specs.declared.answering.Turned.TheVariants.{Holds, Closes}
 use Rattle.lanes.specs.declared.slots.Slot.{Slot}
-use Rattle.lanes.specs.declared.frame.Head.{Head}
 use Rattle.lanes.specs.declared.frame.Kind.TheVariants.{Data, Wake}
-use Rattle.lanes.specs.Marks.{Mark, Piece, Stop, Else, said, stops}
-use Rattle.lanes.specs.Calls.{Call, Left, Exchange, request_bytes, reply_bytes, asked, replied, IsTaken, GoesOn, IsLast, AreTaken, AllGoOn, Step, Took, Ended, step_mark, step_marks, Does, Run}
+use Rattle.lanes.specs.Marks.{Mark, Piece}
+use Rattle.lanes.specs.Calls.{Call, Left, Exchange, request_bytes, reply_bytes, asked, replied, IsTaken, GoesOn, IsLast, Step, Took, Ended, step_mark, step_marks, Does, Run}
 use Rattle.lanes.specs.Lanes.{Frame, frame_mark, marks, protocol_error, IsBegun, IsOver}
 use Rattle.lanes.specs.Served.{IsBegunBy}
 use Rattle.lanes.specs.Slots.{IsAnswered, InTurn, Replaces}

@@ -11,7 +11,6 @@ use Rattle.lanes.specs.declared.taking.Taken.{Taken}
 use Rattle.lanes.specs.declared.taking.Taken.TheVariants.{Whole, Short, Bad}
 use Rattle.lanes.specs.declared.answering.Turned.{Turned}
 use Rattle.lanes.specs.declared.answering.Turned.TheVariants.{Holds, Closes}
-use Rattle.lanes.specs.declared.frame.Head.{Head}
 use Rattle.lanes.specs.declared.frame.Kind.TheVariants.{Close}
 use Rattle.lanes.specs.declared.slots.Slot.{Slot}
 use Rattle.lanes.specs.Marks.{Mark, said, stops}

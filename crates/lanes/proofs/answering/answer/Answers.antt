@@ -1,10 +1,8 @@
-use Rattle.std.proofs.Common.{◌≡◌, ℕ, ◌+◌, ◌≤◌, List, [], ◌∷◌, ◌++◌, length, drop, refl, sym, ap, ◌∙◌, subst, append-nil}
+use Rattle.std.proofs.Common.{ℕ, List, [], drop, sym, subst, append-nil}
 use Rattle.lanes.specs.declared.answering.Turned.{Turned}
-use Rattle.lanes.specs.declared.answering.Turned.TheVariants.{Holds, Closes}
-use Rattle.lanes.specs.declared.slots.Slot.{Slot}
 use Rattle.lanes.specs.Lanes.{IsOver}
-use Rattle.lanes.specs.Slots.{Seen, IsAnswered, Replaces}
-use Rattle.lanes.specs.Turns.{Turns, AnswersSo, seen_after, IsWithin}
+use Rattle.lanes.specs.Slots.{IsAnswered, Replaces}
+use Rattle.lanes.specs.Turns.{Turns, AnswersSo, seen_after}
 use Rattle.lanes.proofs.Closing.{begun_answered, begun_closed}
 use Rattle.lanes.proofs.Turning.{turn_wrote, turn_faulty, answers_faulty, stands_held, stands_shut, shut_faulty}
 use Rattle.lanes.proofs.answering.answer.Goals as goal

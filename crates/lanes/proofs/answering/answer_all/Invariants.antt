@@ -1,4 +1,4 @@
-use Rattle.std.proofs.Common.{◌≡◌, ℕ, ◌≤◌, ◌-◌, List, length, drop}
+use Rattle.std.proofs.Common.{◌≡◌, ◌≤◌, ◌-◌, List, length, drop}
 use Rattle.lanes.specs.declared.slots.Slot.{Slot}
 use Rattle.lanes.specs.Slots.{IsAnswered}
 use Rattle.lanes.specs.Turns.{Turns}

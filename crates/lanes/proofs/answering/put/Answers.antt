@@ -1,5 +1,4 @@
-use Rattle.std.proofs.Common.{◌≡◌, List, ℕ, ◌++◌, ◌∷◌, [], subst}
-use Rattle.lanes.specs.Lanes.{Frame}
+use Rattle.std.proofs.Common.{List, ℕ, ◌++◌, ◌∷◌, [], subst}
 use Rattle.lanes.specs.declared.frame.Kind.TheVariants.{Data}
 use Rattle.lanes.proofs.Turning.{says_data}
 use Rattle.lanes.proofs.answering.put.Goals as goal

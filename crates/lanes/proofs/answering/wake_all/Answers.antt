@@ -1,5 +1,4 @@
-use Rattle.std.proofs.Common.{List, ℕ, ◌++◌, ◌∷◌, []}
-use Rattle.lanes.specs.declared.frame.Kind.TheVariants.{Wake}
+use Rattle.std.proofs.Common.{[]}
 use Rattle.lanes.proofs.Turning.{says_wake}
 use Rattle.lanes.proofs.answering.wake_all.Goals as goal
 

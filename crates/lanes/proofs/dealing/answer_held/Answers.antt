@@ -1,4 +1,4 @@
-use Rattle.std.proofs.Common.{◌≡◌, ◌≤◌, ℕ, true, false, List, [], length, drop, sym, ap, ◌∙◌, subst, arith, rules}
+use Rattle.std.proofs.Common.{◌≡◌, ◌≤◌, ℕ, false, List, [], length, drop, sym, ap, ◌∙◌, subst, arith, rules}
 use Rattle.lanes.specs.declared.answering.Turned.{Turned}
 use Rattle.lanes.specs.Slots.{Seen, Replaces, IsAnswered}
 use Rattle.lanes.specs.Turns.{Turns, IsWithin, seen_after}

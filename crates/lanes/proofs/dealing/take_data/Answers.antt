@@ -1,6 +1,6 @@
-use Rattle.std.proofs.Common.{◌≡◌, ◌≢◌, ◌<◌, ℕ, true, false, List, [], length, sym, ap, ◌∙◌, subst, arith, rules}
+use Rattle.std.proofs.Common.{◌≡◌, ◌≢◌, ◌<◌, true, false, List, length, sym, ap, ◌∙◌, subst, arith, rules}
 use Rattle.lanes.specs.declared.slots.Slot.{Slot}
-use Rattle.lanes.specs.declared.slots.State.TheVariants.{Free, Running, Over}
+use Rattle.lanes.specs.declared.slots.State.TheVariants.{Free, Running}
 use Rattle.lanes.specs.Marks.{Piece}
 use Rattle.lanes.specs.Slots.{slot_at, is_over}
 use Rattle.lanes.proofs.Seeing.{seen_over}

@@ -1,4 +1,4 @@
-use Rattle.std.proofs.Common.{◌≡◌, ℕ, List, subst, refl}
+use Rattle.std.proofs.Common.{subst}
 use Rattle.lanes.specs.declared.frame.Kind.{Kind}
 use Rattle.lanes.specs.Lanes.{mark_of}
 use Rattle.lanes.specs.Marks.{Else}

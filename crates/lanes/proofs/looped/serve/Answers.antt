@@ -1,8 +1,7 @@
-use Rattle.std.proofs.Common.{◌≡◌, ℕ, List, [], ◌∷◌, ◌++◌, Option, refl, sym, ap, ◌∙◌, subst, rules}
+use Rattle.std.proofs.Common.{◌≡◌, ℕ, List, [], ◌∷◌, ◌++◌, Option, sym, ◌∙◌, subst, rules}
 use Rattle.std.specs.Prelude.{MatchOption}
 use Rattle.resp.specs.declared.limits.Limits.{Limits}
 use Rattle.lanes.specs.declared.frame.Head.{Head}
-use Rattle.lanes.specs.declared.slots.Slot.{Slot}
 use Rattle.lanes.specs.Lanes.{Frame, mark_of, AreSettled}
 use Rattle.lanes.specs.Served.{Served}
 use Rattle.lanes.specs.Turns.{Comes}

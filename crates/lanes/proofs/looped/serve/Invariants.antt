@@ -1,4 +1,4 @@
-use Rattle.std.proofs.Common.{◌≡◌, List, []}
+use Rattle.std.proofs.Common.{◌≡◌, []}
 use Rattle.lanes.specs.Turns.{Stands}
 use Rattle.lanes.proofs.looped.serve.Given as goal
 

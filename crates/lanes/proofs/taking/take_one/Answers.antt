@@ -1,4 +1,4 @@
-use Rattle.std.proofs.Common.{◌≡◌, ℕ, ◌<◌, List, [], ◌++◌, length, refl, subst, rules}
+use Rattle.std.proofs.Common.{◌≡◌, ℕ, ◌<◌, List, ◌++◌, length, refl, subst, rules}
 use Rattle.std.proofs.lemmas.List.{nil_from_length}
 use Rattle.resp.specs.declared.place.Span.{Span}
 use Rattle.resp.specs.declared.outcome.Parsed.{Parsed}
