@@ -1,0 +1,5 @@
+pub mod Stored
+pub mod Arguments
+pub mod Names
+pub mod Ranges
+pub mod Times

@@ -1,0 +1,48 @@
+//! From the arguments of a request to the command that they spell.
+
+use crate::arguments::Arguments;
+use crate::command::Command;
+use crate::fault::{Fault, Request};
+use crate::name::{Name, name_of};
+use crate::special::read_special;
+
+fn by_name<'a>(name: Name, rest: Arguments<'a>, now: u64) -> Result<Command<'a>, Fault<'a>> {
+    match name {
+        Name::Nothing(of) => {
+            if rest.is_empty() {
+                Ok(Command::Nothing(of))
+            } else {
+                Err(Fault::Count(name))
+            }
+        }
+        Name::Key(of) => match rest.one() {
+            Some(key) => Ok(Command::Key(of, key)),
+            None => Err(Fault::Count(name)),
+        },
+        Name::Keys(of) => {
+            if rest.is_empty() {
+                Err(Fault::Count(name))
+            } else {
+                Ok(Command::Keys(of, rest))
+            }
+        }
+        Name::Pair(of) => match rest.two() {
+            Some((key, value)) => Ok(Command::Pair(of, key, value)),
+            None => Err(Fault::Count(name)),
+        },
+        Name::Special(of) => read_special(of, rest, now),
+    }
+}
+
+/// The command that a request's arguments spell, its name and options in upper or lower case or both, at a time in
+/// milliseconds since 1970. Where they spell none, the fault that Redis finds first: an unknown name, the count of
+/// arguments, the options, and then numbers.
+pub fn read<'a>(request: Arguments<'a>, now: u64) -> Result<Command<'a>, Fault<'a>> {
+    let Some((first, rest)) = request.split_first() else {
+        return Err(Fault::Unknown(Request(request)));
+    };
+    match name_of(first) {
+        Some(name) => by_name(name, rest, now),
+        None => Err(Fault::Unknown(Request(request))),
+    }
+}
