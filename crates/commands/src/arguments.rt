@@ -1,5 +1,5 @@
 //! The arguments of a request, lent from its bytes.
-ghost use Rattle.std.specs.Prelude.{◌≡◌, ◌≢◌, ◌≤◌, [], ◌∷◌, length, drop, slice_get, MatchOption};
+ghost use Rattle.std.specs.Prelude.{◌≡◌, ◌≢◌, ◌≤◌, ◌↔◌, [], ◌∷◌, length, drop, slice_get, IsTrue, MatchOption};
 ghost use Rattle.commands.specs.Arguments.{argument_in, listed};
 
 use crate::place::Span;
@@ -26,7 +26,9 @@ impl<'a> Arguments<'a> {
         self.spans.len()
     }
 
-    pub fn is_empty(&self) -> bool {
+    pub fn is_empty(&self) -> bool
+        ensures { IsTrue result ↔ (length (listed self.now) ≡ 0) }
+    {
         self.spans.is_empty()
     }
 

@@ -1,4 +1,7 @@
 //! From the arguments of a request to the command that they spell.
+ghost use Rattle.std.specs.Prelude.{IfOk, IsOk};
+ghost use Rattle.commands.specs.Arguments.{listed};
+ghost use Rattle.commands.specs.Commands.{IsSpelt, IsCounted, Spells};
 
 use crate::arguments::Arguments;
 use crate::command::Command;
@@ -6,7 +9,10 @@ use crate::fault::{Fault, Request};
 use crate::name::{Name, name_of};
 use crate::special::read_special;
 
-fn by_name<'a>(name: Name, rest: Arguments<'a>, now: u64) -> Result<Command<'a>, Fault<'a>> {
+fn by_name<'a>(name: Name, rest: Arguments<'a>, now: u64) -> Result<Command<'a>, Fault<'a>>
+    ensures spelt { IfOk result (λ c. IsSpelt name (listed rest.entry) c) }
+    ensures counted { IsCounted name (listed rest.entry) → IsOk result }
+{
     match name {
         Name::Nothing(of) => {
             if rest.is_empty() {
@@ -37,12 +43,14 @@ fn by_name<'a>(name: Name, rest: Arguments<'a>, now: u64) -> Result<Command<'a>,
 /// The command that a request's arguments spell, its name and options in upper or lower case or both, at a time in
 /// milliseconds since 1970. Where they spell none, the fault that Redis finds first: an unknown name, the count of
 /// arguments, the options, and then numbers.
-pub fn read<'a>(request: Arguments<'a>, now: u64) -> Result<Command<'a>, Fault<'a>> {
+pub fn read<'a>(request: Arguments<'a>, now: u64) -> Result<Command<'a>, Fault<'a>>
+    ensures { IfOk result (λ c. Spells (listed request.entry) c) }
+{
     let Some((first, rest)) = request.split_first() else {
         return Err(Fault::Unknown(Request(request)));
     };
-    match name_of(first) {
-        Some(name) => by_name(name, rest, now),
-        None => Err(Fault::Unknown(Request(request))),
-    }
+    let Some(name) = name_of(first) else {
+        return Err(Fault::Unknown(Request(request)));
+    };
+    by_name(name, rest, now)
 }
