@@ -1,4 +1,8 @@
 //! Commands whose arguments are their own.
+ghost use Rattle.std.specs.Prelude.{◌≡◌, [], ◌∷◌, IfOk};
+ghost use Rattle.std.specs.Fmt.{signed_decimal};
+ghost use Rattle.commands.specs.Arguments.{listed};
+ghost use Rattle.commands.specs.Commands.{IsAdd, IsSpecial};
 
 use crate::arguments::Arguments;
 use crate::command::{Change, Command, Lifetime, Where};
@@ -8,11 +12,15 @@ use crate::number::whole_number;
 use crate::options::{Optioned, deadline_of, lifetime_of, only_of, options_of};
 use crate::time::{Clock, Time};
 
-fn number<'a>(bytes: &[u8]) -> Result<i64, Fault<'a>> {
+fn number<'a>(bytes: &[u8]) -> Result<i64, Fault<'a>>
+    ensures { IfOk result (λ z. bytes.now ≡ signed_decimal z) }
+{
     whole_number(bytes).ok_or(Fault::Number)
 }
 
-fn set<'a>(rest: Arguments<'a>, now: u64) -> Result<Command<'a>, Fault<'a>> {
+fn set<'a>(rest: Arguments<'a>, now: u64) -> Result<Command<'a>, Fault<'a>>
+    ensures { IfOk result (λ c. IsSpecial Special.Set (listed rest.entry) c) }
+{
     let name = Name::Special(Special::Set);
     let (key, rest) = rest.split_first().ok_or(Fault::Count(name))?;
     let (value, words) = rest.split_first().ok_or(Fault::Count(name))?;
@@ -29,7 +37,9 @@ fn set<'a>(rest: Arguments<'a>, now: u64) -> Result<Command<'a>, Fault<'a>> {
     })
 }
 
-fn get_ex<'a>(rest: Arguments<'a>, now: u64) -> Result<Command<'a>, Fault<'a>> {
+fn get_ex<'a>(rest: Arguments<'a>, now: u64) -> Result<Command<'a>, Fault<'a>>
+    ensures { IfOk result (λ c. IsSpecial Special.GetEx (listed rest.entry) c) }
+{
     let name = Name::Special(Special::GetEx);
     let (key, words) = rest.split_first().ok_or(Fault::Count(name))?;
     let said = options_of(Optioned::GetEx, words).ok_or(Fault::Syntax)?;
@@ -43,7 +53,9 @@ fn set_for<'a>(
     clock: Clock,
     rest: Arguments<'a>,
     now: u64,
-) -> Result<Command<'a>, Fault<'a>> {
+) -> Result<Command<'a>, Fault<'a>>
+    ensures { IfOk result (λ c. IsSpecial Special.SetEx (listed rest.entry) c) }
+{
     let name = Name::Special(of);
     let (key, amount, value) = rest.three().ok_or(Fault::Count(name))?;
     let deadline = deadline_of(name, clock, amount, now)?;
@@ -58,7 +70,9 @@ fn set_for<'a>(
     })
 }
 
-fn get_range<'a>(rest: Arguments<'a>) -> Result<Command<'a>, Fault<'a>> {
+fn get_range<'a>(rest: Arguments<'a>) -> Result<Command<'a>, Fault<'a>>
+    ensures { IfOk result (λ c. IsSpecial Special.GetRange (listed rest.entry) c) }
+{
     let name = Name::Special(Special::GetRange);
     let (key, first, last) = rest.three().ok_or(Fault::Count(name))?;
     Ok(Command::GetRange {
@@ -68,7 +82,9 @@ fn get_range<'a>(rest: Arguments<'a>) -> Result<Command<'a>, Fault<'a>> {
     })
 }
 
-fn set_range<'a>(rest: Arguments<'a>) -> Result<Command<'a>, Fault<'a>> {
+fn set_range<'a>(rest: Arguments<'a>) -> Result<Command<'a>, Fault<'a>>
+    ensures { IfOk result (λ c. IsSpecial Special.SetRange (listed rest.entry) c) }
+{
     let name = Name::Special(Special::SetRange);
     let (key, offset, value) = rest.three().ok_or(Fault::Count(name))?;
     let offset = number(offset)?;
@@ -83,12 +99,16 @@ fn set_range<'a>(rest: Arguments<'a>) -> Result<Command<'a>, Fault<'a>> {
 }
 
 /// INCR and DECR.
-fn step<'a>(of: Special, by: i64, rest: Arguments<'a>) -> Result<Command<'a>, Fault<'a>> {
+fn step<'a>(of: Special, by: i64, rest: Arguments<'a>) -> Result<Command<'a>, Fault<'a>>
+    ensures { IfOk result (λ c. IsAdd (λ key n. (listed rest.entry ≡ key.now ∷ []) × (n ≡ by)) c) }
+{
     let key = rest.one().ok_or(Fault::Count(Name::Special(of)))?;
     Ok(Command::Add { key, by })
 }
 
-fn increase<'a>(rest: Arguments<'a>) -> Result<Command<'a>, Fault<'a>> {
+fn increase<'a>(rest: Arguments<'a>) -> Result<Command<'a>, Fault<'a>>
+    ensures { IfOk result (λ c. IsSpecial Special.IncrBy (listed rest.entry) c) }
+{
     let (key, by) = rest
         .two()
         .ok_or(Fault::Count(Name::Special(Special::IncrBy)))?;
@@ -98,7 +118,9 @@ fn increase<'a>(rest: Arguments<'a>) -> Result<Command<'a>, Fault<'a>> {
     })
 }
 
-fn decrease<'a>(rest: Arguments<'a>) -> Result<Command<'a>, Fault<'a>> {
+fn decrease<'a>(rest: Arguments<'a>) -> Result<Command<'a>, Fault<'a>>
+    ensures { IfOk result (λ c. IsSpecial Special.DecrBy (listed rest.entry) c) }
+{
     let (key, by) = rest
         .two()
         .ok_or(Fault::Count(Name::Special(Special::DecrBy)))?;
@@ -106,14 +128,18 @@ fn decrease<'a>(rest: Arguments<'a>) -> Result<Command<'a>, Fault<'a>> {
     Ok(Command::Add { key, by })
 }
 
-fn increase_by_float<'a>(rest: Arguments<'a>) -> Result<Command<'a>, Fault<'a>> {
+fn increase_by_float<'a>(rest: Arguments<'a>) -> Result<Command<'a>, Fault<'a>>
+    ensures { IfOk result (λ c. IsSpecial Special.IncrByFloat (listed rest.entry) c) }
+{
     let (key, by) = rest
         .two()
         .ok_or(Fault::Count(Name::Special(Special::IncrByFloat)))?;
     Ok(Command::AddFloat { key, by })
 }
 
-fn set_many<'a>(rest: Arguments<'a>) -> Result<Command<'a>, Fault<'a>> {
+fn set_many<'a>(rest: Arguments<'a>) -> Result<Command<'a>, Fault<'a>>
+    ensures { IfOk result (λ c. IsSpecial Special.MSet (listed rest.entry) c) }
+{
     if rest.is_empty() || rest.len() % 2 != 0 {
         return Err(Fault::Count(Name::Special(Special::MSet)));
     }
@@ -126,7 +152,9 @@ fn expire<'a>(
     clock: Clock,
     rest: Arguments<'a>,
     now: u64,
-) -> Result<Command<'a>, Fault<'a>> {
+) -> Result<Command<'a>, Fault<'a>>
+    ensures { IfOk result (λ c. IsSpecial Special.Expire (listed rest.entry) c) }
+{
     let name = Name::Special(of);
     let (key, rest) = rest.split_first().ok_or(Fault::Count(name))?;
     let (amount, words) = rest.split_first().ok_or(Fault::Count(name))?;
@@ -142,7 +170,9 @@ fn expire<'a>(
     })
 }
 
-fn ping<'a>(rest: Arguments<'a>) -> Result<Command<'a>, Fault<'a>> {
+fn ping<'a>(rest: Arguments<'a>) -> Result<Command<'a>, Fault<'a>>
+    ensures { IfOk result (λ c. IsSpecial Special.Ping (listed rest.entry) c) }
+{
     if rest.is_empty() {
         return Ok(Command::Ping(None));
     }
@@ -152,7 +182,9 @@ fn ping<'a>(rest: Arguments<'a>) -> Result<Command<'a>, Fault<'a>> {
     Ok(Command::Ping(Some(text)))
 }
 
-fn echo<'a>(rest: Arguments<'a>) -> Result<Command<'a>, Fault<'a>> {
+fn echo<'a>(rest: Arguments<'a>) -> Result<Command<'a>, Fault<'a>>
+    ensures { IfOk result (λ c. IsSpecial Special.Echo (listed rest.entry) c) }
+{
     let text = rest
         .one()
         .ok_or(Fault::Count(Name::Special(Special::Echo)))?;
@@ -164,7 +196,9 @@ pub(crate) fn read_special<'a>(
     of: Special,
     rest: Arguments<'a>,
     now: u64,
-) -> Result<Command<'a>, Fault<'a>> {
+) -> Result<Command<'a>, Fault<'a>>
+    ensures { IfOk result (λ c. IsSpecial of (listed rest.entry) c) }
+{
     match of {
         Special::Set => set(rest, now),
         Special::GetEx => get_ex(rest, now),
