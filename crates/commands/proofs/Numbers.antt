@@ -1,5 +1,5 @@
 -- Numbers of 64 bits with a sign, as they are spelled.
-use Rattle.std.proofs.Common.{◌≡◌, ℕ, ℤ, ◌<◌, ◌≤◌, ◌^◌, ◌+◌, FitsSigned, List, length, Bool, true, false, Result, Ok, Err, to_z, of_z, lit<, get_or, take, zero, suc, [], ◌∷◌, refl, sym, ap, ◌∙◌, subst, arith, rules}
+use Rattle.std.proofs.Common.{◌≡◌, ℕ, ℤ, ◌<◌, ◌^◌, FitsSigned, List, length, false, Result, Ok, to_z, of_z, lit<, get_or, take, zero, suc, [], ◌∷◌, sym, ap, ◌∙◌, subst, arith, rules}
 use Rattle.std.specs.Int.{w64}
 use Rattle.std.specs.Fmt.{signed_decimal}
 use Rattle.std.specs.Str.{IsUtf8}

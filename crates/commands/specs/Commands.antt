@@ -90,13 +90,23 @@ IsSpelt (names.Pair of) rest (command.Pair is key value) = (is ≡ of) × (rest 
 IsSpelt (names.Special of) rest c = IsSpecial of rest c
 IsSpelt n rest c = ⊥
 
--- there are as many arguments as those take
+-- there are as many arguments as a command takes of which any will do
+abbrev pub IsCountedSpecial : Special → List (List ℕ) → Type 0
+IsCountedSpecial special.Incr rest = length rest ≡ 1
+IsCountedSpecial special.Decr rest = length rest ≡ 1
+IsCountedSpecial special.IncrByFloat rest = length rest ≡ 2
+IsCountedSpecial special.MSet rest = (0 < length rest) × (length rest % 2 ≡ 0)
+IsCountedSpecial special.Ping rest = length rest < 2
+IsCountedSpecial special.Echo rest = length rest ≡ 1
+IsCountedSpecial special.Quit rest = Unit {0}
+IsCountedSpecial of rest = ⊥
+
 abbrev pub IsCounted : Name → List (List ℕ) → Type 0
 IsCounted (names.Nothing of) rest = length rest ≡ 0
 IsCounted (names.Key of) rest = length rest ≡ 1
 IsCounted (names.Keys of) rest = 0 < length rest
 IsCounted (names.Pair of) rest = length rest ≡ 2
-IsCounted (names.Special of) rest = ⊥
+IsCounted (names.Special of) rest = IsCountedSpecial of rest
 
 -- the first of all arguments is a name, in any case, and the others spell the command
 pub record Spells (arguments : List (List ℕ)) (c : Command) : Type 0 where

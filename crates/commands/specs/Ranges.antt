@@ -1,5 +1,5 @@
 -- Parts of a value by places that may count from its end.
-use Rattle.std.specs.Prelude.{ℕ, ℤ, pos, negsuc, ◌-◌, ◌<◌, ◌≤◌, ◌≤ℤ◌, ◌↔◌, suc}
+use Rattle.std.specs.Prelude.{ℕ, ℤ, pos, negsuc, ◌-◌, ◌<◌, ◌≤◌, suc}
 use Rattle.commands.specs.declared.range.Range.{Range}
 
 -- -1 is the last of so many

@@ -1,5 +1,8 @@
 //! From the arguments of a request to the command that they spell.
-ghost use Rattle.std.specs.Prelude.{IfOk, IsOk};
+ghost use Rattle.std.specs.Prelude.{◌≡◌, ℕ, List, ◌∷◌, map, IfOk, IsOk};
+ghost use Rattle.std.specs.Char.{to_ascii_lowercase};
+ghost use Rattle.commands.specs.declared.name.Name.{Name as any_name};
+ghost use Rattle.commands.specs.Names.{text_of};
 ghost use Rattle.commands.specs.Arguments.{listed};
 ghost use Rattle.commands.specs.Commands.{IsSpelt, IsCounted, Spells};
 
@@ -44,7 +47,10 @@ fn by_name<'a>(name: Name, rest: Arguments<'a>, now: u64) -> Result<Command<'a>,
 /// milliseconds since 1970. Where they spell none, the fault that Redis finds first: an unknown name, the count of
 /// arguments, the options, and then numbers.
 pub fn read<'a>(request: Arguments<'a>, now: u64) -> Result<Command<'a>, Fault<'a>>
-    ensures { IfOk result (λ c. Spells (listed request.entry) c) }
+    ensures spelt { IfOk result (λ c. Spells (listed request.entry) c) }
+    // Where any arguments will do, and there are as many as the name takes, it is a command.
+    ensures counted { (n : any_name) (first : List ℕ) (rest : List (List ℕ)) → listed request.entry ≡ first ∷ rest
+        → map to_ascii_lowercase first ≡ text_of n → IsCounted n rest → IsOk result }
 {
     let Some((first, rest)) = request.split_first() else {
         return Err(Fault::Unknown(Request(request)));

@@ -1,8 +1,8 @@
 //! Commands whose arguments are their own.
-ghost use Rattle.std.specs.Prelude.{◌≡◌, [], ◌∷◌, IfOk};
+ghost use Rattle.std.specs.Prelude.{◌≡◌, [], ◌∷◌, IfOk, IsOk};
 ghost use Rattle.std.specs.Fmt.{signed_decimal};
 ghost use Rattle.commands.specs.Arguments.{listed};
-ghost use Rattle.commands.specs.Commands.{IsAdd, IsSpecial};
+ghost use Rattle.commands.specs.Commands.{IsAdd, IsCountedSpecial, IsSpecial};
 
 use crate::arguments::Arguments;
 use crate::command::{Change, Command, Lifetime, Where};
@@ -100,7 +100,8 @@ fn set_range<'a>(rest: Arguments<'a>) -> Result<Command<'a>, Fault<'a>>
 
 /// INCR and DECR.
 fn step<'a>(of: Special, by: i64, rest: Arguments<'a>) -> Result<Command<'a>, Fault<'a>>
-    ensures { IfOk result (λ c. IsAdd (λ key n. (listed rest.entry ≡ key.now ∷ []) × (n ≡ by)) c) }
+    ensures spelt { IfOk result (λ c. IsAdd (λ key n. (listed rest.entry ≡ key.now ∷ []) × (n ≡ by)) c) }
+    ensures counted { IsCountedSpecial Special.Incr (listed rest.entry) → IsOk result }
 {
     let key = rest.one().ok_or(Fault::Count(Name::Special(of)))?;
     Ok(Command::Add { key, by })
@@ -129,7 +130,8 @@ fn decrease<'a>(rest: Arguments<'a>) -> Result<Command<'a>, Fault<'a>>
 }
 
 fn increase_by_float<'a>(rest: Arguments<'a>) -> Result<Command<'a>, Fault<'a>>
-    ensures { IfOk result (λ c. IsSpecial Special.IncrByFloat (listed rest.entry) c) }
+    ensures spelt { IfOk result (λ c. IsSpecial Special.IncrByFloat (listed rest.entry) c) }
+    ensures counted { IsCountedSpecial Special.IncrByFloat (listed rest.entry) → IsOk result }
 {
     let (key, by) = rest
         .two()
@@ -138,7 +140,8 @@ fn increase_by_float<'a>(rest: Arguments<'a>) -> Result<Command<'a>, Fault<'a>>
 }
 
 fn set_many<'a>(rest: Arguments<'a>) -> Result<Command<'a>, Fault<'a>>
-    ensures { IfOk result (λ c. IsSpecial Special.MSet (listed rest.entry) c) }
+    ensures spelt { IfOk result (λ c. IsSpecial Special.MSet (listed rest.entry) c) }
+    ensures counted { IsCountedSpecial Special.MSet (listed rest.entry) → IsOk result }
 {
     if rest.is_empty() || rest.len() % 2 != 0 {
         return Err(Fault::Count(Name::Special(Special::MSet)));
@@ -171,7 +174,8 @@ fn expire<'a>(
 }
 
 fn ping<'a>(rest: Arguments<'a>) -> Result<Command<'a>, Fault<'a>>
-    ensures { IfOk result (λ c. IsSpecial Special.Ping (listed rest.entry) c) }
+    ensures spelt { IfOk result (λ c. IsSpecial Special.Ping (listed rest.entry) c) }
+    ensures counted { IsCountedSpecial Special.Ping (listed rest.entry) → IsOk result }
 {
     if rest.is_empty() {
         return Ok(Command::Ping(None));
@@ -183,7 +187,8 @@ fn ping<'a>(rest: Arguments<'a>) -> Result<Command<'a>, Fault<'a>>
 }
 
 fn echo<'a>(rest: Arguments<'a>) -> Result<Command<'a>, Fault<'a>>
-    ensures { IfOk result (λ c. IsSpecial Special.Echo (listed rest.entry) c) }
+    ensures spelt { IfOk result (λ c. IsSpecial Special.Echo (listed rest.entry) c) }
+    ensures counted { IsCountedSpecial Special.Echo (listed rest.entry) → IsOk result }
 {
     let text = rest
         .one()
@@ -197,7 +202,8 @@ pub(crate) fn read_special<'a>(
     rest: Arguments<'a>,
     now: u64,
 ) -> Result<Command<'a>, Fault<'a>>
-    ensures { IfOk result (λ c. IsSpecial of (listed rest.entry) c) }
+    ensures spelt { IfOk result (λ c. IsSpecial of (listed rest.entry) c) }
+    ensures counted { IsCountedSpecial of (listed rest.entry) → IsOk result }
 {
     match of {
         Special::Set => set(rest, now),

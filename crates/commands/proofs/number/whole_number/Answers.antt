@@ -1,7 +1,5 @@
 -- A spelling is short, is text, and parses to its number.
-use Rattle.std.proofs.Common.{◌≡◌, ℕ, ℤ, Result, Ok, Err, arith, refl, sym, ap, ◌∙◌}
-use Rattle.std.specs.Int.{w64}
-use Rattle.std.specs.Fmt.{signed_decimal}
+use Rattle.std.proofs.Common.{ℕ, Ok, Err, arith, refl, sym, ◌∙◌}
 use Rattle.commands.proofs.Numbers.{too_long, is_text, parsed, not_other}
 use Rattle.commands.proofs.number.whole_number.Goals as goal
 

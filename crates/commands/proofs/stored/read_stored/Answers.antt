@@ -1,5 +1,5 @@
 -- Eight bytes are what their number is written as.
-use Rattle.std.proofs.Common.{◌≡◌, ℕ, ◌++◌, ◌<◌, ◌^◌, take, drop, length, arith, sym, ap, ◌∙◌, take-append-drop, length-take-le}
+use Rattle.std.proofs.Common.{◌≡◌, ◌++◌, take, drop, length, arith, sym, ap, ◌∙◌, take-append-drop, length-take-le}
 use Rattle.std.specs.Int.{w64, to_be_bytes, from_be_bytes}
 use Rattle.std.proofs.lemmas.Nat.{be_bytes_8}
 use Rattle.commands.proofs.Numbers.{bytes_taken}
