@@ -1,1 +1,4 @@
 pub mod Numbers
+pub mod Classes
+pub mod Matching
+pub mod Choices

@@ -12,6 +12,7 @@ use Rattle.commands.specs.declared.arguments.Arguments.{Arguments}
 use Rattle.commands.specs.Arguments.{listed}
 use denote.Ref.{Bor}
 use Rattle.commands.specs.Names.{text_of}
+use Rattle.commands.specs.Servers.{IsAsked, IsCountedServer}
 
 -- ---- which command it is, and what is said of its parts
 
@@ -88,6 +89,7 @@ IsSpelt (names.Key of) rest (command.Key is key) = (is ≡ of) × (rest ≡ key.
 IsSpelt (names.Keys of) rest (command.Keys is keys) = (is ≡ of) × (listed keys ≡ rest) × (0 < length rest)
 IsSpelt (names.Pair of) rest (command.Pair is key value) = (is ≡ of) × (rest ≡ key.now ∷ value.now ∷ [])
 IsSpelt (names.Special of) rest c = IsSpecial of rest c
+IsSpelt (names.Server of) rest (command.Server c) = IsAsked of rest c
 IsSpelt n rest c = ⊥
 
 -- there are as many arguments as a command takes of which any will do
@@ -107,6 +109,7 @@ IsCounted (names.Key of) rest = length rest ≡ 1
 IsCounted (names.Keys of) rest = 0 < length rest
 IsCounted (names.Pair of) rest = length rest ≡ 2
 IsCounted (names.Special of) rest = IsCountedSpecial of rest
+IsCounted (names.Server of) rest = IsCountedServer of rest
 
 -- the first of all arguments is a name, in any case, and the others spell the command
 pub record Spells (arguments : List (List ℕ)) (c : Command) : Type 0 where

@@ -2,5 +2,8 @@ pub mod Stored
 pub mod Arguments
 pub mod Commands
 pub mod Names
+pub mod Patterns
 pub mod Ranges
+pub mod ServerNames
+pub mod Servers
 pub mod Times

@@ -10,6 +10,7 @@ use Rattle.commands.specs.declared.name.OfPair.{OfPair}
 use Rattle.commands.specs.declared.name.OfPair.TheVariants as of_pair
 use Rattle.commands.specs.declared.name.Special.{Special}
 use Rattle.commands.specs.declared.name.Special.TheVariants as special
+use Rattle.commands.specs.ServerNames.{server_text}
 use Rattle.commands.specs.declared.name.Name.{Name}
 use Rattle.commands.specs.declared.name.Name.TheVariants as name
 
@@ -71,3 +72,4 @@ text_of (name.Key x) = key_text x
 text_of (name.Keys x) = keys_text x
 text_of (name.Pair x) = pair_text x
 text_of (name.Special x) = special_text x
+text_of (name.Server x) = server_text x

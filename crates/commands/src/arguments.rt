@@ -1,8 +1,9 @@
 //! The arguments of a request, lent from its bytes.
 ghost use Rattle.std.specs.Prelude.{◌≡◌, ◌≢◌, ◌≤◌, ◌↔◌, [], ◌∷◌, length, drop, slice_get, IsTrue, MatchOption};
-ghost use Rattle.commands.specs.Arguments.{argument_in, listed};
+ghost use Rattle.resp.specs.Parsing.{argument_in};
+ghost use Rattle.commands.specs.Arguments.{listed};
 
-use crate::place::Span;
+use resp::Span;
 
 /// Byte strings that lie in a buffer at these places, in this order. Of a place that reaches behind the buffer's end, the
 /// argument is what the buffer has there.

@@ -2,6 +2,7 @@
 
 use crate::arguments::Arguments;
 use crate::name::{OfKey, OfKeys, OfNothing, OfPair};
+use crate::server::ServerCommand;
 
 /// A command, whose keys and values are lent from the request.
 #[derive(Clone, Copy)]
@@ -61,6 +62,8 @@ pub enum Command<'a> {
     Echo(&'a [u8]),
     /// QUIT.
     Quit,
+    /// A command to the server itself.
+    Server(ServerCommand<'a>),
 }
 
 /// Where SET writes.

@@ -1,7 +1,8 @@
 //! Why a request asks for nothing that there is, in Redis's words.
 
-use crate::arguments::Arguments;
 use crate::name::Name;
+use crate::server_name::{Container, Subcommand};
+use crate::shown::{Request, Shown};
 use std::alloc::AllocError;
 use std::fmt;
 use thiserror::Error;
@@ -12,9 +13,24 @@ pub enum Fault<'a> {
     /// No command has the name.
     #[error("ERR unknown command {0}")]
     Unknown(Request<'a>),
+    /// A command of Redis that is not answered here, by its name in lower case.
+    #[error("ERR '{0}' is not supported by farserve")]
+    Refused(&'static str),
+    /// KEYS, which would hold a lane up while it went over all keys.
+    #[error("ERR 'keys' is not supported by farserve, use SCAN")]
+    Keys,
+    /// A word behind a command's name that names no part of it.
+    #[error("ERR unknown subcommand '{1}'. Try {0} HELP.")]
+    Subcommand(Container, Shown<'a>),
     /// More or fewer arguments than the command takes.
     #[error("ERR wrong number of arguments for '{0}' command")]
     Count(Name),
+    /// More or fewer than its part takes.
+    #[error("ERR wrong number of arguments for '{0}' command")]
+    SubcommandCount(Subcommand),
+    /// More than SLOWLOG GET takes; the word as it was spelled.
+    #[error("ERR unknown subcommand or wrong number of arguments for '{0}'. Try SLOWLOG HELP.")]
+    SlowLogCount(Shown<'a>),
     /// An option that the command does not have, that another one excludes, or whose value is missing.
     #[error("ERR syntax error")]
     Syntax,
@@ -39,72 +55,36 @@ pub enum Fault<'a> {
     /// GT beside LT.
     #[error("ERR GT and LT options at the same time are not compatible")]
     LaterAndEarlier,
-}
-
-/// A request of a name that no command has. Its text is the name and the first arguments, each cut as Redis cuts them.
-#[derive(Clone, Copy)]
-pub struct Request<'a>(pub Arguments<'a>);
-
-/// Bytes within an error's text: up to the first NUL, with blanks for CR and LF.
-#[derive(Clone, Copy)]
-pub struct Shown<'a>(pub &'a [u8]);
-
-/// How many bytes of a name, or of all arguments together, an error shows.
-const MOST_SHOWN: usize = 128;
-
-impl<'a> Shown<'a> {
-    /// The bytes before the first NUL, and at most so many.
-    fn cut(self, most: usize) -> &'a [u8] {
-        let end = self.0.iter().take(most).position(|byte| *byte == 0);
-        &self.0[..end.unwrap_or(most).min(self.0.len())]
-    }
-
-    /// Without CR and LF at the end, which Redis leaves out where a text ends.
-    fn trimmed(self) -> Shown<'a> {
-        let cut = self.cut(self.0.len());
-        let kept = cut
-            .iter()
-            .rposition(|byte| *byte != b'\r' && *byte != b'\n');
-        Shown(&cut[..kept.map_or(0, |last| last + 1)])
-    }
-
-    fn push_cut(self, most: usize, out: &mut Vec<u8>) -> Result<(), AllocError> {
-        for byte in self.cut(most) {
-            let shown = match *byte {
-                b'\r' | b'\n' => b' ',
-                other => other,
-            };
-            out.push(shown)?;
-        }
-        Ok(())
-    }
-}
-
-impl Request<'_> {
-    fn push_text(self, out: &mut Vec<u8>) -> Result<(), AllocError> {
-        let Some((name, rest)) = self.0.split_first() else {
-            out.extend_from_slice(b"'', with args beginning with: ")?;
-            return Ok(());
-        };
-        out.push(b'\'')?;
-        Shown(name).push_cut(MOST_SHOWN, out)?;
-        out.extend_from_slice(b"', with args beginning with: ")?;
-        let mut room = MOST_SHOWN;
-        for index in 0..rest.len() {
-            let Some(argument) = rest.get(index) else {
-                break;
-            };
-            if room == 0 {
-                break;
-            }
-            let shown = Shown(argument).cut(room).len();
-            out.push(b'\'')?;
-            Shown(argument).push_cut(room, out)?;
-            out.extend_from_slice(b"' ")?;
-            room = room.saturating_sub(shown.saturating_add(3));
-        }
-        Ok(())
-    }
+    /// HELLO with another protocol than 2.
+    #[error("NOPROTO unsupported protocol version")]
+    Protocol,
+    /// HELLO with a protocol that is no number.
+    #[error("ERR Protocol version is not an integer or out of range")]
+    ProtocolNumber,
+    /// An option of HELLO that there is none of, or behind which something is missing.
+    #[error("ERR Syntax error in HELLO option '{0}'")]
+    HelloOption(Shown<'a>),
+    /// A number of a database that has more than 32 bits.
+    #[error("ERR value is out of range, value must between -2147483648 and 2147483647")]
+    WideNumber,
+    /// SELECT of another database than 0.
+    #[error("ERR DB index is out of range")]
+    Database,
+    /// A client's name with a byte that is not from `!` to `~`.
+    #[error("ERR Client names cannot contain spaces, newlines or special characters.")]
+    ClientName,
+    /// What CLIENT SETINFO does not know.
+    #[error("ERR Unrecognized option '{0}'")]
+    ClientInfo(Shown<'a>),
+    /// What CLIENT SETINFO tells, with a byte that is not from `!` to `~`.
+    #[error("ERR {0} cannot contain spaces, newlines or special characters.")]
+    ClientInfoValue(Shown<'a>),
+    /// How many entries SLOWLOG GET wants: no number, or less than -1.
+    #[error("ERR count should be greater than or equal to -1")]
+    SlowLogNumber,
+    /// A cursor of SCAN that is no number from 0 to 2^63 - 1.
+    #[error("ERR invalid cursor")]
+    Cursor,
 }
 
 impl Fault<'_> {
@@ -115,11 +95,26 @@ impl Fault<'_> {
                 out.extend_from_slice(b"ERR unknown command ")?;
                 request.push_text(out)
             }
-            Fault::Option(shown) => {
-                out.extend_from_slice(b"ERR Unsupported option ")?;
-                let shown = shown.trimmed();
-                shown.push_cut(shown.0.len(), out)
+            Fault::Subcommand(of, word) => {
+                word.push_between("ERR unknown subcommand '", "'. Try ", out)?;
+                out.extend_from_slice(of.text().as_bytes())?;
+                out.extend_from_slice(b" HELP.")
             }
+            Fault::SlowLogCount(word) => word.push_between(
+                "ERR unknown subcommand or wrong number of arguments for '",
+                "'. Try SLOWLOG HELP.",
+                out,
+            ),
+            Fault::Option(word) => word.push_between("ERR Unsupported option ", "", out),
+            Fault::HelloOption(word) => {
+                word.push_between("ERR Syntax error in HELLO option '", "'", out)
+            }
+            Fault::ClientInfo(word) => word.push_between("ERR Unrecognized option '", "'", out),
+            Fault::ClientInfoValue(word) => word.push_between(
+                "ERR ",
+                " cannot contain spaces, newlines or special characters.",
+                out,
+            ),
             other => {
                 let text = other.to_string(*out.allocator())?;
                 out.extend_from_slice(text.as_bytes())
@@ -132,54 +127,5 @@ impl Fault<'_> {
 impl fmt::Debug for Fault<'_> {
     fn fmt<W: fmt::Write>(&self, f: &mut fmt::Formatter<W>) -> fmt::Result {
         fmt::Display::fmt(self, f)
-    }
-}
-
-fn write_cut<W: fmt::Write>(
-    shown: Shown<'_>,
-    most: usize,
-    f: &mut fmt::Formatter<W>,
-) -> fmt::Result {
-    for byte in shown.cut(most) {
-        let letter = match *byte {
-            b'\r' | b'\n' => ' ',
-            other if other < 128 => char::from(other),
-            _ => '\u{FFFD}',
-        };
-        f.write_char(letter)?;
-    }
-    Ok(())
-}
-
-impl fmt::Display for Shown<'_> {
-    fn fmt<W: fmt::Write>(&self, f: &mut fmt::Formatter<W>) -> fmt::Result {
-        let shown = self.trimmed();
-        write_cut(shown, shown.0.len(), f)
-    }
-}
-
-impl fmt::Display for Request<'_> {
-    fn fmt<W: fmt::Write>(&self, f: &mut fmt::Formatter<W>) -> fmt::Result {
-        let Some((name, rest)) = self.0.split_first() else {
-            return f.write_str("'', with args beginning with: ");
-        };
-        f.write_char('\'')?;
-        write_cut(Shown(name), MOST_SHOWN, f)?;
-        f.write_str("', with args beginning with: ")?;
-        let mut room = MOST_SHOWN;
-        for index in 0..rest.len() {
-            let Some(argument) = rest.get(index) else {
-                break;
-            };
-            if room == 0 {
-                break;
-            }
-            let shown = Shown(argument).cut(room).len();
-            f.write_char('\'')?;
-            write_cut(Shown(argument), room, f)?;
-            f.write_str("' ")?;
-            room = room.saturating_sub(shown.saturating_add(3));
-        }
-        Ok(())
     }
 }

@@ -9,6 +9,7 @@ ghost use Rattle.commands.specs.declared.name.Special.{Special as special_name};
 ghost use Rattle.commands.specs.declared.name.Name.{Name as any_name};
 ghost use Rattle.commands.specs.Names.{nothing_text, key_text, keys_text, pair_text, special_text, text_of};
 
+use crate::server_name::{OfServer, server_of};
 use std::fmt;
 
 /// Nothing.
@@ -86,6 +87,7 @@ pub enum Name {
     Keys(OfKeys),
     Pair(OfPair),
     Special(Special),
+    Server(OfServer),
 }
 
 fn nothing_of(word: &[u8]) -> Option<OfNothing>
@@ -231,6 +233,9 @@ pub(crate) fn name_of(word: &[u8]) -> Option<Name>
     if let Some(x) = nothing_of(word) {
         return Some(Name::Nothing(x));
     }
+    if let Some(x) = server_of(word) {
+        return Some(Name::Server(x));
+    }
     None
 }
 
@@ -320,6 +325,7 @@ impl Name {
             Name::Keys(x) => x.text(),
             Name::Pair(x) => x.text(),
             Name::Special(x) => x.text(),
+            Name::Server(x) => x.text(),
         }
     }
 }

@@ -2,9 +2,10 @@
 
 use crate::arguments::Arguments;
 use crate::command::{Lifetime, Only, Where};
-use crate::fault::{Fault, Shown};
+use crate::fault::Fault;
 use crate::name::Name;
 use crate::number::whole_number;
+use crate::shown::Shown;
 use crate::time::{Clock, Time};
 
 /// The command that has options.
@@ -176,7 +177,7 @@ pub(crate) fn only_of<'a>(words: Arguments<'a>) -> Result<Only, Fault<'a>> {
         } else if word.eq_ignore_ascii_case(b"lt") {
             only.earlier = true;
         } else {
-            return Err(Fault::Option(Shown(word)));
+            return Err(Fault::Option(Shown(word).trimmed()));
         }
     }
     if only.absent && (only.present || only.later || only.earlier) {

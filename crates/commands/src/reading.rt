@@ -4,13 +4,40 @@ ghost use Rattle.std.specs.Char.{to_ascii_lowercase};
 ghost use Rattle.commands.specs.declared.name.Name.{Name as any_name};
 ghost use Rattle.commands.specs.Names.{text_of};
 ghost use Rattle.commands.specs.Arguments.{listed};
+ghost use Rattle.commands.specs.Servers.{IsAsked, IsCountedServer};
 ghost use Rattle.commands.specs.Commands.{IsSpelt, IsCounted, Spells};
 
 use crate::arguments::Arguments;
 use crate::command::Command;
-use crate::fault::{Fault, Request};
+use crate::connection::{auth, client, hello, select};
+use crate::fault::Fault;
 use crate::name::{Name, name_of};
+use crate::refused::refused_name;
+use crate::scan::{flush, scan};
+use crate::server::ServerCommand;
+use crate::server_name::OfServer;
+use crate::shown::Request;
 use crate::special::read_special;
+use crate::watching::{command, config, slow_log};
+
+fn read_server<'a>(of: OfServer, rest: Arguments<'a>) -> Result<ServerCommand<'a>, Fault<'a>>
+    ensures spelt { IfOk result (λ c. IsAsked of (listed rest.entry) c) }
+    ensures counted { IsCountedServer of (listed rest.entry) → IsOk result }
+{
+    match of {
+        OfServer::Auth => auth(rest),
+        OfServer::Hello => hello(rest),
+        OfServer::Select => select(rest),
+        OfServer::Client => client(rest),
+        OfServer::Command => command(rest),
+        OfServer::Config => config(rest),
+        OfServer::SlowLog => slow_log(rest),
+        OfServer::Info => Ok(ServerCommand::Info(rest)),
+        OfServer::Scan => scan(rest),
+        OfServer::FlushAll => flush(rest),
+        OfServer::FlushDb => flush(rest),
+    }
+}
 
 fn by_name<'a>(name: Name, rest: Arguments<'a>, now: u64) -> Result<Command<'a>, Fault<'a>>
     ensures spelt { IfOk result (λ c. IsSpelt name (listed rest.entry) c) }
@@ -40,6 +67,21 @@ fn by_name<'a>(name: Name, rest: Arguments<'a>, now: u64) -> Result<Command<'a>,
             None => Err(Fault::Count(name)),
         },
         Name::Special(of) => read_special(of, rest, now),
+        Name::Server(of) => match read_server(of, rest) {
+            Ok(command) => Ok(Command::Server(command)),
+            Err(fault) => Err(fault),
+        },
+    }
+}
+
+/// Why a request of this first word, which names no command that is answered, asks for nothing.
+fn refusal<'a>(word: &[u8], request: Arguments<'a>) -> Fault<'a> {
+    if word.eq_ignore_ascii_case(b"keys") {
+        return Fault::Keys;
+    }
+    match refused_name(word) {
+        Some(name) => Fault::Refused(name),
+        None => Fault::Unknown(Request(request)),
     }
 }
 
@@ -56,7 +98,7 @@ pub fn read<'a>(request: Arguments<'a>, now: u64) -> Result<Command<'a>, Fault<'
         return Err(Fault::Unknown(Request(request)));
     };
     let Some(name) = name_of(first) else {
-        return Err(Fault::Unknown(Request(request)));
+        return Err(refusal(first, request));
     };
     by_name(name, rest, now)
 }

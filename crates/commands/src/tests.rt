@@ -2,18 +2,18 @@ use crate::arguments::Arguments;
 use crate::command::{Change, Command, Lifetime, Where};
 use crate::name::OfKeys;
 use crate::number::{add_to, whole_number};
-use crate::place::Span;
 use crate::range::range_of;
 use crate::reading::read;
 use crate::stored::{is_expired, push_stored, read_stored};
 use crate::time::{Clock, Time};
+use resp::Span;
 use std::alloc::{AllocError, Global};
 use std::test::Fail;
 
-const NOW: u64 = 1_000_000;
+pub(crate) const NOW: u64 = 1_000_000;
 
 /// Where the words of a line lie, which one blank parts.
-fn spans_of(alloc: Global, line: &str) -> Result<Vec<Span>, AllocError> {
+pub(crate) fn spans_of(alloc: Global, line: &str) -> Result<Vec<Span>, AllocError> {
     let mut spans = Vec::new(alloc);
     let mut from = 0usize;
     for word in line.split(' ') {
@@ -27,7 +27,7 @@ fn spans_of(alloc: Global, line: &str) -> Result<Vec<Span>, AllocError> {
 }
 
 /// What the line is read as: `ok`, or the fault's text.
-fn outcome(alloc: Global, line: &str) -> Result<String, AllocError> {
+pub(crate) fn outcome(alloc: Global, line: &str) -> Result<String, AllocError> {
     let spans = spans_of(alloc, line)?;
     let request = Arguments {
         bytes: line.as_bytes(),

@@ -1,0 +1,10 @@
+pub mod Values
+pub mod Outcomes
+pub mod Reading
+pub mod Lasting
+pub mod Setting
+pub mod Editing
+pub mod Adding
+pub mod Answers
+pub mod Asked
+pub mod Doing
