@@ -9,28 +9,28 @@ use Rattle.version_words.specs.Views.{Goes, IsWhole, AreNone, AreApart, calls_of
 use Rattle.version_words.proofs.Fronts.{prefix_trans}
 use Rattle.far_map.specs.Views.{View, Log, Pairs}
 
-whole_back : (log : Log) (old new : View) → Goes old new → IsWhole log new → IsWhole log old
+whole_back : {V : Type 0} (log : Log V) (old new : View V) → Goes old new → IsWhole log new → IsWhole log old
 whole_back log old new goes whole = record {
   seen = prefix_trans old.front new.front log goes.grows whole.seen;
   all = ap (λ (p : ℕ). calls_of p log) (sym goes.number) ∙ (whole.all ∙ goes.calls_stay);
 }
 
-abbrev Callers : Type 0 → Type 0
-Callers J = List (Caller (List ℕ) (List ℕ) J)
+abbrev Callers : Type 0 → Type 0 → Type 0
+Callers V J = List (Caller (List ℕ) V J)
 
-module _ {J : Type 0} where
+module _ {V J : Type 0} where
   -- each has the number of the other at its place
-  abbrev SameNumbers : Callers J → Callers J → Type 0
-  SameNumbers xs ys = (k : ℕ) (d : Caller (List ℕ) (List ℕ) J) → k < length xs → (slice_index_or ys k d).pass.number ≡ (slice_index_or xs k d).pass.number
+  abbrev SameNumbers : Callers V J → Callers V J → Type 0
+  SameNumbers xs ys = (k : ℕ) (d : Caller (List ℕ) V J) → k < length xs → (slice_index_or ys k d).pass.number ≡ (slice_index_or xs k d).pass.number
 
-  none_moved : (p q : View) (xs ys : Callers J) → p.number ≡ q.number → length ys ≡ length xs → SameNumbers xs ys → AreNone p (passes xs) → AreNone q (passes ys)
+  none_moved : (p q : View V) (xs ys : Callers V J) → p.number ≡ q.number → length ys ≡ length xs → SameNumbers xs ys → AreNone p (passes xs) → AreNone q (passes ys)
   none_moved p q [] [] same count numbers none = tt
   none_moved p q [] (y ∷ ys) same count numbers none = absurd (omega (arith, count))
   none_moved p q (x ∷ xs) [] same count numbers none = absurd (omega (arith, count))
   none_moved p q (x ∷ xs) (y ∷ ys) same count numbers none =
       (λ is. none.0 (same ∙ (is ∙ numbers 0 x (omega arith))), none_moved p q xs ys same (omega (arith, count)) (λ k d lt. numbers (suc k) d (omega (arith, lt))) none.1)
 
-  apart_moved : (xs ys : Callers J) → length ys ≡ length xs → SameNumbers xs ys → AreApart (passes xs) → AreApart (passes ys)
+  apart_moved : (xs ys : Callers V J) → length ys ≡ length xs → SameNumbers xs ys → AreApart (passes xs) → AreApart (passes ys)
   apart_moved [] [] count numbers apart = tt
   apart_moved [] (y ∷ ys) count numbers apart = absurd (omega (arith, count))
   apart_moved (x ∷ xs) [] count numbers apart = absurd (omega (arith, count))
@@ -39,8 +39,8 @@ module _ {J : Type 0} where
       let shorter : length ys ≡ length xs = omega (arith, count) in
       (none_moved x.pass y.pass xs ys (sym (numbers 0 x (omega arith))) shorter rest apart.0, apart_moved xs ys shorter rest apart.1)
 
-  pub closed_back : (l : Limits) (olds news : Callers J) (pairs : Pairs) → AreBack olds news → ClosesSorted enc_text enc_text l news pairs → ClosesSorted enc_text enc_text l olds pairs
-  closed_back l olds news pairs back closes all moved up =
+  pub closed_back : (ev : V → List ℕ) (l : Limits) (olds news : Callers V J) (pairs : Pairs V) → AreBack olds news → ClosesSorted enc_text ev l news pairs → ClosesSorted enc_text ev l olds pairs
+  closed_back ev l olds news pairs back closes all moved up =
       let c = closes all moved up in
       let forth : SameNumbers olds news = λ k d lt. let g = back.goes k d lt in g.number in
       let there : (k : ℕ) → k < length news → k < length olds = λ k lt. let e = back.count in omega (arith, lt, e) in

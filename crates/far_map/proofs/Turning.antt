@@ -1,5 +1,5 @@
 -- Why no room was made.
-use Rattle.std.proofs.Common.{◌≡◌, ◌≤◌, ◌+◌, List, ℕ, Result, Ok, Err, IfErr, ap, sym, ◌∙◌, arith}
+use Rattle.std.proofs.Common.{◌≡◌, ◌≤◌, ◌+◌, List, ℕ, ap, sym, ◌∙◌, arith}
 use mathlib.Core.List.{IsPrefix}
 use Rattle.far_object.specs.Encodings.{enc_text}
 use Rattle.far_object.specs.declared.format.Format.{Format}
@@ -14,15 +14,15 @@ use Rattle.swapper.specs.Rooms.{WasRefusedBehind}
 use Rattle.far_map.specs.Refusals.{IsTurnFault}
 use Rattle.far_map.specs.Views.{View, Log}
 
-module _ (l : Limits) where
+module _ {V : Type 0} (ev : V → List ℕ) (l : Limits) where
   -- no later log has a name more
-  spent_later : (front log : Log) → IsPrefix front log → IsLawful enc_text enc_text l log → names_of front ≡ l.names → names_of log ≡ l.names
+  spent_later : (front log : Log V) → IsPrefix front log → IsLawful enc_text ev l log → names_of front ≡ l.names → names_of log ≡ l.names
   spent_later front log pre lawful spent =
-      let most : names_of log ≤ l.names = (within enc_text enc_text l log lawful).0 in
+      let most : names_of log ≤ l.names = (within enc_text ev l log lawful).0 in
       let more : names_of log ≡ names_of front + names_of pre.0 = ap names_of (sym pre.1) ∙ names-append front pre.0 in
       omega (arith, most, more, spent)
 
-  pub fault_later : (front log : Log) (e : TableRefusal) → IsPrefix front log → IsLawful enc_text enc_text l log → IsTurnFault l front e → IsTurnFault l log e
+  pub fault_later : (front log : Log V) (e : TableRefusal) → IsPrefix front log → IsLawful enc_text ev l log → IsTurnFault l front e → IsTurnFault l log e
   fault_later front log table.Memory pre lawful h = tt
   fault_later front log table.Far pre lawful h = tt
   fault_later front log table.Moved pre lawful h = tt
@@ -35,7 +35,7 @@ module _ (l : Limits) where
   fault_later front log table.Damaged pre lawful h = tt
 
   -- the evictor's
-  pub turn_fault : (format : Format) (old new : EvictorView (List ℕ) (List ℕ)) (e : TableRefusal) → IsTurnRefused enc_text enc_text l format old new e → IsTurnFault l new.pass.front e
+  pub turn_fault : (format : Format) (old new : EvictorView (List ℕ) V) (e : TableRefusal) → IsTurnRefused enc_text ev l format old new e → IsTurnFault l new.pass.front e
   turn_fault format old new table.Memory h = tt
   turn_fault format old new table.Far h = tt
   turn_fault format old new table.Moved h = tt
@@ -48,7 +48,7 @@ module _ (l : Limits) where
   turn_fault format old new table.Damaged h = tt
 
   -- a caller's own
-  pub own_fault : (old new : View) (e : TableRefusal) → WasRefusedBehind enc_text enc_text l old new e → IsTurnFault l new.front e
+  pub own_fault : (old new : View V) (e : TableRefusal) → WasRefusedBehind enc_text ev l old new e → IsTurnFault l new.front e
   own_fault old new table.Memory h = tt
   own_fault old new table.Far h = tt
   own_fault old new table.Moved h = tt

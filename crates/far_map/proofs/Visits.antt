@@ -15,7 +15,7 @@ module _ {P A : Type 0} (R : P → A → P → Type 0) where
   folds_more p xs q y r h step = folds_on p xs q (y ∷ []) r h (r, step, refl)
 
 -- one bucket more was read
-pub read_more : (l : Limits) (b : ℕ) (old mid new : View) (before here : Pairs) → AreRead l b old mid before → Goes mid new → AreOfBucket l b new here → AreRead l (b + 1) old new (before ++ here)
-read_more l b old mid new before here h goes are =
+pub read_more : {V : Type 0} (ev : V → List ℕ) (l : Limits) (b : ℕ) (old mid new : View V) (before here : Pairs V) → AreRead ev l b old mid before → Goes mid new → AreOfBucket ev l b new here → AreRead ev l (b + 1) old new (before ++ here)
+read_more ev l b old mid new before here h goes are =
     let next : suc b ≡ b + 1 = omega arith in
-    subst (λ (n : ℕ). AreRead l n old new (before ++ here)) next (mid, before, here, h, goes, are, refl)
+    subst (λ (n : ℕ). AreRead ev l n old new (before ++ here)) next (mid, before, here, h, goes, are, refl)

@@ -1,5 +1,5 @@
 -- Workers that have ended, and the end of their run.
-use Rattle.std.proofs.Common.{◌≡◌, ◌≢◌, ℕ, suc, ◌+◌, ◌<◌, ◌==◌, Bool, true, false, List, [], ◌∷◌, ◌++◌, Option, Some, None, Result, Ok, Err, IfOk, length, map, refl, ap, sym, ◌∙◌, subst, arith, length-append}
+use Rattle.std.proofs.Common.{◌≡◌, ◌≢◌, ℕ, suc, ◌+◌, ◌<◌, ◌==◌, Bool, true, false, List, [], ◌∷◌, ◌++◌, Option, None, Result, Ok, Err, IfOk, length, map, refl, ap, sym, ◌∙◌, subst, arith, length-append}
 use Rattle.std.specs.Prelude.{slice_index_or, ⊤}
 use Rattle.std.proofs.lemmas.Bool.Decides.{nat_tests}
 use Rattle.std.proofs.lemmas.List.{map-append}
@@ -14,7 +14,6 @@ use Rattle.hash_table.specs.declared.caller.Caller.{Caller}
 use Rattle.hash_table.specs.Closes.{IsClosed, ClosesSorted, ClosesInOrder, Hands}
 use Rattle.far_map.specs.Views.{View, Log, Pairs, SessionView}
 use Rattle.far_map.specs.declared.ending.End.{End}
-use Rattle.far_map.specs.declared.ending.End.TheVariants as asked
 use Rattle.far_map.specs.declared.ending.Given.{Given}
 use Rattle.far_map.specs.declared.fault.RunFault.{RunFault}
 use Rattle.far_map.specs.Ends.{IsClosedBy, IsBundledBy, IsHandedBy}
@@ -23,38 +22,38 @@ use Rattle.far_map.specs.declared.settings.Setting.{Setting}
 use Rattle.far_map.specs.Faults.{IsLater, IsEarlyFault, IsRunFault, IsHandingFault}
 use Rattle.far_map.specs.Runs.{IsNew, Served, IsServed, AreServed, Worked, IsEnd, IsEndInOrder, AreSeen, IsLeft, IsWorked, IsRun, IsRunBundled, IsRunApart, IsRunThrough, EndsSo}
 
-module _ {Out : Type 0} (Done : ℕ → SessionView → SessionView → Out → Type 0) (limit : ℕ) where
-  served_more : (n : ℕ) (all : List (Served Out)) (s : Served Out) → AreServed Done limit n all → s.worker ≡ n + length all → IsNew limit s.begun → Done s.worker s.begun s.ended s.out
+module _ {V Out : Type 0} (Done : ℕ → SessionView V → SessionView V → Out → Type 0) (limit : ℕ) where
+  served_more : (n : ℕ) (all : List (Served V Out)) (s : Served V Out) → AreServed Done limit n all → s.worker ≡ n + length all → IsNew limit s.begun → Done s.worker s.begun s.ended s.out
       → AreServed Done limit n (all ++ s ∷ [])
   served_more n [] s h is new done = (omega (arith, is), new, done, tt)
   served_more n (t ∷ all) s h is new done = (h.0, h.1, h.2, served_more (n + 1) all s h.3 (omega (arith, is)) new done)
 
-  pub nothing : (count : ℕ) (passes : List View) (outs : List Out) → count ≡ 0 → passes ≡ [] → outs ≡ [] → Worked Done limit count passes outs
+  pub nothing : (count : ℕ) (passes : List (View V)) (outs : List Out) → count ≡ 0 → passes ≡ [] → outs ≡ [] → Worked Done limit count passes outs
   nothing count passes outs c p o = record { all = []; count_is = sym c; passes_are = sym p; outs_are = sym o; served = tt }
 
-  more : (count last : ℕ) (passes new_passes : List View) (outs new_outs : List Out) (pass : View) (out : Out)
+  more : (count last : ℕ) (passes new_passes : List (View V)) (outs new_outs : List Out) (pass : View V) (out : Out)
       → count ≡ last + 1 → new_passes ≡ passes ++ pass ∷ [] → new_outs ≡ outs ++ out ∷ []
       → Worked Done limit last passes outs → IsServed (Done last) limit pass out → Worked Done limit count new_passes new_outs
   more count last passes new_passes outs new_outs pass out c p o w s =
-      let one : Served Out = record { worker = last; begun = s.begun; ended = s.ended; out = out } in
+      let one : Served V Out = record { worker = last; begun = s.begun; ended = s.ended; out = out } in
       record {
         all = w.all ++ one ∷ [];
         count_is = length-append w.all (one ∷ []) ∙ (ap (λ (n : ℕ). n + 1) w.count_is ∙ sym c);
-        passes_are = map-append (λ (t : Served Out). t.ended.pass) w.all (one ∷ []) ∙ (ap (λ (x : List View). x ++ s.ended.pass ∷ []) w.passes_are ∙ (ap (λ (v : View). passes ++ v ∷ []) s.pass_is ∙ sym p));
-        outs_are = map-append (λ (t : Served Out). t.out) w.all (one ∷ []) ∙ (ap (λ (x : List Out). x ++ out ∷ []) w.outs_are ∙ sym o);
+        passes_are = map-append (λ (t : Served V Out). t.ended.pass) w.all (one ∷ []) ∙ (ap (λ (x : List (View V)). x ++ s.ended.pass ∷ []) w.passes_are ∙ (ap (λ (v : View V). passes ++ v ∷ []) s.pass_is ∙ sym p));
+        outs_are = map-append (λ (t : Served V Out). t.out) w.all (one ∷ []) ∙ (ap (λ (x : List Out). x ++ out ∷ []) w.outs_are ∙ sym o);
         served = served_more 0 w.all one w.served (omega (arith, w.count_is)) s.new s.done;
       }
 
   -- the same of what was answered, where it was
-  pub more_ok : {R E : Type 0} (result : Result R E) (passes_of : R → List View) (outs_of : R → List Out) (count last : ℕ) (passes : List View) (outs : List Out) (pass : View) (out : Out)
+  pub more_ok : {R E : Type 0} (result : Result R E) (passes_of : R → List (View V)) (outs_of : R → List Out) (count last : ℕ) (passes : List (View V)) (outs : List Out) (pass : View V) (out : Out)
       → count ≡ last + 1 → IfOk result (λ r. passes_of r ≡ passes ++ pass ∷ []) → IfOk result (λ r. outs_of r ≡ outs ++ out ∷ [])
       → Worked Done limit last passes outs → IsServed (Done last) limit pass out → IfOk result (λ r. Worked Done limit count (passes_of r) (outs_of r))
   more_ok (Ok r) passes_of outs_of count last passes outs pass out c p o w s = more count last passes (passes_of r) outs (outs_of r) pass out c p o w s
   more_ok (Err e) passes_of outs_of count last passes outs pass out c p o w s = tt
 
   -- the same behind others, where they were answered
-  pub more_behind : {R A E F : Type 0} (result : Result R F) (passes_of : R → List View) (outs_of : R → List Out) (their_passes : A → List View) (their_outs : A → List Out)
-      (others : Result A E) (a : A) (count last before : ℕ) (pass : View) (out : Out)
+  pub more_behind : {R A E F : Type 0} (result : Result R F) (passes_of : R → List (View V)) (outs_of : R → List Out) (their_passes : A → List (View V)) (their_outs : A → List Out)
+      (others : Result A E) (a : A) (count last before : ℕ) (pass : View V) (out : Out)
       → others ≡ Ok a → IfOk others (λ x. Worked Done limit before (their_passes x) (their_outs x)) → IsServed (Done last) limit pass out
       → before ≡ last → count ≡ last + 1 → IfOk result (λ z. passes_of z ≡ their_passes a ++ pass ∷ []) → IfOk result (λ z. outs_of z ≡ their_outs a ++ out ∷ [])
       → IfOk result (λ z. Worked Done limit count (passes_of z) (outs_of z))
@@ -64,15 +63,15 @@ module _ {Out : Type 0} (Done : ℕ → SessionView → SessionView → Out → 
 
 -- ---- the end
 
-none_front : (pass : View) (xs ys : List View) → AreNone pass (xs ++ ys) → AreNone pass xs
+none_front : {V : Type 0} (pass : View V) (xs ys : List (View V)) → AreNone pass (xs ++ ys) → AreNone pass xs
 none_front pass [] ys h = tt
 none_front pass (x ∷ xs) ys h = (h.0, none_front pass xs ys h.1)
 
-apart_front : (xs ys : List View) → AreApart (xs ++ ys) → AreApart xs
+apart_front : {V : Type 0} (xs ys : List (View V)) → AreApart (xs ++ ys) → AreApart xs
 apart_front [] ys h = tt
 apart_front (x ∷ xs) ys h = (none_front x xs ys h.0, apart_front xs ys h.1)
 
-none_of : (pass : View) (xs : List View) (e : View) → AreNone pass xs → pass.number ≢ e.number → AreNone pass (xs ++ e ∷ [])
+none_of : {V : Type 0} (pass : View V) (xs : List (View V)) (e : View V) → AreNone pass xs → pass.number ≢ e.number → AreNone pass (xs ++ e ∷ [])
 none_of pass [] e h other = (other, tt)
 none_of pass (x ∷ xs) e h other = (h.0, none_of pass xs e h.1 other)
 
@@ -84,133 +83,133 @@ last_of : {A : Type 0} (P : A → Type 0) (xs : List A) (y : A) → AllByRecursi
 last_of P [] y h = h.0
 last_of P (x ∷ xs) y h = last_of P xs y h.1
 
-module _ {J : Type 0} where
-  abbrev pass_of : Caller (List ℕ) (List ℕ) J → View
+module _ {V J : Type 0} where
+  abbrev pass_of : Caller (List ℕ) V J → View V
   pass_of c = c.pass
 
-  all_whole : (P : View → Type 0) (callers : List (Caller (List ℕ) (List ℕ) J)) → ((k : ℕ) (d : Caller (List ℕ) (List ℕ) J) → k < length callers → P (slice_index_or callers k d).pass) → AllByRecursion P (map (λ c. c.pass) callers)
+  all_whole : (P : View V → Type 0) (callers : List (Caller (List ℕ) V J)) → ((k : ℕ) (d : Caller (List ℕ) V J) → k < length callers → P (slice_index_or callers k d).pass) → AllByRecursion P (map (λ c. c.pass) callers)
   all_whole P [] each = tt
   all_whole P (c ∷ cs) each = (each 0 c (omega arith), all_whole P cs (λ k d lt. each (suc k) d (omega (arith, lt))))
 
-  map_length : (callers : List (Caller (List ℕ) (List ℕ) J)) → length (map (λ c. c.pass) callers) ≡ length callers
+  map_length : (callers : List (Caller (List ℕ) V J)) → length (map (λ c. c.pass) callers) ≡ length callers
   map_length [] = refl
   map_length (c ∷ cs) = omega (arith, map_length cs)
 
   -- a map that these callers and its own close ends with their passes
-  pub ended : (l : Limits) (callers : List (Caller (List ℕ) (List ℕ) J)) (pairs : Pairs) → IsClosedBy l callers pairs → IsEnd l (map (λ c. c.pass) callers) pairs
-  ended l callers pairs h = record {
+  pub ended : (ev : V → List ℕ) (l : Limits) (callers : List (Caller (List ℕ) V J)) (pairs : Pairs V) → IsClosedBy ev l callers pairs → IsEnd ev l (map (λ c. c.pass) callers) pairs
+  ended ev l callers pairs h = record {
     log = h.closed.log;
     lawful = h.closed.lawful;
     all = h.closed.all ∙ (length-append callers (h.own ∷ []) ∙ ap (λ (n : ℕ). n + 1) (sym (map_length callers)));
     apart = apart_front own_passes (h.own.pass ∷ []) (subst AreApart passes_are h.closed.apart);
-    whole = all_front (λ (pass : View). IsWhole h.closed.log pass) own_passes (h.own.pass ∷ []) whole;
+    whole = all_front (λ (pass : View V). IsWhole h.closed.log pass) own_passes (h.own.pass ∷ []) whole;
     no_other = λ pass none. other pass none (h.own.pass.number == pass.number) refl;
     pairs_are = h.closed.pairs_are;
   }
     where
-      own_passes : List View
+      own_passes : List (View V)
       own_passes = map (λ c. c.pass) callers
 
       passes_are : map (λ c. c.pass) (callers ++ h.own ∷ []) ≡ own_passes ++ h.own.pass ∷ []
       passes_are = map-append pass_of callers (h.own ∷ [])
 
-      whole : AllByRecursion (λ (pass : View). IsWhole h.closed.log pass) (own_passes ++ h.own.pass ∷ [])
-      whole = subst (λ (ps : List View). AllByRecursion (λ (pass : View). IsWhole h.closed.log pass) ps) passes_are (all_whole (λ (pass : View). IsWhole h.closed.log pass) (callers ++ h.own ∷ []) h.closed.whole)
+      whole : AllByRecursion (λ (pass : View V). IsWhole h.closed.log pass) (own_passes ++ h.own.pass ∷ [])
+      whole = subst (λ (ps : List (View V)). AllByRecursion (λ (pass : View V). IsWhole h.closed.log pass) ps) passes_are (all_whole (λ (pass : View V). IsWhole h.closed.log pass) (callers ++ h.own ∷ []) h.closed.whole)
 
-      other : (pass : View) → AreNone pass own_passes → (c : Bool) → (h.own.pass.number == pass.number) ≡ c → calls_of pass.number h.closed.log ≡ []
+      other : (pass : View V) → AreNone pass own_passes → (c : Bool) → (h.own.pass.number == pass.number) ≡ c → calls_of pass.number h.closed.log ≡ []
       other pass none true at =
           let same : h.own.pass.number ≡ pass.number = grind (arith, nat_tests) in
-          let own : IsWhole h.closed.log h.own.pass = last_of (λ (pass : View). IsWhole h.closed.log pass) own_passes h.own.pass whole in
+          let own : IsWhole h.closed.log h.own.pass = last_of (λ (pass : View V). IsWhole h.closed.log pass) own_passes h.own.pass whole in
           ap (λ (q : ℕ). calls_of q h.closed.log) (sym same) ∙ (own.all ∙ h.no_calls)
       other pass none false at =
           let apart : pass.number ≢ h.own.pass.number = grind (arith, nat_tests) in
-          h.closed.no_other pass (subst (λ (ps : List View). AreNone pass ps) (sym passes_are) (none_of pass own_passes h.own.pass none apart))
+          h.closed.no_other pass (subst (λ (ps : List (View V)). AreNone pass ps) (sym passes_are) (none_of pass own_passes h.own.pass none apart))
 
   -- the same of one that hands its pairs over, one bucket behind the other
-  pub ended_in_order : (l : Limits) (callers : List (Caller (List ℕ) (List ℕ) J)) (pairs : Pairs) → IsHandedBy l callers pairs → IsEndInOrder l (map (λ c. c.pass) callers) pairs
+  pub ended_in_order : (ev : V → List ℕ) (l : Limits) (callers : List (Caller (List ℕ) V J)) (pairs : Pairs V) → IsHandedBy ev l callers pairs → IsEndInOrder ev l (map (λ c. c.pass) callers) pairs
   unfolding ended
-  ended_in_order l callers pairs h =
-      let all : Pairs = map_of enc_text enc_text (history h.closed.log) in
+  ended_in_order ev l callers pairs h =
+      let all : Pairs V = map_of enc_text ev (history h.closed.log) in
       let front = h.closed.front in
-      let closed : IsClosed enc_text enc_text l (callers ++ h.own ∷ []) all =
+      let closed : IsClosed enc_text ev l (callers ++ h.own ∷ []) all =
       record { log = h.closed.log; lawful = front.lawful; all = front.all; apart = front.apart; whole = front.whole; no_other = front.no_other; pairs_are = λ honest. refl } in
-      record { all = all; ended = ended l callers all (record { own = h.own; no_calls = h.no_calls; closed = closed }); in_order = h.closed.in_order }
+      record { all = all; ended = ended ev l callers all (record { own = h.own; no_calls = h.no_calls; closed = closed }); in_order = h.closed.in_order }
 
-module _ {J : Type 0} (l : Limits) (callers all : List (Caller (List ℕ) (List ℕ) J)) (own : Caller (List ℕ) (List ℕ) J) (pairs : Pairs) (is : all ≡ callers ++ own ∷ []) (none : calls own.pass ≡ []) where
+module _ {V J : Type 0} (ev : V → List ℕ) (l : Limits) (callers all : List (Caller (List ℕ) V J)) (own : Caller (List ℕ) V J) (pairs : Pairs V) (is : all ≡ callers ++ own ∷ []) (none : calls own.pass ≡ []) where
   -- a table that these callers and the map's own closed
-  pub closed_by : IsClosed enc_text enc_text l all pairs → IsClosedBy l callers pairs
-  closed_by closed = record { own = own; no_calls = none; closed = subst (λ (cs : List (Caller (List ℕ) (List ℕ) J)). IsClosed enc_text enc_text l cs pairs) is closed }
+  pub closed_by : IsClosed enc_text ev l all pairs → IsClosedBy ev l callers pairs
+  closed_by closed = record { own = own; no_calls = none; closed = subst (λ (cs : List (Caller (List ℕ) V J)). IsClosed enc_text ev l cs pairs) is closed }
 
-pub bundled_by : {J : Type 0} (l : Limits) (callers all : List (Caller (List ℕ) (List ℕ) J)) (own : Caller (List ℕ) (List ℕ) J) (pairs : Pairs) → all ≡ callers ++ own ∷ [] → calls own.pass ≡ []
-    → ClosesSorted enc_text enc_text l all pairs → IsBundledBy l callers pairs
-bundled_by l callers all own pairs is none closes sorted permutes rises = closed_by l callers all own sorted is none (closes sorted permutes rises)
+pub bundled_by : {V J : Type 0} (ev : V → List ℕ) (l : Limits) (callers all : List (Caller (List ℕ) V J)) (own : Caller (List ℕ) V J) (pairs : Pairs V) → all ≡ callers ++ own ∷ [] → calls own.pass ≡ []
+    → ClosesSorted enc_text ev l all pairs → IsBundledBy ev l callers pairs
+bundled_by ev l callers all own pairs is none closes sorted permutes rises = closed_by ev l callers all own sorted is none (closes sorted permutes rises)
 
-pub handed_by : {J S : Type 0} (Takes : S → Pairs → S → Type 0) (old new : S) (l : Limits) (callers all : List (Caller (List ℕ) (List ℕ) J)) (own : Caller (List ℕ) (List ℕ) J) → all ≡ callers ++ own ∷ [] → calls own.pass ≡ []
-    → Hands Takes (ClosesInOrder enc_text enc_text l all) old new → Hands Takes (IsHandedBy l callers) old new
-handed_by {J} Takes old new l callers all own is none h =
-    (h.0, h.1, record { own = own; no_calls = none; closed = subst (λ (cs : List (Caller (List ℕ) (List ℕ) J)). ClosesInOrder enc_text enc_text l cs h.0) is h.2 })
+pub handed_by : {V J S : Type 0} (ev : V → List ℕ) (Takes : S → Pairs V → S → Type 0) (old new : S) (l : Limits) (callers all : List (Caller (List ℕ) V J)) (own : Caller (List ℕ) V J) → all ≡ callers ++ own ∷ [] → calls own.pass ≡ []
+    → Hands Takes (ClosesInOrder enc_text ev l all) old new → Hands Takes (IsHandedBy ev l callers) old new
+handed_by {V} {J} ev Takes old new l callers all own is none h =
+    (h.0, h.1, record { own = own; no_calls = none; closed = subst (λ (cs : List (Caller (List ℕ) V J)). ClosesInOrder enc_text ev l cs h.0) is h.2 })
 
 -- a front that was told what all have seen
-pub seen_left : (l : Limits) (passes : List View) (log : Log) → IsLawful enc_text enc_text l log → AreSeen log passes → IsLeft l passes
-seen_left l passes log lawful seen = record { log = log; lawful = lawful; seen = seen }
+pub seen_left : {V : Type 0} (ev : V → List ℕ) (l : Limits) (passes : List (View V)) (log : Log V) → IsLawful enc_text ev l log → AreSeen log passes → IsLeft ev l passes
+seen_left ev l passes log lawful seen = record { log = log; lawful = lawful; seen = seen }
 
-pub same_left : {J : Type 0} (l : Limits) (callers others : List (Caller (List ℕ) (List ℕ) J)) → others ≡ callers → IsLeft l (map (λ c. c.pass) others) → IsLeft l (map (λ c. c.pass) callers)
-same_left {J} l callers others same h = subst (λ (cs : List (Caller (List ℕ) (List ℕ) J)). IsLeft l (map (λ c. c.pass) cs)) same h
+pub same_left : {V J : Type 0} (ev : V → List ℕ) (l : Limits) (callers others : List (Caller (List ℕ) V J)) → others ≡ callers → IsLeft ev l (map (λ c. c.pass) others) → IsLeft ev l (map (λ c. c.pass) callers)
+same_left {V} {J} ev l callers others same h = subst (λ (cs : List (Caller (List ℕ) V J)). IsLeft ev l (map (λ c. c.pass) cs)) same h
 
-module _ {Out : Type 0} (Done : ℕ → Limits → SessionView → SessionView → Out → Type 0) (l : Limits) where
-  abbrev WorkedBy : ℕ → ℕ → List View → List Out → Type 0
+module _ {V Out : Type 0} (ev : V → List ℕ) (Done : ℕ → Limits → SessionView V → SessionView V → Out → Type 0) (l : Limits) where
+  abbrev WorkedBy : ℕ → ℕ → List (View V) → List Out → Type 0
   WorkedBy limit count passes outs = Worked (λ worker begun ended (out : Out). Done worker l begun ended out) limit count passes outs
 
-  as_limit : (limit limit' count count' : ℕ) (passes : List View) (outs : List Out) → limit' ≡ limit → count' ≡ count → WorkedBy limit' count' passes outs → WorkedBy limit count passes outs
+  as_limit : (limit limit' count count' : ℕ) (passes : List (View V)) (outs : List Out) → limit' ≡ limit → count' ≡ count → WorkedBy limit' count' passes outs → WorkedBy limit count passes outs
   as_limit limit limit' count count' passes outs same alike w = subst (λ (n : ℕ). WorkedBy n count passes outs) same (subst (λ (n : ℕ). WorkedBy limit' n passes outs) alike w)
 
-  pub ran : {J : Type 0} (limit limit' count count' : ℕ) (callers : List (Caller (List ℕ) (List ℕ) J)) (outs : List Out) (pairs : Pairs)
-      → limit' ≡ limit → count' ≡ count → WorkedBy limit' count' (map (λ c. c.pass) callers) outs → IsClosedBy l callers pairs → IsRun Done l limit count outs pairs
+  pub ran : {J : Type 0} (limit limit' count count' : ℕ) (callers : List (Caller (List ℕ) V J)) (outs : List Out) (pairs : Pairs V)
+      → limit' ≡ limit → count' ≡ count → WorkedBy limit' count' (map (λ c. c.pass) callers) outs → IsClosedBy ev l callers pairs → IsRun ev Done l limit count outs pairs
   ran limit limit' count count' callers outs pairs same alike w h = record {
     passes = map (λ c. c.pass) callers;
     worked = as_limit limit limit' count count' (map (λ c. c.pass) callers) outs same alike w;
-    ended = ended l callers pairs h;
+    ended = ended ev l callers pairs h;
   }
 
-  pub ran_bundled : {J : Type 0} (limit limit' count count' : ℕ) (callers : List (Caller (List ℕ) (List ℕ) J)) (outs : List Out) (pairs : Pairs)
-      → limit' ≡ limit → count' ≡ count → WorkedBy limit' count' (map (λ c. c.pass) callers) outs → IsBundledBy l callers pairs → IsRunBundled Done l limit count outs pairs
+  pub ran_bundled : {J : Type 0} (limit limit' count count' : ℕ) (callers : List (Caller (List ℕ) V J)) (outs : List Out) (pairs : Pairs V)
+      → limit' ≡ limit → count' ≡ count → WorkedBy limit' count' (map (λ c. c.pass) callers) outs → IsBundledBy ev l callers pairs → IsRunBundled ev Done l limit count outs pairs
   ran_bundled limit limit' count count' callers outs pairs same alike w h = record {
     passes = map (λ c. c.pass) callers;
     worked = as_limit limit limit' count count' (map (λ c. c.pass) callers) outs same alike w;
-    ended = λ all permutes rises. ended l callers all (h all permutes rises);
+    ended = λ all permutes rises. ended ev l callers all (h all permutes rises);
   }
 
-  pub ran_through : {J S : Type 0} (Takes : S → Pairs → S → Type 0) (Stops : S → S → Type 0) (old new : S) (limit limit' count count' : ℕ) (callers : List (Caller (List ℕ) (List ℕ) J)) (outs : List Out)
-      → limit' ≡ limit → count' ≡ count → WorkedBy limit' count' (map (λ c. c.pass) callers) outs → Hands Takes (IsHandedBy l callers) old new → IsRunThrough Done l limit count outs Takes Stops old new
+  pub ran_through : {J S : Type 0} (Takes : S → Pairs V → S → Type 0) (Stops : S → S → Type 0) (old new : S) (limit limit' count count' : ℕ) (callers : List (Caller (List ℕ) V J)) (outs : List Out)
+      → limit' ≡ limit → count' ≡ count → WorkedBy limit' count' (map (λ c. c.pass) callers) outs → Hands Takes (IsHandedBy ev l callers) old new → IsRunThrough ev Done l limit count outs Takes Stops old new
   ran_through Takes Stops old new limit limit' count count' callers outs same alike w h = record {
     passes = map (λ c. c.pass) callers;
     worked = as_limit limit limit' count count' (map (λ c. c.pass) callers) outs same alike w;
-    handed = (h.0, h.1, ended_in_order l callers h.0 h.2);
+    handed = (h.0, h.1, ended_in_order ev l callers h.0 h.2);
   }
 
-  pub ran_apart : (limit limit' count count' : ℕ) (passes : List View) (outs : List Out) → limit' ≡ limit → count' ≡ count → WorkedBy limit' count' passes outs → IsLeft l passes → IsRunApart Done l limit count outs
+  pub ran_apart : (limit limit' count count' : ℕ) (passes : List (View V)) (outs : List Out) → limit' ≡ limit → count' ≡ count → WorkedBy limit' count' passes outs → IsLeft ev l passes → IsRunApart ev Done l limit count outs
   ran_apart limit limit' count count' passes outs same alike w h = record { passes = passes; worked = as_limit limit limit' count count' passes outs same alike w; left = h }
 
-  pub ran_badly : (limit limit' count count' : ℕ) (passes : List View) (outs : List Out) → limit' ≡ limit → count' ≡ count → WorkedBy limit' count' passes outs → IsWorked Done l limit count outs
+  pub ran_badly : (limit limit' count count' : ℕ) (passes : List (View V)) (outs : List Out) → limit' ≡ limit → count' ≡ count → WorkedBy limit' count' passes outs → IsWorked ev Done l limit count outs
   ran_badly limit limit' count count' passes outs same alike w = record { passes = passes; worked = as_limit limit limit' count count' passes outs same alike w }
 
 -- the same limits by another name
-pub run_as : {Out S R E : Type 0} (r : Result R E) (outs_of : R → List Out) (given_of : R → Result Given RunFault) (Done : ℕ → Limits → SessionView → SessionView → Out → Type 0) (Takes : S → Pairs → S → Type 0) (Stops : S → S → Type 0)
+pub run_as : {V Out S R E : Type 0} (ev : V → List ℕ) (r : Result R E) (outs_of : R → List Out) (given_of : R → Result (Given V) RunFault) (Done : ℕ → Limits → SessionView V → SessionView V → Out → Type 0) (Takes : S → Pairs V → S → Type 0) (Stops : S → S → Type 0)
     (old new : S) (l l' : Limits) (limit limit' count : ℕ) (end : End)
-    → l' ≡ l → limit' ≡ limit → IfOk r (λ x. EndsSo Done l' limit' count (outs_of x) Takes Stops old new end (given_of x)) → IfOk r (λ x. EndsSo Done l limit count (outs_of x) Takes Stops old new end (given_of x))
-run_as r outs_of given_of Done Takes Stops old new l l' limit limit' count end same_l same_limit h =
-    subst (λ (k : Limits). IfOk r (λ x. EndsSo Done k limit count (outs_of x) Takes Stops old new end (given_of x))) same_l
-    (subst (λ (n : ℕ). IfOk r (λ x. EndsSo Done l' n count (outs_of x) Takes Stops old new end (given_of x))) same_limit h)
+    → l' ≡ l → limit' ≡ limit → IfOk r (λ x. EndsSo ev Done l' limit' count (outs_of x) Takes Stops old new end (given_of x)) → IfOk r (λ x. EndsSo ev Done l limit count (outs_of x) Takes Stops old new end (given_of x))
+run_as ev r outs_of given_of Done Takes Stops old new l l' limit limit' count end same_l same_limit h =
+    subst (λ (k : Limits). IfOk r (λ x. EndsSo ev Done k limit count (outs_of x) Takes Stops old new end (given_of x))) same_l
+    (subst (λ (n : ℕ). IfOk r (λ x. EndsSo ev Done l' n count (outs_of x) Takes Stops old new end (given_of x))) same_limit h)
 
-module _ {Out S : Type 0} (Done : ℕ → Limits → SessionView → SessionView → Out → Type 0) (l : Limits) (limit count : ℕ) (outs : List Out) (Takes : S → Pairs → S → Type 0) (Stops : S → S → Type 0) (old new : S) where
-  abbrev Ends : End → Result Given RunFault → Type 0
-  Ends end given = EndsSo Done l limit count outs Takes Stops old new end given
+module _ {V Out S : Type 0} (ev : V → List ℕ) (Done : ℕ → Limits → SessionView V → SessionView V → Out → Type 0) (l : Limits) (limit count : ℕ) (outs : List Out) (Takes : S → Pairs V → S → Type 0) (Stops : S → S → Type 0) (old new : S) where
+  abbrev Ends : End → Result (Given V) RunFault → Type 0
+  Ends end given = EndsSo ev Done l limit count outs Takes Stops old new end given
 
   -- what is so of the end that was asked for
-  pub as_asked : (end known : End) (given : Result Given RunFault) → end ≡ known → Ends known given → Ends end given
+  pub as_asked : (end known : End) (given : Result (Given V) RunFault) → end ≡ known → Ends known given → Ends end given
   as_asked end known given is h = subst (λ (e : End). Ends e given) (sym is) h
 
-module _ {S : Type 0} (Takes : S → Pairs → S → Type 0) (Stops : S → S → Type 0) where
+module _ {V S : Type 0} (Takes : S → Pairs V → S → Type 0) (Stops : S → S → Type 0) where
   -- a table that was not closed, behind pairs that were taken
   pub handing_fault : (is_honest : Bool) (old new : S) (fault : RunFault) → IsLater is_honest fault → Hands Takes (λ _. ⊤) old new → IsHandingFault Takes Stops is_honest old new fault
   handing_fault is_honest old new (run.BadSetting s) h took = absurd h

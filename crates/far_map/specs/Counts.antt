@@ -1,5 +1,5 @@
 -- What a session counts.
-use Rattle.std.specs.Prelude.{◌≡◌, ℕ, ◌+◌, ◌-◌, ◌^◌, min, Result, Ok, Err}
+use Rattle.std.specs.Prelude.{◌≡◌, ℕ, ◌+◌, ◌-◌, ◌^◌, min, List, Result, Ok, Err}
 use Rattle.table_core.specs.declared.operation.Operation.TheVariants as op
 use Rattle.far_map.specs.declared.refusal.Refusal.{Refusal}
 use Rattle.far_map.specs.declared.refusal.Refusal.TheVariants as refusal
@@ -15,7 +15,7 @@ abbrev pub no_calls : Stats
 no_calls = record { gets = 0; puts = 0; removes = 0; put_ifs = 0; too_long = 0; full = 0; names_spent = 0; device = 0; damaged = 0; memory = 0 }
 
 -- one call of this kind more was finished
-abbrev pub finished_more : Call → Stats → Stats
+abbrev pub finished_more : {V : Type 0} → Call V → Stats → Stats
 finished_more (op.Get k) s = record s { gets = more s.gets }
 finished_more (op.Put k v) s = record s { puts = more s.puts }
 finished_more (op.Remove k) s = record s { removes = more s.removes }
@@ -31,11 +31,15 @@ refused_more refusal.Damaged s = record s { damaged = more s.damaged }
 refused_more refusal.Memory s = record s { memory = more s.memory }
 
 -- a finished call counts for its kind, and a refused one for its reason
-abbrev pub counted : {T : Type 0} → Call → Result T Refusal → Stats → Stats
+abbrev pub counted : {V T : Type 0} → Call V → Result T Refusal → Stats → Stats
 counted o (Ok answer) s = finished_more o s
 counted o (Err why) s = refused_more why s
 
+-- the same of a get of values of this type
+abbrev pub counted_get : {T : Type 0} → (V : Type 0) → List ℕ → Result T Refusal → Stats → Stats
+counted_get V k result s = counted {V = V} (op.Get k) result s
+
 -- a session counted just this call, and its limit stands
-pub record Counts {T : Type 0} (old new : SessionView) (o : Call) (result : Result T Refusal) : Type 0 where
+pub record Counts {V T : Type 0} (old new : SessionView V) (o : Call V) (result : Result T Refusal) : Type 0 where
   pub stats : new.stats ≡ counted o result old.stats
   pub limit : new.limit ≡ old.limit

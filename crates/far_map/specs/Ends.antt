@@ -10,17 +10,17 @@ use Rattle.hash_table.specs.Closes.{IsClosed, ClosesInOrder}
 use Rattle.far_map.specs.Views.{Pairs}
 
 -- these callers, and one of the map's own that made no call, are all that there were
-pub record IsClosedBy {J : Type 0} (l : Limits) (callers : List (Caller (List ℕ) (List ℕ) J)) (pairs : Pairs) : Type 0 where
-  pub own : Caller (List ℕ) (List ℕ) J
+pub record IsClosedBy {V J : Type 0} (ev : V → List ℕ) (l : Limits) (callers : List (Caller (List ℕ) V J)) (pairs : Pairs V) : Type 0 where
+  pub own : Caller (List ℕ) V J
   pub no_calls : calls own.pass ≡ []
-  pub closed : IsClosed enc_text enc_text l (callers ++ own ∷ []) pairs
+  pub closed : IsClosed enc_text ev l (callers ++ own ∷ []) pairs
 
 -- the same with these pairs in their order
-abbrev pub IsBundledBy : {J : Type 0} → Limits → List (Caller (List ℕ) (List ℕ) J) → Pairs → Type 0
-IsBundledBy l callers pairs = (all : Pairs) → IsPermutation pairs all → Rises enc_text enc_text all → IsClosedBy l callers all
+abbrev pub IsBundledBy : {V J : Type 0} → (V → List ℕ) → Limits → List (Caller (List ℕ) V J) → Pairs V → Type 0
+IsBundledBy {V} ev l callers pairs = (all : Pairs V) → IsPermutation pairs all → Rises enc_text ev all → IsClosedBy ev l callers all
 
 -- the same with the pairs of each bucket, one bucket behind the other
-pub record IsHandedBy {J : Type 0} (l : Limits) (callers : List (Caller (List ℕ) (List ℕ) J)) (pairs : Pairs) : Type 0 where
-  pub own : Caller (List ℕ) (List ℕ) J
+pub record IsHandedBy {V J : Type 0} (ev : V → List ℕ) (l : Limits) (callers : List (Caller (List ℕ) V J)) (pairs : Pairs V) : Type 0 where
+  pub own : Caller (List ℕ) V J
   pub no_calls : calls own.pass ≡ []
-  pub closed : ClosesInOrder enc_text enc_text l (callers ++ own ∷ []) pairs
+  pub closed : ClosesInOrder enc_text ev l (callers ++ own ∷ []) pairs

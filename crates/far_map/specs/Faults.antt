@@ -44,6 +44,6 @@ IsRunFault is_honest first run.Damaged = (first ≡ None) × (IsTrue is_honest �
 IsRunFault is_honest first _ = first ≡ None
 
 -- why not all pairs were handed over: the taker stopped, or the map was not closed. It took what was handed over before
-abbrev pub IsHandingFault : {S : Type 0} → (S → Pairs → S → Type 0) → (S → S → Type 0) → Bool → S → S → RunFault → Type 0
-IsHandingFault {S} Takes Stops is_honest old new run.Stopped = (mid : S) × Hands Takes (λ _. ⊤) old mid × Stops mid new
-IsHandingFault {S} Takes Stops is_honest old new fault = IsLater is_honest fault × Hands Takes (λ _. ⊤) old new
+abbrev pub IsHandingFault : {V S : Type 0} → (S → Pairs V → S → Type 0) → (S → S → Type 0) → Bool → S → S → RunFault → Type 0
+IsHandingFault {V} {S} Takes Stops is_honest old new run.Stopped = (mid : S) × Hands Takes (λ _. ⊤) old mid × Stops mid new
+IsHandingFault {V} {S} Takes Stops is_honest old new fault = IsLater is_honest fault × Hands Takes (λ _. ⊤) old new

@@ -6,15 +6,15 @@ use Rattle.hash_table.specs.Changes.{removal_of}
 use Rattle.far_map.specs.Views.{Call}
 
 -- the call that it was: a removal where the value was the expected one, else a get; where it was refused, a removal
-abbrev pub call_of : {E : Type 0} → List ℕ → Result (Removal (List ℕ)) E → Call
+abbrev pub call_of : {V E : Type 0} → List ℕ → Result (Removal V) E → Call V
 call_of k (Ok removal) = removal_of k removal.removed
 call_of k (Err why) = op.Remove k
 
 -- the value that it found
-abbrev pub found_in : {E : Type 0} → Result (Removal (List ℕ)) E → Result (Option (List ℕ)) E
+abbrev pub found_in : {V E : Type 0} → Result (Removal V) E → Result (Option V) E
 found_in (Ok removal) = Ok removal.found
 found_in (Err why) = Err why
 
 -- it took the key out just where the value that it found was the expected one
-abbrev pub IsMet : List ℕ → Removal (List ℕ) → Type 0
+abbrev pub IsMet : {V : Type 0} → V → Removal V → Type 0
 IsMet expected removal = MatchBool removal.removed (removal.found ≡ Some expected) (removal.found ≢ Some expected)

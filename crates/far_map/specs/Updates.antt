@@ -10,39 +10,39 @@ use Rattle.far_map.specs.Answers.{Answers}
 use Rattle.far_map.specs.Counts.{Counts}
 
 -- the session made this call, was answered so, and counted it
-pub record Called (l : Limits) (old new : SessionView) (o : Call) (result : Result (Option (List ℕ)) Refusal) : Type 0 where
-  pub answers : Answers l old new o result
+pub record Called {V : Type 0} (ev : V → List ℕ) (l : Limits) (old new : SessionView V) (o : Call V) (result : Result (Option V) Refusal) : Type 0 where
+  pub answers : Answers ev l old new o result
   pub counts : Counts old new o result
 
-module _ (l : Limits) (k : List ℕ) (Makes : Option (List ℕ) → Option (List ℕ) → Type 0) where
+module _ {V : Type 0} (ev : V → List ℕ) (l : Limits) (k : List ℕ) (Makes : Option V → Option V → Type 0) where
   -- the key's value was got, and this was made of it
-  pub record Finds (old got : SessionView) (found made : Option (List ℕ)) : Type 0 where
-    pub called : Called l old got (op.Get k) (Ok found)
+  pub record Finds (old got : SessionView V) (found made : Option V) : Type 0 where
+    pub called : Called ev l old got (op.Get k) (Ok found)
     pub makes : Makes found made
 
   -- what was made of the value that was found was put where that stands, which was answered so
-  abbrev pub Puts : SessionView → SessionView → Option (List ℕ) → Result (Option (List ℕ)) Refusal → Type 0
-  Puts old new found result = (got : SessionView) × (value : List ℕ) × Finds old got found (Some value) × Called l got new (op.PutIf k found value) result
+  abbrev pub Puts : SessionView V → SessionView V → Option V → Result (Option V) Refusal → Type 0
+  Puts old new found result = (got : SessionView V) × (value : V) × Finds old got found (Some value) × Called ev l got new (op.PutIf k found value) result
 
   -- one try: the value was set, nothing was made of it, or somebody else was faster; or a call was refused
-  abbrev pub IsTried : SessionView → SessionView → Result (Option Updated) Refusal → Type 0
+  abbrev pub IsTried : SessionView V → SessionView V → Result (Option (Updated V)) Refusal → Type 0
   IsTried old new (Ok (Some (updated.Set before))) = Puts old new before (Ok before)
   IsTried old new (Ok (Some (updated.Left found))) = Finds old new found None
   IsTried old new (Ok (Some updated.Overtaken)) = ⊥
-  IsTried old new (Ok None) = (found before : Option (List ℕ)) × Puts old new found (Ok before) × (before ≢ found)
-  IsTried old new (Err why) = Called l old new (op.Get k) (Err why) ⊎ ((found : Option (List ℕ)) × Puts old new found (Err why))
+  IsTried old new (Ok None) = (found before : Option V) × Puts old new found (Ok before) × (before ≢ found)
+  IsTried old new (Err why) = Called ev l old new (op.Get k) (Err why) ⊎ ((found : Option V) × Puts old new found (Err why))
 
   -- so many tries, at each of which somebody else was faster
-  abbrev pub AreOvertaken : ℕ → SessionView → SessionView → Type 0
+  abbrev pub AreOvertaken : ℕ → SessionView V → SessionView V → Type 0
   AreOvertaken zero old new = new ≡ old
-  AreOvertaken (suc n) old new = (mid : SessionView) × AreOvertaken n old mid × IsTried mid new (Ok None)
+  AreOvertaken (suc n) old new = (mid : SessionView V) × AreOvertaken n old mid × IsTried mid new (Ok None)
 
   -- the last of these tries ended it
-  abbrev pub EndsAfter : SessionView → SessionView → Result (Option Updated) Refusal → Type 0
-  EndsAfter old new last = (n : ℕ) × (mid : SessionView) × AreOvertaken n old mid × IsTried mid new last
+  abbrev pub EndsAfter : SessionView V → SessionView V → Result (Option (Updated V)) Refusal → Type 0
+  EndsAfter old new last = (n : ℕ) × (mid : SessionView V) × AreOvertaken n old mid × IsTried mid new last
 
   -- an update
-  abbrev pub IsUpdated : SessionView → SessionView → Result Updated Refusal → Type 0
+  abbrev pub IsUpdated : SessionView V → SessionView V → Result (Updated V) Refusal → Type 0
   IsUpdated old new (Ok updated.Overtaken) = (n : ℕ) × (n ≡ 1000) × AreOvertaken n old new
   IsUpdated old new (Ok (updated.Set before)) = EndsAfter old new (Ok (Some (updated.Set before)))
   IsUpdated old new (Ok (updated.Left found)) = EndsAfter old new (Ok (Some (updated.Left found)))

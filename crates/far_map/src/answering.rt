@@ -8,22 +8,22 @@ use crate::keeping::Seated;
 use crate::map::FarMap;
 use crate::refusal::{Refusal, said};
 use crate::room::{MOST_TRIES, make_room};
+use crate::values::Value;
 use far_device::Device;
-use far_object::Text;
 use std::alloc::Global;
 use std::sync::Wait;
 use swapper::QueueNaming;
 use version_words::Naming;
 
 /// The answer. After each refusal that room may help, room is made and the call is tried again, 1,000 times at most.
-fn answer<J: Naming, B: QueueNaming, D: Device, R: Wait>(
+fn answer<V: Value, J: Naming, B: QueueNaming, D: Device, R: Wait>(
     rt: &R,
     alloc: Global,
-    map: &FarMap<J, B, D>,
-    seated: &mut Seated<J, B>,
-    ask: &Asked<'_>,
-) -> Result<Option<Text>, Refusal>
-    ensures answers { AnswersBy J.limits map.now.table.limit seated.old.caller.pass seated.new.caller.pass (asked ask.now) result }
+    map: &FarMap<V, J, B, D>,
+    seated: &mut Seated<V, J, B>,
+    ask: &Asked<'_, V>,
+) -> Result<Option<V>, Refusal>
+    ensures answers { AnswersBy V.enc J.limits map.now.table.limit seated.old.caller.pass seated.new.caller.pass (asked ask.now) result }
     ensures none_lost { LosesNone seated.old.caller.limbo seated.old.seat seated.new.caller.limbo seated.new.seat }
 {
     map.before_change(rt, seated);
@@ -43,14 +43,14 @@ fn answer<J: Naming, B: QueueNaming, D: Device, R: Wait>(
 }
 
 /// The same, and what follows each call.
-pub(crate) fn answer_and_keep<J: Naming, B: QueueNaming, D: Device, R: Wait>(
+pub(crate) fn answer_and_keep<V: Value, J: Naming, B: QueueNaming, D: Device, R: Wait>(
     rt: &R,
     alloc: Global,
-    map: &FarMap<J, B, D>,
-    seated: &mut Seated<J, B>,
-    ask: &Asked<'_>,
-) -> Result<Option<Text>, Refusal>
-    ensures answers { AnswersBy J.limits map.now.table.limit seated.old.caller.pass seated.new.caller.pass (asked ask.now) result }
+    map: &FarMap<V, J, B, D>,
+    seated: &mut Seated<V, J, B>,
+    ask: &Asked<'_, V>,
+) -> Result<Option<V>, Refusal>
+    ensures answers { AnswersBy V.enc J.limits map.now.table.limit seated.old.caller.pass seated.new.caller.pass (asked ask.now) result }
     ensures none_lost { LosesNone seated.old.caller.limbo seated.old.seat seated.new.caller.limbo seated.new.seat }
 {
     let answered = answer(rt, alloc, map, seated, ask);

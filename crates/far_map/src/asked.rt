@@ -3,6 +3,7 @@ ghost use mathlib.Core.List.{IsPrefix};
 ghost use Rattle.far_map.specs.Asks.{asked};
 ghost use Rattle.far_map.specs.Answers.{Tries};
 
+use crate::values::Value;
 use far_device::Device;
 use far_object::Text;
 use hash_table::{Caller, FarTable, Refusal as TableRefusal};
@@ -12,22 +13,22 @@ use version_words::Naming;
 
 /// A change of the map.
 #[derive(Drop)]
-pub(crate) enum Asked<'a> {
-    Put(&'a Text, &'a Text),
+pub(crate) enum Asked<'a, V: Value> {
+    Put(&'a Text, &'a V),
     Remove(&'a Text),
-    PutIf(&'a Text, Option<&'a Text>, &'a Text),
+    PutIf(&'a Text, Option<&'a V>, &'a V),
 }
 
 /// One call of the table.
 #[tactic(auto, using(crate::proofs::Trying::change_refused))]
-pub(crate) fn call<J: Naming, D: Device, R: Wait>(
+pub(crate) fn call<V: Value, J: Naming, D: Device, R: Wait>(
     rt: &R,
     alloc: Global,
-    table: &FarTable<Text, Text, J, D>,
-    caller: &mut Caller<Text, Text, J>,
-    ask: &Asked<'_>,
-) -> Result<Option<Text>, TableRefusal>
-    ensures tries { Tries J.limits table.now.limit caller.old.pass caller.new.pass (asked ask.now) result }
+    table: &FarTable<Text, V, J, D>,
+    caller: &mut Caller<Text, V, J>,
+    ask: &Asked<'_, V>,
+) -> Result<Option<V>, TableRefusal>
+    ensures tries { Tries V.enc J.limits table.now.limit caller.old.pass caller.new.pass (asked ask.now) result }
     ensures limbo { IsPrefix caller.old.limbo caller.new.limbo }
 {
     match ask {

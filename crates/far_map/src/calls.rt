@@ -1,5 +1,5 @@
 //! A session as workers see it, without the names of its map.
-ghost use Rattle.std.specs.Prelude.{◌≡◌, Some, IfOk, IfErr};
+ghost use Rattle.std.specs.Prelude.{◌≡◌, ◌<◌, Some, IfOk, IfErr};
 ghost use Rattle.std.specs.Fn.{FnOnceReturnsAt};
 ghost use Rattle.std.specs.List.{FoldsTo};
 ghost use Rattle.table_core.specs.declared.operation.Operation.TheVariants as op;
@@ -14,13 +14,14 @@ ghost use Rattle.far_map.specs.Counts.{Counts};
 ghost use Rattle.far_map.specs.Refusals.{IsUnread};
 ghost use Rattle.far_map.specs.Removals.{call_of, found_in, IsMet};
 ghost use Rattle.far_map.specs.Updates.{IsUpdated};
-ghost use Rattle.far_map.specs.Visits.{IsVisit};
+ghost use Rattle.far_map.specs.Visits.{IsBucketVisit, IsVisit};
 
 use crate::asked::Asked;
 use crate::refusal::Refusal;
 use crate::session::Session;
 use crate::stats::Stats;
 use crate::updating::Updated;
+use crate::values::Value;
 use far_device::Device;
 use far_object::Text;
 use hash_table::{BucketState, Removal, TableScope, Traffic};
@@ -31,26 +32,26 @@ use version_words::Naming;
 /// The calls of a session. Each makes room and tries again by itself, and is refused only for good: `Memory`, `Device` and
 /// `Damaged` may come of each, `Full` of changes, `TooLong` of those that may set their key, and `NamesSpent` of changes. A call that
 /// is refused leaves the map as it was.
-pub trait Calls {
+pub trait Calls<V: Value> {
     ghost use Rattle.table_core.specs.declared.limits.Limits.{Limits};
     ghost use Rattle.far_map.specs.Views.{SessionView};
-    ghost use Rattle.std.specs.Prelude.{ℕ, List, Option};
+    ghost use Rattle.std.specs.Prelude.{Option};
 
     // The limits of its map.
     ghost limits: { Limits };
 
     // Its pass, the most bytes of an object, and what it has counted.
-    ghost shown: { Self → SessionView };
+    ghost shown: { Self → SessionView V };
 
     /// A value that is held where it lies, and stays there: it has to be let go, by `let_go`.
     type Held;
 
-    // The value's bytes.
-    ghost held: { Self.Held → Option (List ℕ) };
+    // The value.
+    ghost held: { Self.Held → Option V };
 
     /// The key's value, copied, or none. It needs no room, and no name: `Memory`, `Device` and `Damaged` alone may come.
-    fn get<R: Wait>(&mut self, rt: &R, key: &Text) -> Result<Option<Text>, Refusal>
-        ensures answers { Answers limits (shown self.old) (shown self.new) (op.Get key.now) result }
+    fn get<R: Wait>(&mut self, rt: &R, key: &Text) -> Result<Option<V>, Refusal>
+        ensures answers { Answers V.enc limits (shown self.old) (shown self.new) (op.Get key.now) result }
         ensures unread { IfErr result (IsUnread limits.honest) }
         ensures counts { Counts (shown self.old) (shown self.new) (op.Get key.now) result };
 
@@ -64,37 +65,37 @@ pub trait Calls {
         read: F,
     ) -> Result<Option<T>, Refusal>
         requires { F.IsAlwaysCallable read }
-        ensures read { IsRead limits (shown self.old) (shown self.new) key.now (FnOnceReturnsAt F.FnOnce read) result }
+        ensures read { IsRead V.enc limits (shown self.old) (shown self.new) key.now (λ v. FnOnceReturnsAt F.FnOnce read (V.shows v)) result }
         ensures unread { IfErr result (IsUnread limits.honest) }
         ensures counts { Counts (shown self.old) (shown self.new) (op.Get key.now) result };
 
     /// The key's value, held where it lies, or none. Its frame is given to no other object until it is let go, whatever calls are
     /// made meanwhile: where all frames are held, changes of other keys are `Full`. It is refused as a change is.
     fn hold<R: Wait>(&mut self, rt: &R, key: &Text) -> Result<Option<Self::Held>, Refusal>
-        ensures answers { Answers limits (shown self.old) (shown self.new) (op.Get key.now) (held_in held result) }
+        ensures answers { Answers V.enc limits (shown self.old) (shown self.new) (op.Get key.now) (held_in held result) }
         ensures counts { Counts (shown self.old) (shown self.new) (op.Get key.now) result };
 
     /// The bytes of a value that is held.
     fn bytes_of<'a>(&self, value: &'a Self::Held) -> &'a [u8]
-        ensures { held value.now ≡ Some result.now };
+        ensures { (v : V) × (held value.now ≡ Some v) × (result.now ≡ V.shows v) };
 
     /// Lets a value go that was held.
     fn let_go(&self, value: Self::Held);
 
     /// Whether the key has a value: a `with` that reads nothing of it.
     fn contains<R: Wait>(&mut self, rt: &R, key: &Text) -> Result<bool, Refusal>
-        ensures found { IsFound limits (shown self.old) (shown self.new) key.now result }
+        ensures found { IsFound V.enc limits (shown self.old) (shown self.new) key.now result }
         ensures unread { IfErr result (IsUnread limits.honest) }
         ensures counts { Counts (shown self.old) (shown self.new) (op.Get key.now) result };
 
     /// Sets the key to the value, and answers the one before.
-    fn put<R: Wait>(&mut self, rt: &R, key: &Text, value: &Text) -> Result<Option<Text>, Refusal>
-        ensures answers { Answers limits (shown self.old) (shown self.new) (op.Put key.now value.now) result }
+    fn put<R: Wait>(&mut self, rt: &R, key: &Text, value: &V) -> Result<Option<V>, Refusal>
+        ensures answers { Answers V.enc limits (shown self.old) (shown self.new) (op.Put key.now value.now) result }
         ensures counts { Counts (shown self.old) (shown self.new) (op.Put key.now value.now) result };
 
     /// Takes the key out, and answers the value that it had.
-    fn remove<R: Wait>(&mut self, rt: &R, key: &Text) -> Result<Option<Text>, Refusal>
-        ensures answers { Answers limits (shown self.old) (shown self.new) (op.Remove key.now) result }
+    fn remove<R: Wait>(&mut self, rt: &R, key: &Text) -> Result<Option<V>, Refusal>
+        ensures answers { Answers V.enc limits (shown self.old) (shown self.new) (op.Remove key.now) result }
         ensures counts { Counts (shown self.old) (shown self.new) (op.Remove key.now) result };
 
     /// Takes the key out where its value is the expected one, and answers the value that it had. Where that is another one, or
@@ -103,9 +104,9 @@ pub trait Calls {
         &mut self,
         rt: &R,
         key: &Text,
-        expected: &Text,
-    ) -> Result<Removal<Text>, Refusal>
-        ensures answers { Answers limits (shown self.old) (shown self.new) (call_of key.now result) (found_in result) }
+        expected: &V,
+    ) -> Result<Removal<V>, Refusal>
+        ensures answers { Answers V.enc limits (shown self.old) (shown self.new) (call_of key.now result) (found_in result) }
         ensures met { IfOk result (IsMet expected.now) }
         ensures counts { Counts (shown self.old) (shown self.new) (call_of key.now result) result };
 
@@ -115,34 +116,49 @@ pub trait Calls {
         &mut self,
         rt: &R,
         key: &Text,
-        expected: Option<&Text>,
-        value: &Text,
-    ) -> Result<Option<Text>, Refusal>
-        ensures answers { Answers limits (shown self.old) (shown self.new) (op.PutIf key.now (lent_value expected.entry) value.now) result }
+        expected: Option<&V>,
+        value: &V,
+    ) -> Result<Option<V>, Refusal>
+        ensures answers { Answers V.enc limits (shown self.old) (shown self.new) (op.PutIf key.now (lent_value expected.entry) value.now) result }
         ensures counts { Counts (shown self.old) (shown self.new) (op.PutIf key.now (lent_value expected.entry) value.now) result };
 
     /// Sets the key to what is made of its value, where something is, and the value was not changed meanwhile: else it is tried
     /// again, 1,000 times in all. Each try is a get and a `put_if`, counted as such, and refused as these are.
-    fn update<F: Fn(Option<&Text>) -> Option<Text> + Drop, R: Wait>(
+    fn update<F: Fn(Option<&V>) -> Option<V> + Drop, R: Wait>(
         &mut self,
         rt: &R,
         key: &Text,
         make: F,
-    ) -> Result<Updated, Refusal>
+    ) -> Result<Updated<V>, Refusal>
         requires { F.IsAlwaysCallable make }
-        ensures { IsUpdated limits key.now (λ found made. (lent : _) × (lent_value lent ≡ found) × F.post make lent made) (shown self.old) (shown self.new) result };
+        ensures { IsUpdated V.enc limits key.now (λ found made. (lent : _) × (lent_value lent ≡ found) × F.post make lent made) (shown self.old) (shown self.new) result };
 
     /// Hands each pair of the map to the visitor, bucket by bucket, each pair as it stood when its bucket was read: other calls
     /// may change the buckets meanwhile. No more than one bucket's pairs are copied at a time. It is no call of the map, and is not
     /// counted. It is refused as a get is, where a bucket can't be read; the visitor has the pairs of the buckets before that one
     /// then.
-    fn for_each<F: FnMut(Text, Text), R: Wait>(
+    fn for_each<F: FnMut(Text, V), R: Wait>(&mut self, rt: &R, visit: &mut F) -> Result<(), Refusal>
+        requires { F.IsAlwaysCallable visit.old }
+        ensures visits { IsVisit V.enc limits (λ pairs. FoldsTo (λ f pair g. F.step f pair.0 pair.1 tt g) visit.old pairs visit.new) (shown self.old).pass (shown self.new).pass result }
+        ensures goes { Goes (shown self.old).pass (shown self.new).pass }
+        ensures same { ((shown self.new).limit ≡ (shown self.old).limit) × ((shown self.new).stats ≡ (shown self.old).stats) };
+
+    /// How many buckets the map has.
+    fn buckets(&self) -> u32
+        ensures { result ≡ limits.buckets };
+
+    /// Hands each pair of the bucket of this number, counted from 0, to the visitor, as they stand together at one time in the
+    /// call. It is no call of the map, and is not counted. It is refused as a get is; the visitor has no pair then.
+    fn for_each_in<F: FnMut(Text, V), R: Wait>(
         &mut self,
         rt: &R,
+        bucket: u32,
         visit: &mut F,
     ) -> Result<(), Refusal>
-        requires { F.IsAlwaysCallable visit.old }
-        ensures visits { IsVisit limits (λ pairs. FoldsTo (λ f pair g. F.step f pair.0 pair.1 tt g) visit.old pairs visit.new) (shown self.old).pass (shown self.new).pass result }
+        requires bucket { bucket < limits.buckets }
+        requires callable { F.IsAlwaysCallable visit.old }
+        ensures visits { IsBucketVisit V.enc limits bucket (λ pairs. FoldsTo (λ f pair g. F.step f pair.0 pair.1 tt g) visit.old pairs visit.new) (shown self.new).pass result }
+        ensures again { F.IsAlwaysCallable visit.new }
         ensures goes { Goes (shown self.old).pass (shown self.new).pass }
         ensures same { ((shown self.new).limit ≡ (shown self.old).limit) × ((shown self.new).stats ≡ (shown self.old).stats) };
 
@@ -175,16 +191,16 @@ pub trait Calls {
         ensures { result ≡ (shown self.now).stats };
 }
 
-impl<'m, J: Naming, B: QueueNaming, D: Device> Calls for Session<'m, J, B, D> {
+impl<'m, V: Value, J: Naming, B: QueueNaming, D: Device> Calls<V> for Session<'m, V, J, B, D> {
     ghost limits = { J.limits };
 
     ghost shown = { λ s. s };
 
-    type Held = TableScope<'m, Text, Text, J>;
+    type Held = TableScope<'m, Text, V, J>;
 
     ghost held = { λ s. s.value };
 
-    fn get<R: Wait>(&mut self, rt: &R, key: &Text) -> Result<Option<Text>, Refusal> {
+    fn get<R: Wait>(&mut self, rt: &R, key: &Text) -> Result<Option<V>, Refusal> {
         self.copy(rt, key)
     }
 
@@ -202,7 +218,7 @@ impl<'m, J: Naming, B: QueueNaming, D: Device> Calls for Session<'m, J, B, D> {
     }
 
     fn bytes_of<'a>(&self, value: &'a Self::Held) -> &'a [u8] {
-        &value.bytes()[2..]
+        V::part(value.bytes())
     }
 
     fn let_go(&self, value: Self::Held) {
@@ -213,11 +229,11 @@ impl<'m, J: Naming, B: QueueNaming, D: Device> Calls for Session<'m, J, B, D> {
         self.find(rt, key)
     }
 
-    fn put<R: Wait>(&mut self, rt: &R, key: &Text, value: &Text) -> Result<Option<Text>, Refusal> {
+    fn put<R: Wait>(&mut self, rt: &R, key: &Text, value: &V) -> Result<Option<V>, Refusal> {
         self.ask(rt, &Asked::Put(key, value))
     }
 
-    fn remove<R: Wait>(&mut self, rt: &R, key: &Text) -> Result<Option<Text>, Refusal> {
+    fn remove<R: Wait>(&mut self, rt: &R, key: &Text) -> Result<Option<V>, Refusal> {
         self.ask(rt, &Asked::Remove(key))
     }
 
@@ -225,8 +241,8 @@ impl<'m, J: Naming, B: QueueNaming, D: Device> Calls for Session<'m, J, B, D> {
         &mut self,
         rt: &R,
         key: &Text,
-        expected: &Text,
-    ) -> Result<Removal<Text>, Refusal> {
+        expected: &V,
+    ) -> Result<Removal<V>, Refusal> {
         self.take_out(rt, key, expected)
     }
 
@@ -234,27 +250,40 @@ impl<'m, J: Naming, B: QueueNaming, D: Device> Calls for Session<'m, J, B, D> {
         &mut self,
         rt: &R,
         key: &Text,
-        expected: Option<&Text>,
-        value: &Text,
-    ) -> Result<Option<Text>, Refusal> {
+        expected: Option<&V>,
+        value: &V,
+    ) -> Result<Option<V>, Refusal> {
         self.ask(rt, &Asked::PutIf(key, expected, value))
     }
 
-    fn update<F: Fn(Option<&Text>) -> Option<Text> + Drop, R: Wait>(
+    fn update<F: Fn(Option<&V>) -> Option<V> + Drop, R: Wait>(
         &mut self,
         rt: &R,
         key: &Text,
         make: F,
-    ) -> Result<Updated, Refusal> {
+    ) -> Result<Updated<V>, Refusal> {
         self.make_anew(rt, key, make)
     }
 
-    fn for_each<F: FnMut(Text, Text), R: Wait>(
+    fn for_each<F: FnMut(Text, V), R: Wait>(
         &mut self,
         rt: &R,
         visit: &mut F,
     ) -> Result<(), Refusal> {
         self.visit_all(rt, visit)
+    }
+
+    fn buckets(&self) -> u32 {
+        self.map.buckets
+    }
+
+    fn for_each_in<F: FnMut(Text, V), R: Wait>(
+        &mut self,
+        rt: &R,
+        bucket: u32,
+        visit: &mut F,
+    ) -> Result<(), Refusal> {
+        self.visit_one(rt, bucket, visit)
     }
 
     fn where_is(&mut self, key: &Text) -> BucketState {

@@ -12,6 +12,7 @@ ghost use Rattle.far_map.specs.Runs.{AreSeen, IsLeft};
 
 use crate::fault::{RunFault, of_closing, of_handing};
 use crate::map::FarMap;
+use crate::values::Value;
 use far_device::Device;
 use far_object::Text;
 use far_pairs::Bundle;
@@ -27,10 +28,10 @@ use version_words::Naming;
 const MOST_CLOSES: u32 = 1_000;
 
 /// The callers, and the map's own behind them.
-fn with_own<J: Naming>(
-    mut callers: Vec<Caller<Text, Text, J>>,
-    own: Caller<Text, Text, J>,
-) -> Result<Vec<Caller<Text, Text, J>>, RunFault>
+fn with_own<V: Value, J: Naming>(
+    mut callers: Vec<Caller<Text, V, J>>,
+    own: Caller<Text, V, J>,
+) -> Result<Vec<Caller<Text, V, J>>, RunFault>
     ensures all { IfOk result (λ all. all.items ≡ callers.items ++ own ∷ []) }
     ensures fault { IfErr result (λ fault. fault ≡ Memory) }
 {
@@ -41,18 +42,19 @@ fn with_own<J: Naming>(
 }
 
 /// Closes the table, again where a name was missed.
-fn close_again<J, D, R>(
+fn close_again<V, J, D, R>(
     rt: &R,
     alloc: Global,
-    mut table: FarTable<Text, Text, J, D>,
-    mut callers: Vec<Caller<Text, Text, J>>,
-) -> Result<Vec<Bundle<Text, Text>>, CloseFault<Text, Text, J>>
+    mut table: FarTable<Text, V, J, D>,
+    mut callers: Vec<Caller<Text, V, J>>,
+) -> Result<Vec<Bundle<Text, V>>, CloseFault<Text, V, J>>
 where
+    V: Value + Send + Sync,
     J: Naming + Send + Sync,
     D: Device + Send,
     R: Threads + Wait + Sync,
-    ensures closed { IfOk result (λ bundles. ClosesSorted enc_text enc_text J.limits callers.items (all_of bundles.items)) }
-    ensures fault { IfErr result (λ e. (n : ℕ) × IsCloseFault enc_text enc_text J.limits n e) }
+    ensures closed { IfOk result (λ bundles. ClosesSorted enc_text V.enc J.limits callers.items (all_of bundles.items)) }
+    ensures fault { IfErr result (λ e. (n : ℕ) × IsCloseFault enc_text V.enc J.limits n e) }
 {
     for _ in 0..MOST_CLOSES {
         match table.close_on_threads(rt, alloc, callers) {
@@ -68,13 +70,13 @@ where
 }
 
 /// Afterwards the caller has seen what each of the others has.
-fn tell_all<J: Naming, D: Device>(
-    table: &FarTable<Text, Text, J, D>,
-    own: &mut Caller<Text, Text, J>,
-    callers: &[Caller<Text, Text, J>],
+fn tell_all<V: Value, J: Naming, D: Device>(
+    table: &FarTable<Text, V, J, D>,
+    own: &mut Caller<Text, V, J>,
+    callers: &[Caller<Text, V, J>],
 )
     ensures goes { Goes own.old.pass own.new.pass }
-    ensures lawful { IsLawful enc_text enc_text J.limits own.new.pass.front }
+    ensures lawful { IsLawful enc_text V.enc J.limits own.new.pass.front }
     ensures told { AreSeen own.new.pass.front (map (λ c. c.pass) callers.now) }
 {
     let Some((first, rest)) = callers.split_first() else {
@@ -85,7 +87,7 @@ fn tell_all<J: Naming, D: Device>(
     tell_all(table, own, rest);
 }
 
-impl<J: Naming, B: QueueNaming, D: Device> FarMap<J, B, D> {
+impl<V: Value, J: Naming, B: QueueNaming, D: Device> FarMap<V, J, B, D> {
     /// Ends the map, where all sessions have left, and gives all pairs in key order. The map is dropped at a fault.
     ///
     /// `PassesSpent` comes where a session's caller is not handed in; the others as at `FarTable::close`.
@@ -93,9 +95,9 @@ impl<J: Naming, B: QueueNaming, D: Device> FarMap<J, B, D> {
         self,
         rt: &R,
         alloc: Global,
-        callers: Vec<Caller<Text, Text, J>>,
-    ) -> Result<Vec<(Text, Text)>, RunFault>
-        ensures closed { IfOk result (λ v. IsClosedBy J.limits callers.items v.items) }
+        callers: Vec<Caller<Text, V, J>>,
+    ) -> Result<Vec<(Text, V)>, RunFault>
+        ensures closed { IfOk result (λ v. IsClosedBy V.enc J.limits callers.items v.items) }
         ensures fault { IfErr result (IsLater J.limits.honest) }
     {
         let FarMap { table, evictor, .. } = self;
@@ -107,14 +109,14 @@ impl<J: Naming, B: QueueNaming, D: Device> FarMap<J, B, D> {
     }
 
     /// The same for a map whose pairs have no room in memory together: the taker is handed them, bucket by bucket.
-    pub(crate) fn close_through<R: Wait, T: TakesPairs<Text, Text>>(
+    pub(crate) fn close_through<R: Wait, T: TakesPairs<Text, V>>(
         self,
         rt: &R,
         alloc: Global,
-        callers: Vec<Caller<Text, Text, J>>,
+        callers: Vec<Caller<Text, V, J>>,
         taker: &mut T,
     ) -> Result<(), RunFault>
-        ensures closed { OnOk result (Hands T.takes (IsHandedBy J.limits callers.items) taker.old taker.new) }
+        ensures closed { OnOk result (Hands T.takes (IsHandedBy V.enc J.limits callers.items) taker.old taker.new) }
         ensures fault { IfErr result (IsHandingFault T.takes T.stops J.limits.honest taker.old taker.new) }
     {
         let FarMap { table, evictor, .. } = self;
@@ -124,14 +126,14 @@ impl<J: Naming, B: QueueNaming, D: Device> FarMap<J, B, D> {
         };
         match table.close_through(rt, alloc, all, taker) {
             Ok(()) => Ok(()),
-            Err((fault, _table, _callers)) => Err(of_handing::<J, T>(fault)),
+            Err((fault, _table, _callers)) => Err(of_handing::<V, J, T>(fault)),
         }
     }
 
     /// Ends the map, where all sessions have left, and drops what it holds. One front is told what each of them has seen, so that
     /// theirs are beginnings of one history.
-    pub(crate) fn abandon(self, callers: &[Caller<Text, Text, J>])
-        ensures { IsLeft J.limits (map (λ c. c.pass) callers.now) }
+    pub(crate) fn abandon(self, callers: &[Caller<Text, V, J>])
+        ensures { IsLeft V.enc J.limits (map (λ c. c.pass) callers.now) }
     {
         let FarMap { table, evictor, .. } = self;
         let mut own = evictor.into_inner().into_caller();
@@ -139,8 +141,9 @@ impl<J: Naming, B: QueueNaming, D: Device> FarMap<J, B, D> {
     }
 }
 
-impl<J, B, D> FarMap<J, B, D>
+impl<V, J, B, D> FarMap<V, J, B, D>
 where
+    V: Value + Send + Sync,
     J: Naming + Send + Sync,
     B: QueueNaming,
     D: Device + Send,
@@ -151,9 +154,9 @@ where
         self,
         rt: &R,
         alloc: Global,
-        callers: Vec<Caller<Text, Text, J>>,
-    ) -> Result<Vec<Bundle<Text, Text>>, RunFault>
-        ensures closed { IfOk result (λ v. IsBundledBy J.limits callers.items (all_of v.items)) }
+        callers: Vec<Caller<Text, V, J>>,
+    ) -> Result<Vec<Bundle<Text, V>>, RunFault>
+        ensures closed { IfOk result (λ v. IsBundledBy V.enc J.limits callers.items (all_of v.items)) }
         ensures fault { IfErr result (IsLater J.limits.honest) }
     {
         let FarMap { table, evictor, .. } = self;

@@ -1,6 +1,7 @@
 //! What a run gives beside what its workers gave back.
 ghost use Rattle.std.specs.Prelude.{MatchResult, ⊤};
 
+use crate::values::Value;
 use far_object::Text;
 use far_pairs::Bundle;
 use hash_table::{Stopped, TakesPairs};
@@ -20,9 +21,9 @@ pub enum End {
 
 /// What it gave.
 #[derive(Drop)]
-pub enum Given {
-    Pairs(Vec<(Text, Text)>),
-    Bundles(Vec<Bundle<Text, Text>>),
+pub enum Given<V: Value> {
+    Pairs(Vec<(Text, V)>),
+    Bundles(Vec<Bundle<Text, V>>),
     Nothing,
 }
 
@@ -30,7 +31,7 @@ pub enum Given {
 #[derive(Drop)]
 pub(crate) struct NoTaker;
 
-impl TakesPairs<Text, Text> for NoTaker {
+impl<V: Value> TakesPairs<Text, V> for NoTaker {
     ghost takes = { λ old pairs new. ⊤ };
 
     ghost stops = { λ old new. ⊤ };
@@ -39,7 +40,7 @@ impl TakesPairs<Text, Text> for NoTaker {
 
     ghost takes_both = { λ x y z first last one other. tt };
 
-    fn take(&mut self, _pairs: Vec<(Text, Text)>) -> Result<(), Stopped>
+    fn take(&mut self, _pairs: Vec<(Text, V)>) -> Result<(), Stopped>
         ensures { MatchResult result (λ _. ⊤) (λ _. ⊤) }
     {
         Err(Stopped)

@@ -9,6 +9,7 @@ use crate::keeping::Seated;
 use crate::map::FarMap;
 use crate::session::Session;
 use crate::stats::Stats;
+use crate::values::Value;
 use far_device::Device;
 use far_object::Text;
 use hash_table::{Caller, FarTable};
@@ -19,16 +20,16 @@ use version_words::{EnterFault, Naming};
 
 /// A session that has not begun.
 #[derive(Drop)]
-pub(crate) struct Newcomer<J: Naming, B: QueueNaming> {
-    seated: Seated<J, B>,
+pub(crate) struct Newcomer<V: Value, J: Naming, B: QueueNaming> {
+    seated: Seated<V, J, B>,
     ghost new: { calls seated.caller.pass ≡ [] },
 }
 
 /// A new caller, also while others enter. `PassesSpent` comes where the last pass was drawn.
-pub(crate) fn enter<J: Naming, D: Device, R: Wait>(
+pub(crate) fn enter<V: Value, J: Naming, D: Device, R: Wait>(
     rt: &R,
-    table: &FarTable<Text, Text, J, D>,
-) -> Result<Caller<Text, Text, J>, RunFault>
+    table: &FarTable<Text, V, J, D>,
+) -> Result<Caller<Text, V, J>, RunFault>
     ensures new { IfOk result (λ c. calls c.pass ≡ []) }
     ensures fault { IfErr result IsOfEntering }
 {
@@ -44,14 +45,14 @@ pub(crate) fn enter<J: Naming, D: Device, R: Wait>(
 
 /// A newcomer for each seat, who enter in the order of the seats. Where they recycle, each owns a frame between its calls.
 /// `Memory` comes where a growth is refused.
-pub(crate) fn enter_all<J: Naming, B: QueueNaming, D: Device, R: Wait>(
+pub(crate) fn enter_all<V: Value, J: Naming, B: QueueNaming, D: Device, R: Wait>(
     rt: &R,
     alloc: Global,
-    table: &FarTable<Text, Text, J, D>,
+    table: &FarTable<Text, V, J, D>,
     frames: u32,
     recycles: bool,
-    mut seats: Vec<QueueSeat<Text, Text, J, B>>,
-) -> Result<Vec<Newcomer<J, B>>, RunFault>
+    mut seats: Vec<QueueSeat<Text, V, J, B>>,
+) -> Result<Vec<Newcomer<V, J, B>>, RunFault>
     requires frames { 0 < frames }
     requires few { vec_len seats < 2 ^ 32 }
     ensures each { IfOk result (λ newcomers. vec_len newcomers ≡ vec_len seats) }
@@ -83,9 +84,13 @@ pub(crate) fn enter_all<J: Naming, B: QueueNaming, D: Device, R: Wait>(
     Ok(newcomers)
 }
 
-impl<J: Naming, B: QueueNaming, D: Device> FarMap<J, B, D> {
+impl<V: Value, J: Naming, B: QueueNaming, D: Device> FarMap<V, J, B, D> {
     /// A session that has made no call.
-    pub(crate) fn begin(&self, alloc: Global, newcomer: Newcomer<J, B>) -> Session<'_, J, B, D>
+    pub(crate) fn begin(
+        &self,
+        alloc: Global,
+        newcomer: Newcomer<V, J, B>,
+    ) -> Session<'_, V, J, B, D>
         ensures new { calls result.pass ≡ [] }
         ensures limit { result.limit ≡ self.now.table.limit }
         ensures stats { result.stats ≡ no_calls }

@@ -1,6 +1,7 @@
 //! The evictor's thread.
 
 use crate::map::FarMap;
+use crate::values::Value;
 use far_device::Device;
 use std::sync::Wait;
 use std::sync::atomic::Ordering;
@@ -17,7 +18,7 @@ const SHORTEST_NAP: u64 = 100;
 /// to find nothing.
 const LONGEST_NAP: u64 = 3_200;
 
-impl<J: Naming, B: QueueNaming, D: Device> FarMap<J, B, D> {
+impl<V: Value, J: Naming, B: QueueNaming, D: Device> FarMap<V, J, B, D> {
     /// Has spares reclaimed, and frames emptied while too few are free, until all workers have ended. A nap ends early where
     /// somebody wakes it.
     pub(crate) fn evict<R: Wait>(&self, rt: &R) {

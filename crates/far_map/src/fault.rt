@@ -5,6 +5,7 @@ ghost use Rattle.far_object.specs.Encodings.{enc_text};
 ghost use Rattle.far_map.specs.Faults.{of_opening, IsLater, IsHandingFault};
 
 use crate::settings::{Setting, setting_of};
+use crate::values::Value;
 use far_object::Text;
 use hash_table::{CloseFault, HandFault, OpenFault, TakesPairs};
 use thiserror::Error;
@@ -46,8 +47,8 @@ pub(crate) fn of_opening(fault: OpenFault) -> RunFault
     }
 }
 
-pub(crate) fn of_closing<J: Naming>(fault: CloseFault<Text, Text, J>) -> RunFault
-    ensures { (n : ℕ) → IsCloseFault enc_text enc_text J.limits n fault → IsLater J.limits.honest result }
+pub(crate) fn of_closing<V: Value, J: Naming>(fault: CloseFault<Text, V, J>) -> RunFault
+    ensures { (n : ℕ) → IsCloseFault enc_text V.enc J.limits n fault → IsLater J.limits.honest result }
 {
     match fault {
         CloseFault::PassMissing(_) => RunFault::PassesSpent,
@@ -58,10 +59,10 @@ pub(crate) fn of_closing<J: Naming>(fault: CloseFault<Text, Text, J>) -> RunFaul
     }
 }
 
-pub(crate) fn of_handing<J: Naming, T: TakesPairs<Text, Text>>(
-    fault: HandFault<Text, Text, J>,
+pub(crate) fn of_handing<V: Value, J: Naming, T: TakesPairs<Text, V>>(
+    fault: HandFault<Text, V, J>,
 ) -> RunFault
-    ensures { (n : ℕ) (old new : T) → IsHandFault enc_text enc_text J.limits T.takes T.stops old new n fault → IsHandingFault T.takes T.stops J.limits.honest old new result }
+    ensures { (n : ℕ) (old new : T) → IsHandFault enc_text V.enc J.limits T.takes T.stops old new n fault → IsHandingFault T.takes T.stops J.limits.honest old new result }
 {
     match fault {
         HandFault::Stopped => RunFault::Stopped,

@@ -13,6 +13,7 @@ use crate::map::FarMap;
 use crate::refusal::{Refusal, said};
 use crate::room::{MOST_TRIES, make_room};
 use crate::session::Session;
+use crate::values::Value;
 use far_device::Device;
 use far_object::Text;
 use hash_table::{Caller, FarTable, Refusal as TableRefusal, TableScope};
@@ -22,18 +23,18 @@ use swapper::QueueNaming;
 use version_words::Naming;
 
 /// A value that is held, or none.
-pub(crate) type Held<'a, J> = Option<TableScope<'a, Text, Text, J>>;
+pub(crate) type Held<'a, V, J> = Option<TableScope<'a, Text, V, J>>;
 
 /// One try to fetch the key's object into a frame. What another try may not meet is no refusal.
-fn bring<J: Naming, D: Device, R: Wait>(
+fn bring<V: Value, J: Naming, D: Device, R: Wait>(
     rt: &R,
     alloc: Global,
-    table: &FarTable<Text, Text, J, D>,
-    caller: &mut Caller<Text, Text, J>,
+    table: &FarTable<Text, V, J, D>,
+    caller: &mut Caller<Text, V, J>,
     key: &Text,
 ) -> Result<(), TableRefusal>
     ensures goes { Goes caller.old.pass caller.new.pass }
-    ensures refused { IfErr result (λ e. IsRefused J.limits table.now.limit caller.old.pass caller.new.pass (Get key.now) (said e)) }
+    ensures refused { IfErr result (λ e. IsRefused V.enc J.limits table.now.limit caller.old.pass caller.new.pass (Get key.now) (said e)) }
     ensures limbo { IsPrefix caller.old.limbo caller.new.limbo }
 {
     match table.fetch(rt, alloc, caller, key) {
@@ -45,14 +46,14 @@ fn bring<J: Naming, D: Device, R: Wait>(
 }
 
 /// Tries to open a scope until the key's object lies in a frame; it is fetched where it does not.
-pub(crate) fn open_near<'a, J: Naming, D: Device, R: Wait>(
+pub(crate) fn open_near<'a, V: Value, J: Naming, D: Device, R: Wait>(
     rt: &R,
     alloc: Global,
-    table: &'a FarTable<Text, Text, J, D>,
-    caller: &mut Caller<Text, Text, J>,
+    table: &'a FarTable<Text, V, J, D>,
+    caller: &mut Caller<Text, V, J>,
     key: &Text,
-) -> Result<Held<'a, J>, TableRefusal>
-    ensures tries { Tries J.limits table.now.limit caller.old.pass caller.new.pass (Get key.now) (held_in (λ s. s.value) result) }
+) -> Result<Held<'a, V, J>, TableRefusal>
+    ensures tries { Tries V.enc J.limits table.now.limit caller.old.pass caller.new.pass (Get key.now) (held_in (λ s. s.value) result) }
     ensures limbo { IsPrefix caller.old.limbo caller.new.limbo }
 {
     for _ in rt.forever() {
@@ -70,14 +71,14 @@ pub(crate) fn open_near<'a, J: Naming, D: Device, R: Wait>(
 
 /// Opens a scope on the key's value. After each refusal that room may help, room is made and it is tried again, 1,000 times at
 /// most.
-fn open<'a, J: Naming, B: QueueNaming, D: Device, R: Wait>(
+fn open<'a, V: Value, J: Naming, B: QueueNaming, D: Device, R: Wait>(
     rt: &R,
     alloc: Global,
-    map: &'a FarMap<J, B, D>,
-    seated: &mut Seated<J, B>,
+    map: &'a FarMap<V, J, B, D>,
+    seated: &mut Seated<V, J, B>,
     key: &Text,
-) -> Result<Held<'a, J>, Refusal>
-    ensures answers { AnswersBy J.limits map.now.table.limit seated.old.caller.pass seated.new.caller.pass (Get key.now) (held_in (λ s. s.value) result) }
+) -> Result<Held<'a, V, J>, Refusal>
+    ensures answers { AnswersBy V.enc J.limits map.now.table.limit seated.old.caller.pass seated.new.caller.pass (Get key.now) (held_in (λ s. s.value) result) }
     ensures none_lost { LosesNone seated.old.caller.limbo seated.old.seat seated.new.caller.limbo seated.new.seat }
 {
     for _ in 0..MOST_TRIES {
@@ -96,14 +97,14 @@ fn open<'a, J: Naming, B: QueueNaming, D: Device, R: Wait>(
 }
 
 /// The same, and what follows each call.
-fn open_and_keep<'a, J: Naming, B: QueueNaming, D: Device, R: Wait>(
+fn open_and_keep<'a, V: Value, J: Naming, B: QueueNaming, D: Device, R: Wait>(
     rt: &R,
     alloc: Global,
-    map: &'a FarMap<J, B, D>,
-    seated: &mut Seated<J, B>,
+    map: &'a FarMap<V, J, B, D>,
+    seated: &mut Seated<V, J, B>,
     key: &Text,
-) -> Result<Held<'a, J>, Refusal>
-    ensures answers { AnswersBy J.limits map.now.table.limit seated.old.caller.pass seated.new.caller.pass (Get key.now) (held_in (λ s. s.value) result) }
+) -> Result<Held<'a, V, J>, Refusal>
+    ensures answers { AnswersBy V.enc J.limits map.now.table.limit seated.old.caller.pass seated.new.caller.pass (Get key.now) (held_in (λ s. s.value) result) }
     ensures none_lost { LosesNone seated.old.caller.limbo seated.old.seat seated.new.caller.limbo seated.new.seat }
 {
     let held = open(rt, alloc, map, seated, key);
@@ -111,14 +112,18 @@ fn open_and_keep<'a, J: Naming, B: QueueNaming, D: Device, R: Wait>(
     held
 }
 
-impl<'m, J: Naming, B: QueueNaming, D: Device> Session<'m, J, B, D> {
+impl<'m, V: Value, J: Naming, B: QueueNaming, D: Device> Session<'m, V, J, B, D> {
     /// Holds the key's value where it lies, or none where the key has none.
-    pub(crate) fn take_hold<R: Wait>(&mut self, rt: &R, key: &Text) -> Result<Held<'m, J>, Refusal>
-        ensures answers { Answers J.limits self.old self.new (Get key.now) (held_in (λ s. s.value) result) }
+    pub(crate) fn take_hold<R: Wait>(
+        &mut self,
+        rt: &R,
+        key: &Text,
+    ) -> Result<Held<'m, V, J>, Refusal>
+        ensures answers { Answers V.enc J.limits self.old self.new (Get key.now) (held_in (λ s. s.value) result) }
         ensures counts { Counts self.old self.new (Get key.now) result }
     {
         let held = open_and_keep(rt, self.alloc, self.map, &mut self.seated, key);
-        self.stats.count_get(&held);
+        self.stats.count_get::<V, _>(&held);
         held
     }
 }

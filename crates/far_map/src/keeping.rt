@@ -14,6 +14,7 @@ ghost use Rattle.far_map.specs.Spares.{LosesNone};
 use crate::bytes::FrameBytes;
 use crate::map::FarMap;
 use crate::room::MOST_TRIES;
+use crate::values::Value;
 use far_device::Device;
 use far_object::Text;
 use hash_table::{Caller, Refusal as TableRefusal};
@@ -27,22 +28,22 @@ const MOST_TURNS: u32 = 16;
 
 /// A caller, its seat at the queue of spares, and what it makes room by itself with.
 #[derive(Drop)]
-pub struct Seated<J: Naming, B: QueueNaming> {
-    pub(crate) caller: Caller<Text, Text, J>,
-    pub(crate) seat: QueueSeat<Text, Text, J, B>,
+pub struct Seated<V: Value, J: Naming, B: QueueNaming> {
+    pub(crate) caller: Caller<Text, V, J>,
+    pub(crate) seat: QueueSeat<Text, V, J, B>,
     pub(crate) room: RoomMaker,
     pub(crate) number: u32,
     // How many bytes it last told that its calls had brought into frames.
     pub(crate) told: i64,
 }
 
-impl<J: Naming, B: QueueNaming, D: Device> FarMap<J, B, D> {
+impl<V: Value, J: Naming, B: QueueNaming, D: Device> FarMap<V, J, B, D> {
     /// A turn of the evictor, and whether it emptied a frame. Where it is refused the caller has seen afterwards what the evictor
     /// had.
     pub(crate) fn turn<R: Wait>(
         &self,
         rt: &R,
-        caller: &mut Caller<Text, Text, J>,
+        caller: &mut Caller<Text, V, J>,
     ) -> Result<bool, TableRefusal>
         ensures goes { Goes caller.old.pass caller.new.pass }
         ensures limbo { caller.new.limbo ≡ caller.old.limbo }
@@ -73,7 +74,7 @@ impl<J: Naming, B: QueueNaming, D: Device> FarMap<J, B, D> {
     fn turns<R: Wait>(
         &self,
         rt: &R,
-        evictor: &mut Evictor<Text, Text, J, B>,
+        evictor: &mut Evictor<Text, V, J, B>,
     ) -> Result<bool, TableRefusal>
         ensures why { IfErr result (IsTurnFault J.limits evictor.new.pass.front) }
     {
@@ -103,7 +104,7 @@ impl<J: Naming, B: QueueNaming, D: Device> FarMap<J, B, D> {
     fn turns_for<R: Wait>(
         &self,
         rt: &R,
-        caller: &mut Caller<Text, Text, J>,
+        caller: &mut Caller<Text, V, J>,
     ) -> Result<bool, TableRefusal>
         ensures goes { Goes caller.old.pass caller.new.pass }
         ensures limbo { caller.new.limbo ≡ caller.old.limbo }
@@ -127,7 +128,7 @@ impl<J: Naming, B: QueueNaming, D: Device> FarMap<J, B, D> {
     }
 
     /// Hands over the spares that the caller's calls have left, as far as the queue has room.
-    pub(crate) fn settle<R: Wait>(&self, rt: &R, seated: &mut Seated<J, B>)
+    pub(crate) fn settle<R: Wait>(&self, rt: &R, seated: &mut Seated<V, J, B>)
         ensures pass { seated.new.caller.pass ≡ seated.old.caller.pass }
         ensures none_lost { LosesNone seated.old.caller.limbo seated.old.seat seated.new.caller.limbo seated.new.seat }
     {
@@ -138,7 +139,7 @@ impl<J: Naming, B: QueueNaming, D: Device> FarMap<J, B, D> {
     fn make_own_room<R: Wait>(
         &self,
         rt: &R,
-        seated: &mut Seated<J, B>,
+        seated: &mut Seated<V, J, B>,
     ) -> Result<bool, TableRefusal>
         ensures goes { Goes seated.old.caller.pass seated.new.caller.pass }
         ensures none_lost { LosesNone seated.old.caller.limbo seated.old.seat seated.new.caller.limbo seated.new.seat }
@@ -152,7 +153,7 @@ impl<J: Naming, B: QueueNaming, D: Device> FarMap<J, B, D> {
     pub(crate) fn empty_frames<R: Wait>(
         &self,
         rt: &R,
-        seated: &mut Seated<J, B>,
+        seated: &mut Seated<V, J, B>,
     ) -> Result<bool, TableRefusal>
         ensures goes { Goes seated.old.caller.pass seated.new.caller.pass }
         ensures none_lost { LosesNone seated.old.caller.limbo seated.old.seat seated.new.caller.limbo seated.new.seat }
@@ -168,7 +169,7 @@ impl<J: Naming, B: QueueNaming, D: Device> FarMap<J, B, D> {
     }
 
     /// What comes before a change: a frame for it, where frames were lacking of late.
-    pub(crate) fn before_change<R: Wait>(&self, rt: &R, seated: &mut Seated<J, B>)
+    pub(crate) fn before_change<R: Wait>(&self, rt: &R, seated: &mut Seated<V, J, B>)
         ensures goes { Goes seated.old.caller.pass seated.new.caller.pass }
         ensures none_lost { LosesNone seated.old.caller.limbo seated.old.seat seated.new.caller.limbo seated.new.seat }
     {
@@ -176,7 +177,7 @@ impl<J: Naming, B: QueueNaming, D: Device> FarMap<J, B, D> {
     }
 
     /// Tells how many bytes its calls have brought into frames, and answers whether too many lie there by now.
-    fn tell(&self, seated: &mut Seated<J, B>) -> bool
+    fn tell(&self, seated: &mut Seated<V, J, B>) -> bool
         ensures caller { seated.new.caller ≡ seated.old.caller }
         ensures seat { seated.new.seat ≡ seated.old.seat }
     {
@@ -187,7 +188,7 @@ impl<J: Naming, B: QueueNaming, D: Device> FarMap<J, B, D> {
 
     /// Has a frame emptied where too many bytes lie in frames, and says whether it did.
     #[tactic(auto, using(crate::proofs::Losses::loses_self))]
-    fn empty_above<R: Wait>(&self, rt: &R, seated: &mut Seated<J, B>) -> bool
+    fn empty_above<R: Wait>(&self, rt: &R, seated: &mut Seated<V, J, B>) -> bool
         ensures goes { Goes seated.old.caller.pass seated.new.caller.pass }
         ensures none_lost { LosesNone seated.old.caller.limbo seated.old.seat seated.new.caller.limbo seated.new.seat }
     {
@@ -199,7 +200,7 @@ impl<J: Naming, B: QueueNaming, D: Device> FarMap<J, B, D> {
 
     /// Has frames emptied while too many bytes lie there. It looks where the caller's own count has changed by enough.
     #[tactic(auto, using(crate::proofs::Losses::loses_self))]
-    fn keep_below<R: Wait>(&self, rt: &R, seated: &mut Seated<J, B>)
+    fn keep_below<R: Wait>(&self, rt: &R, seated: &mut Seated<V, J, B>)
         ensures goes { Goes seated.old.caller.pass seated.new.caller.pass }
         ensures none_lost { LosesNone seated.old.caller.limbo seated.old.seat seated.new.caller.limbo seated.new.seat }
     {
@@ -214,7 +215,7 @@ impl<J: Naming, B: QueueNaming, D: Device> FarMap<J, B, D> {
     }
 
     /// What follows each call: where too many bytes lie in frames some are emptied, and its spares are seen to.
-    pub(crate) fn after_call<R: Wait>(&self, rt: &R, seated: &mut Seated<J, B>)
+    pub(crate) fn after_call<R: Wait>(&self, rt: &R, seated: &mut Seated<V, J, B>)
         ensures goes { Goes seated.old.caller.pass seated.new.caller.pass }
         ensures none_lost { LosesNone seated.old.caller.limbo seated.old.seat seated.new.caller.limbo seated.new.seat }
     {
@@ -225,7 +226,7 @@ impl<J: Naming, B: QueueNaming, D: Device> FarMap<J, B, D> {
     /// Has the spares handed over that its calls have left, and without the evictor's thread reclaimed, with those that came back
     /// before.
     #[tactic(auto, using(crate::proofs::Losses::loses_self))]
-    fn hand_over<R: Wait>(&self, rt: &R, seated: &mut Seated<J, B>)
+    fn hand_over<R: Wait>(&self, rt: &R, seated: &mut Seated<V, J, B>)
         ensures goes { Goes seated.old.caller.pass seated.new.caller.pass }
         ensures none_lost { LosesNone seated.old.caller.limbo seated.old.seat seated.new.caller.limbo seated.new.seat }
     {
@@ -240,7 +241,7 @@ impl<J: Naming, B: QueueNaming, D: Device> FarMap<J, B, D> {
     }
 
     /// The caller reclaims its oldest spare, which is mostly the only one, and what still waits is handed over.
-    fn recycle_own<R: Wait>(&self, rt: &R, seated: &mut Seated<J, B>)
+    fn recycle_own<R: Wait>(&self, rt: &R, seated: &mut Seated<V, J, B>)
         ensures goes { Goes seated.old.caller.pass seated.new.caller.pass }
         ensures none_lost { LosesNone seated.old.caller.limbo seated.old.seat seated.new.caller.limbo seated.new.seat }
     {
@@ -249,7 +250,7 @@ impl<J: Naming, B: QueueNaming, D: Device> FarMap<J, B, D> {
     }
 
     /// Sees to the spares that its calls have left.
-    fn see_to_spares<R: Wait>(&self, rt: &R, seated: &mut Seated<J, B>)
+    fn see_to_spares<R: Wait>(&self, rt: &R, seated: &mut Seated<V, J, B>)
         ensures goes { Goes seated.old.caller.pass seated.new.caller.pass }
         ensures none_lost { LosesNone seated.old.caller.limbo seated.old.seat seated.new.caller.limbo seated.new.seat }
     {

@@ -35,10 +35,12 @@ mod sharing;
 mod stats;
 mod texts;
 mod updating;
+mod values;
 mod visiting;
 mod work;
 
 pub use calls::Calls;
+pub use far_blob::Blob;
 pub use far_object::Text;
 pub use fault::RunFault;
 pub use hash_table::{BucketState, Removal, Stopped, TakesPairs, Traffic};
@@ -49,4 +51,5 @@ pub use settings::{Setting, Settings};
 pub use stats::Stats;
 pub use texts::text;
 pub use updating::Updated;
+pub use values::Value;
 pub use work::Work;

@@ -2,6 +2,7 @@
 ghost use Rattle.std.specs.Prelude.{◌≡◌};
 
 use crate::bytes::FrameBytes;
+use crate::values::Value;
 use far_device::Device;
 use far_object::Text;
 use hash_table::FarTable;
@@ -13,11 +14,11 @@ use version_words::Naming;
 
 /// A table, its queue of spares and its evictor. `J` and `B` are their names in types, which `run` picks.
 #[derive(Drop)]
-pub struct FarMap<J: Naming, B: QueueNaming, D: Device> {
-    pub(crate) table: FarTable<Text, Text, J, D>,
-    pub(crate) queue: SpareQueue<Text, Text, J, B>,
+pub struct FarMap<V: Value, J: Naming, B: QueueNaming, D: Device> {
+    pub(crate) table: FarTable<Text, V, J, D>,
+    pub(crate) queue: SpareQueue<Text, V, J, B>,
     // While one thread has the evictor, others wait for it.
-    pub(crate) evictor: Mutex<Evictor<Text, Text, J, B>>,
+    pub(crate) evictor: Mutex<Evictor<Text, V, J, B>>,
     pub(crate) buckets: u32,
     // How many frames the evictor's thread keeps free.
     pub(crate) reserve: u32,

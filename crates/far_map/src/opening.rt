@@ -6,6 +6,7 @@ use crate::bytes::FrameBytes;
 use crate::entering::{Newcomer, enter, enter_all};
 use crate::fault::RunFault;
 use crate::map::FarMap;
+use crate::values::Value;
 use far_device::Device;
 use far_object::Text;
 use hash_table::{Config, FarTable};
@@ -25,15 +26,15 @@ fn reserve_of(frames: u32) -> u32 {
 const FRAMES_TO_OWN: u32 = 4;
 
 /// The map, and a newcomer for each worker. They enter before the evictor does.
-pub(crate) fn map_over<J: Naming, B: QueueNaming, D: Device, R: Wait>(
+pub(crate) fn map_over<V: Value, J: Naming, B: QueueNaming, D: Device, R: Wait>(
     rt: &R,
     alloc: Global,
     config: Config,
     bytes: u64,
-    table: FarTable<Text, Text, J, D>,
-    queue: QueueOpening<Text, Text, J>,
+    table: FarTable<Text, V, J, D>,
+    queue: QueueOpening<Text, V, J>,
     workers: u32,
-) -> Result<(FarMap<J, B, D>, Vec<Newcomer<J, B>>), RunFault>
+) -> Result<(FarMap<V, J, B, D>, Vec<Newcomer<V, J, B>>), RunFault>
     requires queue { queue.table ≡ B.table }
     requires buckets { config.buckets ≡ J.limits.buckets }
     requires frames { 0 < config.frames }

@@ -12,6 +12,7 @@ use crate::map::FarMap;
 use crate::refusal::{Lack, Refusal};
 use crate::room::{MOST_TRIES, make_room};
 use crate::session::Session;
+use crate::values::Value;
 use far_device::Device;
 use far_object::Text;
 use hash_table::{BucketState, Caller, Refusal as TableRefusal};
@@ -21,10 +22,10 @@ use version_words::Naming;
 
 /// A turn of the evictor, and whether it emptied a frame. Where another thread was faster it is made again.
 #[tactic(auto, using(hash_table::proofs::Fronts::goes_trans))]
-fn turn<J: Naming, B: QueueNaming, D: Device, R: Wait>(
+fn turn<V: Value, J: Naming, B: QueueNaming, D: Device, R: Wait>(
     rt: &R,
-    map: &FarMap<J, B, D>,
-    caller: &mut Caller<Text, Text, J>,
+    map: &FarMap<V, J, B, D>,
+    caller: &mut Caller<Text, V, J>,
 ) -> Result<bool, TableRefusal>
     ensures goes { Goes caller.old.pass caller.new.pass }
     ensures limbo { caller.new.limbo ≡ caller.old.limbo }
@@ -41,10 +42,10 @@ fn turn<J: Naming, B: QueueNaming, D: Device, R: Wait>(
 }
 
 /// The same. Where too many spares wait they go first, 1,000 times at most.
-fn give_up<J: Naming, B: QueueNaming, D: Device, R: Wait>(
+fn give_up<V: Value, J: Naming, B: QueueNaming, D: Device, R: Wait>(
     rt: &R,
-    map: &FarMap<J, B, D>,
-    seated: &mut Seated<J, B>,
+    map: &FarMap<V, J, B, D>,
+    seated: &mut Seated<V, J, B>,
 ) -> Result<bool, Refusal>
     ensures goes { Goes seated.old.caller.pass seated.new.caller.pass }
     ensures none_lost { LosesNone seated.old.caller.limbo seated.old.seat seated.new.caller.limbo seated.new.seat }
@@ -61,7 +62,7 @@ fn give_up<J: Naming, B: QueueNaming, D: Device, R: Wait>(
     Err(Refusal::Full(Lack::Spare))
 }
 
-impl<'m, J: Naming, B: QueueNaming, D: Device> Session<'m, J, B, D> {
+impl<'m, V: Value, J: Naming, B: QueueNaming, D: Device> Session<'m, V, J, B, D> {
     /// Where the contents of the key's bucket lie.
     pub(crate) fn place(&mut self, key: &Text) -> BucketState
         ensures goes { Goes self.old.pass self.new.pass }

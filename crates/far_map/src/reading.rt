@@ -1,5 +1,5 @@
 //! Gets: a value that is copied, or read where it lies. They need no room, and are tried once.
-ghost use Rattle.std.specs.Prelude.{◌≡◌, ℕ, List, Some, IfErr};
+ghost use Rattle.std.specs.Prelude.{◌≡◌, Some, IfErr};
 ghost use mathlib.Core.List.{IsPrefix};
 ghost use Rattle.std.specs.Fn.{FnOnceReturnsAt};
 ghost use Rattle.table_core.specs.declared.operation.Operation.TheVariants.{Get};
@@ -13,6 +13,7 @@ use crate::keeping::Seated;
 use crate::map::FarMap;
 use crate::refusal::{Refusal, said};
 use crate::session::Session;
+use crate::values::Value;
 use far_device::Device;
 use far_object::Text;
 use hash_table::{Caller, FarTable, TableScope};
@@ -22,14 +23,14 @@ use swapper::QueueNaming;
 use version_words::Naming;
 
 /// The key's value, copied.
-fn copy_value<J: Naming, D: Device, R: Wait>(
+fn copy_value<V: Value, J: Naming, D: Device, R: Wait>(
     rt: &R,
     alloc: Global,
-    table: &FarTable<Text, Text, J, D>,
-    caller: &mut Caller<Text, Text, J>,
+    table: &FarTable<Text, V, J, D>,
+    caller: &mut Caller<Text, V, J>,
     key: &Text,
-) -> Result<Option<Text>, Refusal>
-    ensures answers { AnswersBy J.limits table.now.limit caller.old.pass caller.new.pass (Get key.now) result }
+) -> Result<Option<V>, Refusal>
+    ensures answers { AnswersBy V.enc J.limits table.now.limit caller.old.pass caller.new.pass (Get key.now) result }
     ensures unread { IfErr result (IsUnread J.limits.honest) }
     ensures limbo { IsPrefix caller.old.limbo caller.new.limbo }
 {
@@ -40,14 +41,14 @@ fn copy_value<J: Naming, D: Device, R: Wait>(
 }
 
 /// The same, and what follows each call.
-fn copy_and_keep<J: Naming, B: QueueNaming, D: Device, R: Wait>(
+fn copy_and_keep<V: Value, J: Naming, B: QueueNaming, D: Device, R: Wait>(
     rt: &R,
     alloc: Global,
-    map: &FarMap<J, B, D>,
-    seated: &mut Seated<J, B>,
+    map: &FarMap<V, J, B, D>,
+    seated: &mut Seated<V, J, B>,
     key: &Text,
-) -> Result<Option<Text>, Refusal>
-    ensures answers { AnswersBy J.limits map.now.table.limit seated.old.caller.pass seated.new.caller.pass (Get key.now) result }
+) -> Result<Option<V>, Refusal>
+    ensures answers { AnswersBy V.enc J.limits map.now.table.limit seated.old.caller.pass seated.new.caller.pass (Get key.now) result }
     ensures unread { IfErr result (IsUnread J.limits.honest) }
     ensures none_lost { LosesNone seated.old.caller.limbo seated.old.seat seated.new.caller.limbo seated.new.seat }
 {
@@ -64,30 +65,38 @@ fn read_bytes<T, F: FnOnce(&[u8]) -> T>(bytes: &[u8], read: F) -> T
     read(bytes)
 }
 
-/// What the reader makes of the value of a scope, which is closed then. A text's length stands before its bytes.
-fn read_held<J: Naming, T, F: FnOnce(&[u8]) -> T>(
-    scope: TableScope<'_, Text, Text, J>,
+/// What the reader makes of the value of a scope, which is closed then.
+fn read_held<V: Value, J: Naming, T, F: FnOnce(&[u8]) -> T>(
+    scope: TableScope<'_, Text, V, J>,
     read: F,
 ) -> T
     requires { F.IsAlwaysCallable read }
-    ensures { (bytes : List ℕ) × (scope.entry.value ≡ Some bytes) × FnOnceReturnsAt F.FnOnce read bytes result }
+    ensures { (v : V) × (scope.entry.value ≡ Some v) × FnOnceReturnsAt F.FnOnce read (V.shows v) result }
 {
-    let made = read(&scope.bytes()[2..]);
+    let made = read(V::part(scope.bytes()));
     scope.close();
     made
 }
 
 /// What the reader makes of the key's value, where it lies in a frame, or of a copy where it can't be brought into one.
-fn read_value<J: Naming, B: QueueNaming, D: Device, T, F: FnOnce(&[u8]) -> T + Drop, R: Wait>(
+fn read_value<
+    V: Value,
+    J: Naming,
+    B: QueueNaming,
+    D: Device,
+    T,
+    F: FnOnce(&[u8]) -> T + Drop,
+    R: Wait,
+>(
     rt: &R,
     alloc: Global,
-    map: &FarMap<J, B, D>,
-    seated: &mut Seated<J, B>,
+    map: &FarMap<V, J, B, D>,
+    seated: &mut Seated<V, J, B>,
     key: &Text,
     read: F,
 ) -> Result<Option<T>, Refusal>
     requires { F.IsAlwaysCallable read }
-    ensures read { IsReadBy J.limits map.now.table.limit seated.old.caller.pass seated.new.caller.pass key.now (FnOnceReturnsAt F.FnOnce read) result }
+    ensures read { IsReadBy V.enc J.limits map.now.table.limit seated.old.caller.pass seated.new.caller.pass key.now (λ v. FnOnceReturnsAt F.FnOnce read (V.shows v)) result }
     ensures unread { IfErr result (IsUnread J.limits.honest) }
     ensures none_lost { LosesNone seated.old.caller.limbo seated.old.seat seated.new.caller.limbo seated.new.seat }
 {
@@ -98,22 +107,30 @@ fn read_value<J: Naming, B: QueueNaming, D: Device, T, F: FnOnce(&[u8]) -> T + D
     }
     match copy_value(rt, alloc, &map.table, &mut seated.caller, key) {
         Ok(None) => Ok(None),
-        Ok(Some(text)) => Ok(Some(read_bytes(text.as_bytes(), read))),
+        Ok(Some(value)) => Ok(Some(read_bytes(value.as_bytes(), read))),
         Err(refusal) => Err(refusal),
     }
 }
 
 /// The same, and what follows each call.
-fn read_and_keep<J: Naming, B: QueueNaming, D: Device, T, F: FnOnce(&[u8]) -> T + Drop, R: Wait>(
+fn read_and_keep<
+    V: Value,
+    J: Naming,
+    B: QueueNaming,
+    D: Device,
+    T,
+    F: FnOnce(&[u8]) -> T + Drop,
+    R: Wait,
+>(
     rt: &R,
     alloc: Global,
-    map: &FarMap<J, B, D>,
-    seated: &mut Seated<J, B>,
+    map: &FarMap<V, J, B, D>,
+    seated: &mut Seated<V, J, B>,
     key: &Text,
     read: F,
 ) -> Result<Option<T>, Refusal>
     requires { F.IsAlwaysCallable read }
-    ensures read { IsReadBy J.limits map.now.table.limit seated.old.caller.pass seated.new.caller.pass key.now (FnOnceReturnsAt F.FnOnce read) result }
+    ensures read { IsReadBy V.enc J.limits map.now.table.limit seated.old.caller.pass seated.new.caller.pass key.now (λ v. FnOnceReturnsAt F.FnOnce read (V.shows v)) result }
     ensures unread { IfErr result (IsUnread J.limits.honest) }
     ensures none_lost { LosesNone seated.old.caller.limbo seated.old.seat seated.new.caller.limbo seated.new.seat }
 {
@@ -122,15 +139,15 @@ fn read_and_keep<J: Naming, B: QueueNaming, D: Device, T, F: FnOnce(&[u8]) -> T 
     made
 }
 
-impl<'m, J: Naming, B: QueueNaming, D: Device> Session<'m, J, B, D> {
+impl<'m, V: Value, J: Naming, B: QueueNaming, D: Device> Session<'m, V, J, B, D> {
     /// The key's value, copied, or none.
-    pub(crate) fn copy<R: Wait>(&mut self, rt: &R, key: &Text) -> Result<Option<Text>, Refusal>
-        ensures answers { Answers J.limits self.old self.new (Get key.now) result }
+    pub(crate) fn copy<R: Wait>(&mut self, rt: &R, key: &Text) -> Result<Option<V>, Refusal>
+        ensures answers { Answers V.enc J.limits self.old self.new (Get key.now) result }
         ensures unread { IfErr result (IsUnread J.limits.honest) }
         ensures counts { Counts self.old self.new (Get key.now) result }
     {
         let copied = copy_and_keep(rt, self.alloc, self.map, &mut self.seated, key);
-        self.stats.count_get(&copied);
+        self.stats.count_get::<V, _>(&copied);
         copied
     }
 
@@ -142,18 +159,18 @@ impl<'m, J: Naming, B: QueueNaming, D: Device> Session<'m, J, B, D> {
         read: F,
     ) -> Result<Option<T>, Refusal>
         requires { F.IsAlwaysCallable read }
-        ensures read { IsRead J.limits self.old self.new key.now (FnOnceReturnsAt F.FnOnce read) result }
+        ensures read { IsRead V.enc J.limits self.old self.new key.now (λ v. FnOnceReturnsAt F.FnOnce read (V.shows v)) result }
         ensures unread { IfErr result (IsUnread J.limits.honest) }
         ensures counts { Counts self.old self.new (Get key.now) result }
     {
         let made = read_and_keep(rt, self.alloc, self.map, &mut self.seated, key, read);
-        self.stats.count_get(&made);
+        self.stats.count_get::<V, _>(&made);
         made
     }
 
     /// Whether the key has a value.
     pub(crate) fn find<R: Wait>(&mut self, rt: &R, key: &Text) -> Result<bool, Refusal>
-        ensures found { IsFound J.limits self.old self.new key.now result }
+        ensures found { IsFound V.enc J.limits self.old self.new key.now result }
         ensures unread { IfErr result (IsUnread J.limits.honest) }
         ensures counts { Counts self.old self.new (Get key.now) result }
     {

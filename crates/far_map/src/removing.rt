@@ -1,5 +1,5 @@
 //! A removal on a condition.
-ghost use Rattle.std.specs.Prelude.{IfOk};
+ghost use Rattle.std.specs.Prelude.{IfOk, IfSome};
 ghost use mathlib.Core.List.{IsPrefix};
 ghost use Rattle.far_map.specs.Answers.{Tries, AnswersBy, Answers};
 ghost use Rattle.far_map.specs.Counts.{Counts};
@@ -11,43 +11,58 @@ use crate::map::FarMap;
 use crate::refusal::{Refusal, said};
 use crate::room::{MOST_TRIES, make_room};
 use crate::session::Session;
+use crate::values::Value;
 use far_device::Device;
-use far_object::Text;
+use far_object::{Text, equal_encodings_are_equal_values};
 use hash_table::{Caller, FarTable, Refusal as TableRefusal, Removal};
 use std::alloc::Global;
 use std::sync::Wait;
 use swapper::QueueNaming;
 use version_words::Naming;
 
+/// Tells of a value that was found that it is one which its type admits.
+fn admitted<V: Value>(found: &Option<V>)
+    ensures { IfSome found.now V.admits }
+{
+    if let Some(value) = found {
+        value.admitted();
+    }
+}
+
 /// One removal of the table.
-fn remove_now<J: Naming, D: Device, R: Wait>(
+fn remove_now<V: Value, J: Naming, D: Device, R: Wait>(
     rt: &R,
     alloc: Global,
-    table: &FarTable<Text, Text, J, D>,
-    caller: &mut Caller<Text, Text, J>,
+    table: &FarTable<Text, V, J, D>,
+    caller: &mut Caller<Text, V, J>,
     key: &Text,
-    expected: &Text,
-) -> Result<Removal<Text>, TableRefusal>
-    ensures tries { Tries J.limits table.now.limit caller.old.pass caller.new.pass (call_of key.now result) (found_in result) }
+    expected: &V,
+) -> Result<Removal<V>, TableRefusal>
+    ensures tries { Tries V.enc J.limits table.now.limit caller.old.pass caller.new.pass (call_of key.now result) (found_in result) }
     ensures met { IfOk result (IsMet expected.now) }
     ensures limbo { IsPrefix caller.old.limbo caller.new.limbo }
 {
+    equal_encodings_are_equal_values::<V>();
     match table.remove_if(rt, alloc, caller, key, expected) {
-        Ok(removal) => Ok(removal),
+        Ok(removal) => {
+            expected.admitted();
+            admitted(&removal.found);
+            Ok(removal)
+        }
         Err(refusal) => Err(refusal),
     }
 }
 
 /// The removal. After each refusal that room may help, room is made and it is tried again, 1,000 times at most.
-fn remove_in_room<J: Naming, B: QueueNaming, D: Device, R: Wait>(
+fn remove_in_room<V: Value, J: Naming, B: QueueNaming, D: Device, R: Wait>(
     rt: &R,
     alloc: Global,
-    map: &FarMap<J, B, D>,
-    seated: &mut Seated<J, B>,
+    map: &FarMap<V, J, B, D>,
+    seated: &mut Seated<V, J, B>,
     key: &Text,
-    expected: &Text,
-) -> Result<Removal<Text>, Refusal>
-    ensures answers { AnswersBy J.limits map.now.table.limit seated.old.caller.pass seated.new.caller.pass (call_of key.now result) (found_in result) }
+    expected: &V,
+) -> Result<Removal<V>, Refusal>
+    ensures answers { AnswersBy V.enc J.limits map.now.table.limit seated.old.caller.pass seated.new.caller.pass (call_of key.now result) (found_in result) }
     ensures met { IfOk result (IsMet expected.now) }
     ensures none_lost { LosesNone seated.old.caller.limbo seated.old.seat seated.new.caller.limbo seated.new.seat }
 {
@@ -68,15 +83,15 @@ fn remove_in_room<J: Naming, B: QueueNaming, D: Device, R: Wait>(
 }
 
 /// The same, and what follows each call.
-fn remove_and_keep<J: Naming, B: QueueNaming, D: Device, R: Wait>(
+fn remove_and_keep<V: Value, J: Naming, B: QueueNaming, D: Device, R: Wait>(
     rt: &R,
     alloc: Global,
-    map: &FarMap<J, B, D>,
-    seated: &mut Seated<J, B>,
+    map: &FarMap<V, J, B, D>,
+    seated: &mut Seated<V, J, B>,
     key: &Text,
-    expected: &Text,
-) -> Result<Removal<Text>, Refusal>
-    ensures answers { AnswersBy J.limits map.now.table.limit seated.old.caller.pass seated.new.caller.pass (call_of key.now result) (found_in result) }
+    expected: &V,
+) -> Result<Removal<V>, Refusal>
+    ensures answers { AnswersBy V.enc J.limits map.now.table.limit seated.old.caller.pass seated.new.caller.pass (call_of key.now result) (found_in result) }
     ensures met { IfOk result (IsMet expected.now) }
     ensures none_lost { LosesNone seated.old.caller.limbo seated.old.seat seated.new.caller.limbo seated.new.seat }
 {
@@ -85,15 +100,15 @@ fn remove_and_keep<J: Naming, B: QueueNaming, D: Device, R: Wait>(
     removal
 }
 
-impl<'m, J: Naming, B: QueueNaming, D: Device> Session<'m, J, B, D> {
+impl<'m, V: Value, J: Naming, B: QueueNaming, D: Device> Session<'m, V, J, B, D> {
     /// Takes the key out where its value is the expected one.
     pub(crate) fn take_out<R: Wait>(
         &mut self,
         rt: &R,
         key: &Text,
-        expected: &Text,
-    ) -> Result<Removal<Text>, Refusal>
-        ensures answers { Answers J.limits self.old self.new (call_of key.now result) (found_in result) }
+        expected: &V,
+    ) -> Result<Removal<V>, Refusal>
+        ensures answers { Answers V.enc J.limits self.old self.new (call_of key.now result) (found_in result) }
         ensures met { IfOk result (IsMet expected.now) }
         ensures counts { Counts self.old self.new (call_of key.now result) result }
     {

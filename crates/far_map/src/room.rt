@@ -7,6 +7,7 @@ ghost use Rattle.version_words.specs.Views.{Goes};
 use crate::keeping::Seated;
 use crate::map::FarMap;
 use crate::refusal::{Refusal, said};
+use crate::values::Value;
 use far_device::Device;
 use hash_table::Refusal as TableRefusal;
 use std::sync::Wait;
@@ -17,10 +18,10 @@ use version_words::Naming;
 pub(crate) const MOST_TRIES: u32 = 1_000;
 
 /// Has a frame emptied. Where that is refused for a reason that stays, so is the call.
-fn empty_frame<J: Naming, B: QueueNaming, D: Device, R: Wait>(
+fn empty_frame<V: Value, J: Naming, B: QueueNaming, D: Device, R: Wait>(
     rt: &R,
-    map: &FarMap<J, B, D>,
-    seated: &mut Seated<J, B>,
+    map: &FarMap<V, J, B, D>,
+    seated: &mut Seated<V, J, B>,
 ) -> Result<(), Refusal>
     ensures pass { Goes seated.old.caller.pass seated.new.caller.pass }
     ensures none_lost { LosesNone seated.old.caller.limbo seated.old.seat seated.new.caller.limbo seated.new.seat }
@@ -36,10 +37,10 @@ fn empty_frame<J: Naming, B: QueueNaming, D: Device, R: Wait>(
 
 /// Makes room after a refusal: a frame where none was free, and spares go where too many wait. Every other refusal is the
 /// call's.
-pub(crate) fn make_room<J: Naming, B: QueueNaming, D: Device, R: Wait>(
+pub(crate) fn make_room<V: Value, J: Naming, B: QueueNaming, D: Device, R: Wait>(
     rt: &R,
-    map: &FarMap<J, B, D>,
-    seated: &mut Seated<J, B>,
+    map: &FarMap<V, J, B, D>,
+    seated: &mut Seated<V, J, B>,
     refusal: TableRefusal,
 ) -> Result<(), Refusal>
     ensures pass { Goes seated.old.caller.pass seated.new.caller.pass }

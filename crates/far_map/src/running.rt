@@ -12,6 +12,7 @@ use crate::fault::{RunFault, of_opening};
 use crate::opening::map_over;
 use crate::settings::{Settings, setting_of};
 use crate::sharing::serve;
+use crate::values::Value;
 use crate::work::Work;
 use far_device::Device;
 use far_object::Text;
@@ -25,33 +26,34 @@ use swapper::{QueueNaming, QueueOpening};
 use version_words::Naming;
 
 /// A run over a table and a queue that were just opened.
-fn over_queue<J, B, D, W, T, R>(
+fn over_queue<V, J, B, D, W, T, R>(
     rt: &R,
     alloc: Global,
     config: Config,
     bytes: u64,
-    table: FarTable<Text, Text, J, D>,
-    queue: QueueOpening<Text, Text, J>,
+    table: FarTable<Text, V, J, D>,
+    queue: QueueOpening<Text, V, J>,
     count: u32,
     work: &W,
     end: End,
     taker: &mut T,
-) -> Result<(Vec<W::Out>, Result<Given, RunFault>), RunFault>
+) -> Result<(Vec<W::Out>, Result<Given<V>, RunFault>), RunFault>
 where
+    V: Value + Send + Sync,
     J: Naming + Send + Sync,
     B: QueueNaming + Send + Sync,
     D: Device + Send,
-    W: Work,
-    T: TakesPairs<Text, Text>,
+    W: Work<V>,
+    T: TakesPairs<Text, V>,
     R: Threads + Wait + Sync,
     requires queue { queue.table ≡ B.table }
     requires buckets { config.buckets ≡ J.limits.buckets }
     requires frames { 0 < config.frames }
-    ensures ran { IfOk result (λ r. EndsSo (W.done work.now) J.limits table.limit count r.0.items T.takes T.stops taker.old taker.new end r.1) }
+    ensures ran { IfOk result (λ r. EndsSo V.enc (W.done work.now) J.limits table.limit count r.0.items T.takes T.stops taker.old taker.new end r.1) }
     ensures fault { IfErr result (IsEarlyFault None) }
     ensures untold { IfErr result (λ _. taker.new ≡ taker.old) }
 {
-    let (far, newcomers) = match map_over::<J, B, D, R>(
+    let (far, newcomers) = match map_over::<V, J, B, D, R>(
         rt, alloc, config, bytes, table, queue, count,
     ) {
         Ok(opened) => opened,
@@ -82,22 +84,23 @@ where
 }
 
 /// A run over a row of words that was just opened.
-fn over_row<J, D, W, T, R>(
+fn over_row<V, J, D, W, T, R>(
     rt: &R,
     alloc: Global,
     config: Config,
     bytes: u64,
-    opening: Opening<Text, Text, D>,
+    opening: Opening<Text, V, D>,
     count: u32,
     work: &W,
     end: End,
     taker: &mut T,
-) -> Result<(Vec<W::Out>, Result<Given, RunFault>), RunFault>
+) -> Result<(Vec<W::Out>, Result<Given<V>, RunFault>), RunFault>
 where
+    V: Value + Send + Sync,
     J: Naming + Send + Sync,
     D: Device + Send,
-    W: Work,
-    T: TakesPairs<Text, Text>,
+    W: Work<V>,
+    T: TakesPairs<Text, V>,
     R: Threads + Wait + Sync,
     requires book { opening.row.book ≡ J.book }
     requires boards { opening.row.names ≡ J.names }
@@ -105,7 +108,7 @@ where
     requires config { opening.config ≡ config }
     requires frames { 0 < config.frames }
     requires spares { 0 < config.spares }
-    ensures ran { IfOk result (λ r. EndsSo (W.done work.now) (limits_of (sizes_of config) D.HONEST) config.limit count r.0.items T.takes T.stops taker.old taker.new end r.1) }
+    ensures ran { IfOk result (λ r. EndsSo V.enc (W.done work.now) (limits_of (sizes_of config) D.HONEST) config.limit count r.0.items T.takes T.stops taker.old taker.new end r.1) }
     ensures opened { IfOk result (λ _. WasOpened config) }
     ensures fault { IfErr result (IsEarlyFault None) }
     ensures untold { IfErr result (λ _. taker.new ≡ taker.old) }
@@ -118,13 +121,13 @@ where
         Ok(queue) => queue,
         Err(_) => return Err(RunFault::Memory),
     };
-    over_queue::<J, Brand, D, W, T, R>(
+    over_queue::<V, J, Brand, D, W, T, R>(
         rt, alloc, config, bytes, table, queue, count, work, end, taker,
     )
 }
 
 /// A run over these devices, one for each lane.
-fn over_devices<D, W, T, R>(
+fn over_devices<V, D, W, T, R>(
     rt: &R,
     alloc: Global,
     settings: Settings,
@@ -133,13 +136,14 @@ fn over_devices<D, W, T, R>(
     work: &W,
     end: End,
     taker: &mut T,
-) -> Result<(Vec<W::Out>, Result<Given, RunFault>), RunFault>
+) -> Result<(Vec<W::Out>, Result<Given<V>, RunFault>), RunFault>
 where
+    V: Value + Send + Sync,
     D: Device + Send,
-    W: Work,
-    T: TakesPairs<Text, Text>,
+    W: Work<V>,
+    T: TakesPairs<Text, V>,
     R: Threads + Wait + Sync,
-    ensures ran { IfOk result (λ r. EndsSo (W.done work.now) (limits_of (sizes_of (config_of settings (vec_len devices))) D.HONEST) settings.limit workers r.0.items T.takes T.stops taker.old taker.new end r.1) }
+    ensures ran { IfOk result (λ r. EndsSo V.enc (W.done work.now) (limits_of (sizes_of (config_of settings (vec_len devices))) D.HONEST) settings.limit workers r.0.items T.takes T.stops taker.old taker.new end r.1) }
     ensures opened { IfOk result (λ _. WasOpened (config_of settings (vec_len devices))) }
     ensures within { IfOk result (λ _. first_bad settings (vec_len devices) ≡ None) }
     ensures fault { IfErr result (IsEarlyFault (first_bad settings (vec_len devices))) }
@@ -153,7 +157,7 @@ where
         Ok(opening) => opening,
         Err(fault) => return Err(of_opening(fault)),
     };
-    over_row::<Brand, D, W, T, R>(
+    over_row::<V, Brand, D, W, T, R>(
         rt,
         alloc,
         config,
@@ -175,19 +179,20 @@ where
 /// and one more, before any worker begins. At the end `Device` comes where a device fails, `Damaged` where what it gives is no
 /// object of its bucket and name, and `Missed` where a frame or a lane does not give a name. `Memory` comes where a growth is
 /// refused. The map is gone after each.
-pub fn run<D, W, R>(
+pub fn run<V, D, W, R>(
     rt: &R,
     alloc: Global,
     settings: Settings,
     devices: Vec<D>,
     workers: u32,
     work: &W,
-) -> Result<(Vec<W::Out>, Vec<(Text, Text)>), RunFault>
+) -> Result<(Vec<W::Out>, Vec<(Text, V)>), RunFault>
 where
+    V: Value + Send + Sync,
     D: Device + Send,
-    W: Work,
+    W: Work<V>,
     R: Threads + Wait + Sync,
-    ensures ran { IfOk result (λ r. IsRun (W.done work.now) (limits_of (sizes_of (config_of settings (vec_len devices))) D.HONEST) settings.limit workers r.0.items r.1.items) }
+    ensures ran { IfOk result (λ r. IsRun V.enc (W.done work.now) (limits_of (sizes_of (config_of settings (vec_len devices))) D.HONEST) settings.limit workers r.0.items r.1.items) }
     ensures opened { IfOk result (λ _. WasOpened (config_of settings (vec_len devices))) }
     ensures within { IfOk result (λ _. first_bad settings (vec_len devices) ≡ None) }
     ensures fault { IfErr result (IsRunFault D.HONEST (first_bad settings (vec_len devices))) }
@@ -214,19 +219,20 @@ where
 /// As `run`, for a map of many pairs: they come as they are written, in no order, and the buckets are read side by side;
 /// `far_pairs::in_key_order` lends the pairs in key order. Where a frame or a lane does not give a name at the end it is tried
 /// again, 1,000 times in all. A fault at the end comes beside what the workers gave back.
-pub fn run_bundled<D, W, R>(
+pub fn run_bundled<V, D, W, R>(
     rt: &R,
     alloc: Global,
     settings: Settings,
     devices: Vec<D>,
     workers: u32,
     work: &W,
-) -> Result<(Vec<W::Out>, Result<Vec<Bundle<Text, Text>>, RunFault>), RunFault>
+) -> Result<(Vec<W::Out>, Result<Vec<Bundle<Text, V>>, RunFault>), RunFault>
 where
+    V: Value + Send + Sync,
     D: Device + Send,
-    W: Work,
+    W: Work<V>,
     R: Threads + Wait + Sync,
-    ensures ran { IfOk result (λ r. EndsBundled (W.done work.now) (limits_of (sizes_of (config_of settings (vec_len devices))) D.HONEST) settings.limit workers r.0.items r.1) }
+    ensures ran { IfOk result (λ r. EndsBundled V.enc (W.done work.now) (limits_of (sizes_of (config_of settings (vec_len devices))) D.HONEST) settings.limit workers r.0.items r.1) }
     ensures opened { IfOk result (λ _. WasOpened (config_of settings (vec_len devices))) }
     ensures within { IfOk result (λ _. first_bad settings (vec_len devices) ≡ None) }
     ensures fault { IfErr result (IsEarlyFault (first_bad settings (vec_len devices))) }
@@ -253,7 +259,7 @@ where
 /// As `run`, for a map that has more than memory holds: at the end the taker is handed the pairs of each bucket, in the order of the
 /// buckets' numbers and in key order within each, and no more than one bucket's are copied at a time. A fault at the end comes beside
 /// what the workers gave back: those of `run`, and `Stopped` where the taker stopped. No further bucket is handed over then.
-pub fn run_through<D, W, T, R>(
+pub fn run_through<V, D, W, T, R>(
     rt: &R,
     alloc: Global,
     settings: Settings,
@@ -263,11 +269,12 @@ pub fn run_through<D, W, T, R>(
     taker: &mut T,
 ) -> Result<(Vec<W::Out>, Result<(), RunFault>), RunFault>
 where
+    V: Value + Send + Sync,
     D: Device + Send,
-    W: Work,
-    T: TakesPairs<Text, Text>,
+    W: Work<V>,
+    T: TakesPairs<Text, V>,
     R: Threads + Wait + Sync,
-    ensures ran { IfOk result (λ r. EndsThrough (W.done work.now) (limits_of (sizes_of (config_of settings (vec_len devices))) D.HONEST) settings.limit workers r.0.items T.takes T.stops taker.old taker.new r.1) }
+    ensures ran { IfOk result (λ r. EndsThrough V.enc (W.done work.now) (limits_of (sizes_of (config_of settings (vec_len devices))) D.HONEST) settings.limit workers r.0.items T.takes T.stops taker.old taker.new r.1) }
     ensures opened { IfOk result (λ _. WasOpened (config_of settings (vec_len devices))) }
     ensures within { IfOk result (λ _. first_bad settings (vec_len devices) ≡ None) }
     ensures fault { IfErr result (IsEarlyFault (first_bad settings (vec_len devices))) }
@@ -294,7 +301,7 @@ where
 
 /// As `run`, but the pairs are not collected at the end, for a map that has more than memory holds: it answers what the workers
 /// gave back, in their order. The map is gone then. Its faults are those of `run` before the end.
-pub fn run_apart<D, W, R>(
+pub fn run_apart<V, D, W, R>(
     rt: &R,
     alloc: Global,
     settings: Settings,
@@ -303,10 +310,11 @@ pub fn run_apart<D, W, R>(
     work: &W,
 ) -> Result<Vec<W::Out>, RunFault>
 where
+    V: Value + Send + Sync,
     D: Device + Send,
-    W: Work,
+    W: Work<V>,
     R: Threads + Wait + Sync,
-    ensures ran { IfOk result (λ outs. IsRunApart (W.done work.now) (limits_of (sizes_of (config_of settings (vec_len devices))) D.HONEST) settings.limit workers outs.items) }
+    ensures ran { IfOk result (λ outs. IsRunApart V.enc (W.done work.now) (limits_of (sizes_of (config_of settings (vec_len devices))) D.HONEST) settings.limit workers outs.items) }
     ensures opened { IfOk result (λ _. WasOpened (config_of settings (vec_len devices))) }
     ensures within { IfOk result (λ _. first_bad settings (vec_len devices) ≡ None) }
     ensures fault { IfErr result (IsEarlyFault (first_bad settings (vec_len devices))) }

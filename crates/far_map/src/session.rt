@@ -10,6 +10,7 @@ use crate::keeping::Seated;
 use crate::map::FarMap;
 use crate::refusal::Refusal;
 use crate::stats::Stats;
+use crate::values::Value;
 use far_device::Device;
 use far_object::Text;
 use hash_table::Caller;
@@ -22,25 +23,25 @@ use version_words::Naming;
 /// A pass of its own, with all that its calls need; workers see it through `Calls`. Contracts see the pass, the most bytes of an
 /// object of the map, and what it has counted.
 #[derive(Drop)]
-pub struct Session<'m, J: Naming, B: QueueNaming, D: Device> {
-    pub(crate) map: &'m FarMap<J, B, D>,
+pub struct Session<'m, V: Value, J: Naming, B: QueueNaming, D: Device> {
+    pub(crate) map: &'m FarMap<V, J, B, D>,
     pub(crate) alloc: Global,
-    pub(crate) seated: Seated<J, B>,
+    pub(crate) seated: Seated<V, J, B>,
     pub(crate) stats: Stats,
 }
 
-impl<'m, J: Naming, B: QueueNaming, D: Device> Model for Session<'m, J, B, D> {
+impl<'m, V: Value, J: Naming, B: QueueNaming, D: Device> Model for Session<'m, V, J, B, D> {
     ghost use Rattle.far_map.specs.Views.{SessionView};
 
-    ghost Value = { SessionView };
+    ghost Value = { SessionView V };
 
     ghost view = { λ s. record { pass = s.seated.caller.pass; limit = s.map.now.table.limit; stats = s.stats } };
 }
 
-impl<'m, J: Naming, B: QueueNaming, D: Device> Session<'m, J, B, D> {
+impl<'m, V: Value, J: Naming, B: QueueNaming, D: Device> Session<'m, V, J, B, D> {
     /// One change.
-    pub(crate) fn ask<R: Wait>(&mut self, rt: &R, ask: &Asked<'_>) -> Result<Option<Text>, Refusal>
-        ensures answers { Answers J.limits self.old self.new (asked ask.now) result }
+    pub(crate) fn ask<R: Wait>(&mut self, rt: &R, ask: &Asked<'_, V>) -> Result<Option<V>, Refusal>
+        ensures answers { Answers V.enc J.limits self.old self.new (asked ask.now) result }
         ensures counts { Counts self.old self.new (asked ask.now) result }
     {
         let answered = answer_and_keep(rt, self.alloc, self.map, &mut self.seated, ask);
@@ -49,7 +50,7 @@ impl<'m, J: Naming, B: QueueNaming, D: Device> Session<'m, J, B, D> {
     }
 
     /// Ends the session, and gives back the frame that it owns: its caller is wanted for the end of the map.
-    pub(crate) fn leave(self) -> Caller<Text, Text, J>
+    pub(crate) fn leave(self) -> Caller<Text, V, J>
         ensures { result.pass ≡ self.entry.pass }
     {
         let Session {

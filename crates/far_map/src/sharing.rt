@@ -7,6 +7,7 @@ ghost use Rattle.far_map.specs.Runs.{IsServed, Worked};
 use crate::entering::Newcomer;
 use crate::fault::RunFault;
 use crate::map::FarMap;
+use crate::values::Value;
 use crate::work::Work;
 use far_device::Device;
 use far_object::Text;
@@ -18,13 +19,13 @@ use swapper::QueueNaming;
 use version_words::Naming;
 
 /// The callers of workers that have ended, and what they gave back, in the order of the workers.
-pub(crate) type Ended<J, T> = (Vec<Caller<Text, Text, J>>, Vec<T>);
+pub(crate) type Ended<V, J, T> = (Vec<Caller<Text, V, J>>, Vec<T>);
 
 /// The worker's caller and what it gave back, behind those of the others.
-fn with_last<J: Naming, T: Drop>(
-    others: Ended<J, T>,
-    last: (Caller<Text, Text, J>, T),
-) -> Result<Ended<J, T>, RunFault>
+fn with_last<V: Value, J: Naming, T: Drop>(
+    others: Ended<V, J, T>,
+    last: (Caller<Text, V, J>, T),
+) -> Result<Ended<V, J, T>, RunFault>
     ensures callers { IfOk result (λ r. map (λ c. c.pass) r.0.items ≡ map (λ c. c.pass) others.0.items ++ last.0.pass ∷ []) }
     ensures outs { IfOk result (λ r. r.1.items ≡ others.1.items ++ last.1 ∷ []) }
     ensures fault { IfErr result (λ fault. fault ≡ Memory) }
@@ -38,19 +39,20 @@ fn with_last<J: Naming, T: Drop>(
 }
 
 /// One worker: its session, from its beginning to its end.
-fn one<J, B, D, W, R>(
+fn one<V, J, B, D, W, R>(
     rt: &R,
     alloc: Global,
-    far: &FarMap<J, B, D>,
+    far: &FarMap<V, J, B, D>,
     work: &W,
-    newcomer: Newcomer<J, B>,
+    newcomer: Newcomer<V, J, B>,
     worker: u32,
-) -> (Caller<Text, Text, J>, W::Out)
+) -> (Caller<Text, V, J>, W::Out)
 where
+    V: Value,
     J: Naming,
     B: QueueNaming,
     D: Device,
-    W: Work,
+    W: Work<V>,
     R: Wait,
     ensures { IsServed (λ begun ended out. W.done work.now worker J.limits begun ended out) far.now.table.limit result.0.pass result.1 }
 {
@@ -61,18 +63,19 @@ where
 
 /// A worker for each newcomer: the last on a thread of its own, and the others on this one and theirs. `Memory` comes where a
 /// growth is refused.
-fn workers<J, B, D, W, R>(
+fn workers<V, J, B, D, W, R>(
     rt: &R,
     alloc: Global,
-    far: &FarMap<J, B, D>,
+    far: &FarMap<V, J, B, D>,
     work: &W,
-    mut newcomers: Vec<Newcomer<J, B>>,
-) -> Result<Ended<J, W::Out>, RunFault>
+    mut newcomers: Vec<Newcomer<V, J, B>>,
+) -> Result<Ended<V, J, W::Out>, RunFault>
 where
+    V: Value + Send + Sync,
     J: Naming + Send + Sync,
     B: QueueNaming + Send + Sync,
     D: Device + Send,
-    W: Work,
+    W: Work<V>,
     R: Threads + Wait + Sync,
     requires few { vec_len newcomers < 2 ^ 32 }
     ensures worked { IfOk result (λ r. Worked (λ worker begun ended out. W.done work.now worker J.limits begun ended out) far.now.table.limit (vec_len newcomers) (map (λ c. c.pass) r.0.items) r.1.items) }
@@ -88,12 +91,12 @@ where
     }
     let (own, others) = join(
         rt,
-        || -> (Caller<Text, Text, J>, W::Out)
+        || -> (Caller<Text, V, J>, W::Out)
             requires { IsSync R.row }
             ensures { IsServed (λ begun ended out. W.done work.entry.now last J.limits begun ended out) far.entry.now.table.limit result.0.pass result.1 }
         { one(rt, alloc, far, work, newcomer, last) },
-        || -> Result<Ended<J, W::Out>, RunFault>
-            requires { IsSync R.row × IsSend J.row × IsSync J.row × IsSend B.row × IsSync B.row × IsSend D.row × IsSync W.row × IsSend W.Out.row × (vec_len newcomers < 2 ^ 32) }
+        || -> Result<Ended<V, J, W::Out>, RunFault>
+            requires { IsSync R.row × IsSend V.row × IsSync V.row × IsSend J.row × IsSync J.row × IsSend B.row × IsSync B.row × IsSend D.row × IsSync W.row × IsSend W.Out.row × (vec_len newcomers < 2 ^ 32) }
             ensures worked { IfOk result (λ r. Worked (λ worker begun ended out. W.done work.entry.now worker J.limits begun ended out) far.entry.now.table.limit (vec_len newcomers) (map (λ c. c.pass) r.0.items) r.1.items) }
             ensures fault { IfErr result (λ fault. fault ≡ Memory) }
         { workers(rt, alloc, far, work, newcomers) },
@@ -104,18 +107,19 @@ where
 
 /// The workers beside the evictor's thread, where there are several. Where that can't be started its loop begins when all workers
 /// have ended, and ends at once: sessions make room by themselves.
-pub(crate) fn serve<J, B, D, W, R>(
+pub(crate) fn serve<V, J, B, D, W, R>(
     rt: &R,
     alloc: Global,
-    far: &FarMap<J, B, D>,
+    far: &FarMap<V, J, B, D>,
     work: &W,
-    newcomers: Vec<Newcomer<J, B>>,
-) -> Result<Ended<J, W::Out>, RunFault>
+    newcomers: Vec<Newcomer<V, J, B>>,
+) -> Result<Ended<V, J, W::Out>, RunFault>
 where
+    V: Value + Send + Sync,
     J: Naming + Send + Sync,
     B: QueueNaming + Send + Sync,
     D: Device + Send,
-    W: Work,
+    W: Work<V>,
     R: Threads + Wait + Sync,
     requires few { vec_len newcomers < 2 ^ 32 }
     ensures worked { IfOk result (λ r. Worked (λ worker begun ended out. W.done work.now worker J.limits begun ended out) far.now.table.limit (vec_len newcomers) (map (λ c. c.pass) r.0.items) r.1.items) }
@@ -127,8 +131,8 @@ where
     let (_, done) = join(
         rt,
         || far.evict(rt),
-        || -> Result<Ended<J, W::Out>, RunFault>
-            requires { IsSync R.row × IsSend J.row × IsSync J.row × IsSend B.row × IsSync B.row × IsSend D.row × IsSync W.row × IsSend W.Out.row × (vec_len newcomers < 2 ^ 32) }
+        || -> Result<Ended<V, J, W::Out>, RunFault>
+            requires { IsSync R.row × IsSend V.row × IsSync V.row × IsSend J.row × IsSync J.row × IsSend B.row × IsSync B.row × IsSend D.row × IsSync W.row × IsSend W.Out.row × (vec_len newcomers < 2 ^ 32) }
             ensures worked { IfOk result (λ r. Worked (λ worker begun ended out. W.done work.entry.now worker J.limits begun ended out) far.entry.now.table.limit (vec_len newcomers) (map (λ c. c.pass) r.0.items) r.1.items) }
             ensures fault { IfErr result (λ fault. fault ≡ Memory) }
         {

@@ -1,13 +1,12 @@
 //! What a session counts.
 ghost use Rattle.std.specs.Prelude.{◌≡◌, ℕ, List};
-ghost use Rattle.table_core.specs.declared.operation.Operation.TheVariants.{Get};
 ghost use Rattle.far_map.specs.Asks.{asked};
-ghost use Rattle.far_map.specs.Counts.{no_calls, refused_more, counted};
+ghost use Rattle.far_map.specs.Counts.{no_calls, refused_more, counted, counted_get};
 ghost use Rattle.far_map.specs.Removals.{call_of};
 
 use crate::asked::Asked;
 use crate::refusal::Refusal;
-use far_object::Text;
+use crate::values::Value;
 use hash_table::Removal;
 
 /// What a session has counted of its own calls: those that were finished, by kind, and those that were refused, by reason. A
@@ -66,8 +65,8 @@ impl Stats {
     }
 
     /// Counts a get that was answered so.
-    pub(crate) fn count_get<T>(&mut self, answered: &Result<T, Refusal>)
-        ensures { (k : List ℕ) → self.new ≡ counted (Get k) answered.now self.old }
+    pub(crate) fn count_get<V: Value, T>(&mut self, answered: &Result<T, Refusal>)
+        ensures { (k : List ℕ) → self.new ≡ counted_get V k answered.now self.old }
     {
         match answered {
             Ok(_) => self.gets = more(self.gets),
@@ -76,7 +75,11 @@ impl Stats {
     }
 
     /// Counts a change that was answered so.
-    pub(crate) fn count_change(&mut self, ask: &Asked<'_>, answered: &Result<Option<Text>, Refusal>)
+    pub(crate) fn count_change<V: Value>(
+        &mut self,
+        ask: &Asked<'_, V>,
+        answered: &Result<Option<V>, Refusal>,
+    )
         ensures { self.new ≡ counted (asked ask.now) answered.now self.old }
     {
         if let Err(refusal) = answered {
@@ -91,7 +94,7 @@ impl Stats {
     }
 
     /// Counts a removal on a condition that was answered so: one that took nothing out was a get.
-    pub(crate) fn count_removal(&mut self, answered: &Result<Removal<Text>, Refusal>)
+    pub(crate) fn count_removal<V: Value>(&mut self, answered: &Result<Removal<V>, Refusal>)
         ensures { (k : List ℕ) → self.new ≡ counted (call_of k answered.now) answered.now self.old }
     {
         match answered {

@@ -7,44 +7,55 @@ use crate::asked::Asked;
 use crate::refusal::Refusal;
 use crate::room::MOST_TRIES;
 use crate::session::Session;
+use crate::values::Value;
 use far_device::Device;
-use far_object::Text;
+use far_object::{Text, equal_encodings_are_equal_values};
 use std::sync::Wait;
 use swapper::QueueNaming;
 use version_words::Naming;
 
 /// What an update did.
 #[derive(Drop)]
-pub enum Updated {
+pub enum Updated<V: Value> {
     /// The value was set, to what was made of the one before.
-    Set(Option<Text>),
+    Set(Option<V>),
     /// Nothing was made of the value that there is.
-    Left(Option<Text>),
+    Left(Option<V>),
     /// At each of 1,000 tries somebody else changed the value meanwhile. The key has what they left it.
     Overtaken,
 }
 
-/// Whether both are none, or the same text.
-fn are_same(one: &Option<Text>, other: &Option<Text>) -> bool
+/// Whether the one value is the other.
+fn is_value<V: Value>(one: &V, other: &V) -> bool
+    ensures { MatchBool result (other.now ≡ one.now) (other.now ≢ one.now) }
+{
+    one.admitted();
+    other.admitted();
+    equal_encodings_are_equal_values::<V>();
+    one.compare(other).is_eq()
+}
+
+/// Whether both are none, or the same value.
+fn are_same<V: Value>(one: &Option<V>, other: &Option<V>) -> bool
     ensures { MatchBool result (one.now ≡ other.now) (one.now ≢ other.now) }
 {
     match (one, other) {
         (None, None) => true,
-        (Some(one), Some(other)) => one.as_bytes() == other.as_bytes(),
+        (Some(one), Some(other)) => is_value(one, other),
         _ => false,
     }
 }
 
-impl<'m, J: Naming, B: QueueNaming, D: Device> Session<'m, J, B, D> {
+impl<'m, V: Value, J: Naming, B: QueueNaming, D: Device> Session<'m, V, J, B, D> {
     /// One try: none where somebody else was faster.
-    fn try_update<F: Fn(Option<&Text>) -> Option<Text>, R: Wait>(
+    fn try_update<F: Fn(Option<&V>) -> Option<V>, R: Wait>(
         &mut self,
         rt: &R,
         key: &Text,
         make: &F,
-    ) -> Result<Option<Updated>, Refusal>
+    ) -> Result<Option<Updated<V>>, Refusal>
         requires { F.IsAlwaysCallable make.now }
-        ensures { IsTried J.limits key.now (λ found made. (lent : _) × (lent_value lent ≡ found) × F.post make.now lent made) self.old self.new result }
+        ensures { IsTried V.enc J.limits key.now (λ found made. (lent : _) × (lent_value lent ≡ found) × F.post make.now lent made) self.old self.new result }
     {
         let found = self.copy(rt, key)?;
         let Some(value) = make(found.as_ref()) else {
@@ -59,14 +70,14 @@ impl<'m, J: Naming, B: QueueNaming, D: Device> Session<'m, J, B, D> {
     }
 
     /// Sets the key to what is made of its value, 1,000 tries long.
-    pub(crate) fn make_anew<F: Fn(Option<&Text>) -> Option<Text> + Drop, R: Wait>(
+    pub(crate) fn make_anew<F: Fn(Option<&V>) -> Option<V> + Drop, R: Wait>(
         &mut self,
         rt: &R,
         key: &Text,
         make: F,
-    ) -> Result<Updated, Refusal>
+    ) -> Result<Updated<V>, Refusal>
         requires { F.IsAlwaysCallable make }
-        ensures { IsUpdated J.limits key.now (λ found made. (lent : _) × (lent_value lent ≡ found) × F.post make lent made) self.old self.new result }
+        ensures { IsUpdated V.enc J.limits key.now (λ found made. (lent : _) × (lent_value lent ≡ found) × F.post make lent made) self.old self.new result }
     {
         for _ in 0..MOST_TRIES {
             match self.try_update(rt, key, &make)? {

@@ -3,12 +3,13 @@ ghost use Rattle.std.specs.Prelude.{◌≡◌, ◌<◌, IfOk, IfErr};
 ghost use Rattle.std.specs.List.{FoldsTo};
 ghost use Rattle.version_words.specs.Views.{Goes};
 ghost use Rattle.far_map.specs.Refusals.{IsUnread};
-ghost use Rattle.far_map.specs.Visits.{AreOfBucket, IsVisit};
+ghost use Rattle.far_map.specs.Visits.{AreOfBucket, IsBucketVisit, IsVisit};
 
 use crate::keeping::Seated;
 use crate::map::FarMap;
 use crate::refusal::{Refusal, said};
 use crate::session::Session;
+use crate::values::Value;
 use far_device::Device;
 use far_object::Text;
 use hash_table::{Caller, FarTable, Refusal as TableRefusal};
@@ -18,17 +19,17 @@ use swapper::QueueNaming;
 use version_words::Naming;
 
 /// The pairs of a bucket, copied. Where its object moved meanwhile it is read again.
-fn copy_bucket<J: Naming, D: Device, R: Wait>(
+fn copy_bucket<V: Value, J: Naming, D: Device, R: Wait>(
     rt: &R,
     alloc: Global,
-    table: &FarTable<Text, Text, J, D>,
-    caller: &mut Caller<Text, Text, J>,
+    table: &FarTable<Text, V, J, D>,
+    caller: &mut Caller<Text, V, J>,
     bucket: u32,
-) -> Result<Vec<(Text, Text)>, Refusal>
+) -> Result<Vec<(Text, V)>, Refusal>
     requires bucket { bucket < J.limits.buckets }
     ensures goes { Goes caller.old.pass caller.new.pass }
     ensures limbo { caller.new.limbo ≡ caller.old.limbo }
-    ensures pairs { IfOk result (λ v. AreOfBucket J.limits bucket caller.new.pass v.items) }
+    ensures pairs { IfOk result (λ v. AreOfBucket V.enc J.limits bucket caller.new.pass v.items) }
     ensures why { IfErr result (IsUnread J.limits.honest) }
 {
     for _ in rt.forever() {
@@ -42,7 +43,7 @@ fn copy_bucket<J: Naming, D: Device, R: Wait>(
 }
 
 /// Hands each pair to the visitor.
-fn hand_over<F: FnMut(Text, Text)>(pairs: Vec<(Text, Text)>, visit: &mut F)
+fn hand_over<V: Value, F: FnMut(Text, V)>(pairs: Vec<(Text, V)>, visit: &mut F)
     requires { F.IsAlwaysCallable visit.old }
     ensures handed { FoldsTo (λ f pair g. F.step f pair.0 pair.1 tt g) visit.old pairs.items visit.new }
     ensures again { F.IsAlwaysCallable visit.new }
@@ -52,18 +53,41 @@ fn hand_over<F: FnMut(Text, Text)>(pairs: Vec<(Text, Text)>, visit: &mut F)
     }
 }
 
-/// Hands each pair of the table to the visitor, those of one bucket behind those of another.
-fn visit_buckets<J: Naming, D: Device, F: FnMut(Text, Text), R: Wait>(
+/// Hands each pair of a bucket to the visitor.
+fn visit_bucket<V: Value, J: Naming, D: Device, F: FnMut(Text, V), R: Wait>(
     rt: &R,
     alloc: Global,
-    table: &FarTable<Text, Text, J, D>,
-    caller: &mut Caller<Text, Text, J>,
+    table: &FarTable<Text, V, J, D>,
+    caller: &mut Caller<Text, V, J>,
+    bucket: u32,
+    visit: &mut F,
+) -> Result<(), Refusal>
+    requires bucket { bucket < J.limits.buckets }
+    requires callable { F.IsAlwaysCallable visit.old }
+    ensures visits { IsBucketVisit V.enc J.limits bucket (λ pairs. FoldsTo (λ f pair g. F.step f pair.0 pair.1 tt g) visit.old pairs visit.new) caller.new.pass result }
+    ensures again { F.IsAlwaysCallable visit.new }
+    ensures goes { Goes caller.old.pass caller.new.pass }
+{
+    let pairs = match copy_bucket(rt, alloc, table, caller, bucket) {
+        Ok(pairs) => pairs,
+        Err(refusal) => return Err(refusal),
+    };
+    hand_over(pairs, visit);
+    Ok(())
+}
+
+/// Hands each pair of the table to the visitor, those of one bucket behind those of another.
+fn visit_buckets<V: Value, J: Naming, D: Device, F: FnMut(Text, V), R: Wait>(
+    rt: &R,
+    alloc: Global,
+    table: &FarTable<Text, V, J, D>,
+    caller: &mut Caller<Text, V, J>,
     buckets: u32,
     visit: &mut F,
 ) -> Result<(), Refusal>
     requires all { buckets ≡ J.limits.buckets }
     requires callable { F.IsAlwaysCallable visit.old }
-    ensures visits { IsVisit J.limits (λ pairs. FoldsTo (λ f pair g. F.step f pair.0 pair.1 tt g) visit.old pairs visit.new) caller.old.pass caller.new.pass result }
+    ensures visits { IsVisit V.enc J.limits (λ pairs. FoldsTo (λ f pair g. F.step f pair.0 pair.1 tt g) visit.old pairs visit.new) caller.old.pass caller.new.pass result }
     ensures goes { Goes caller.old.pass caller.new.pass }
     ensures limbo { caller.new.limbo ≡ caller.old.limbo }
 {
@@ -77,15 +101,15 @@ fn visit_buckets<J: Naming, D: Device, F: FnMut(Text, Text), R: Wait>(
 }
 
 /// The same of a map.
-fn visit_map<J: Naming, B: QueueNaming, D: Device, F: FnMut(Text, Text), R: Wait>(
+fn visit_map<V: Value, J: Naming, B: QueueNaming, D: Device, F: FnMut(Text, V), R: Wait>(
     rt: &R,
     alloc: Global,
-    map: &FarMap<J, B, D>,
-    seated: &mut Seated<J, B>,
+    map: &FarMap<V, J, B, D>,
+    seated: &mut Seated<V, J, B>,
     visit: &mut F,
 ) -> Result<(), Refusal>
     requires { F.IsAlwaysCallable visit.old }
-    ensures visits { IsVisit J.limits (λ pairs. FoldsTo (λ f pair g. F.step f pair.0 pair.1 tt g) visit.old pairs visit.new) seated.old.caller.pass seated.new.caller.pass result }
+    ensures visits { IsVisit V.enc J.limits (λ pairs. FoldsTo (λ f pair g. F.step f pair.0 pair.1 tt g) visit.old pairs visit.new) seated.old.caller.pass seated.new.caller.pass result }
     ensures goes { Goes seated.old.caller.pass seated.new.caller.pass }
 {
     visit_buckets(
@@ -98,15 +122,40 @@ fn visit_map<J: Naming, B: QueueNaming, D: Device, F: FnMut(Text, Text), R: Wait
     )
 }
 
-impl<'m, J: Naming, B: QueueNaming, D: Device> Session<'m, J, B, D> {
+impl<'m, V: Value, J: Naming, B: QueueNaming, D: Device> Session<'m, V, J, B, D> {
+    /// Hands each pair of a bucket to the visitor.
+    pub(crate) fn visit_one<F: FnMut(Text, V), R: Wait>(
+        &mut self,
+        rt: &R,
+        bucket: u32,
+        visit: &mut F,
+    ) -> Result<(), Refusal>
+        requires bucket { bucket < J.limits.buckets }
+        requires callable { F.IsAlwaysCallable visit.old }
+        ensures visits { IsBucketVisit V.enc J.limits bucket (λ pairs. FoldsTo (λ f pair g. F.step f pair.0 pair.1 tt g) visit.old pairs visit.new) self.new.pass result }
+        ensures again { F.IsAlwaysCallable visit.new }
+        ensures goes { Goes self.old.pass self.new.pass }
+        ensures same { (self.new.limit ≡ self.old.limit) × (self.new.stats ≡ self.old.stats) }
+    {
+        let table = &self.map.table;
+        visit_bucket(
+            rt,
+            self.alloc,
+            table,
+            &mut self.seated.caller,
+            bucket,
+            visit,
+        )
+    }
+
     /// Hands each pair of the map to the visitor.
-    pub(crate) fn visit_all<F: FnMut(Text, Text), R: Wait>(
+    pub(crate) fn visit_all<F: FnMut(Text, V), R: Wait>(
         &mut self,
         rt: &R,
         visit: &mut F,
     ) -> Result<(), Refusal>
         requires { F.IsAlwaysCallable visit.old }
-        ensures visits { IsVisit J.limits (λ pairs. FoldsTo (λ f pair g. F.step f pair.0 pair.1 tt g) visit.old pairs visit.new) self.old.pass self.new.pass result }
+        ensures visits { IsVisit V.enc J.limits (λ pairs. FoldsTo (λ f pair g. F.step f pair.0 pair.1 tt g) visit.old pairs visit.new) self.old.pass self.new.pass result }
         ensures goes { Goes self.old.pass self.new.pass }
         ensures same { (self.new.limit ≡ self.old.limit) × (self.new.stats ≡ self.old.stats) }
     {

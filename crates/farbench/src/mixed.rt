@@ -76,7 +76,7 @@ struct Mixed<'a> {
 
 impl Mixed<'_> {
     /// Gives each key of this worker the value.
-    fn fill<S: Calls, R: Wait>(
+    fn fill<S: Calls<Text>, R: Wait>(
         &self,
         rt: &R,
         alloc: Global,
@@ -99,7 +99,7 @@ impl Mixed<'_> {
     }
 
     /// What the calls of this part of the draws take.
-    fn run<S: Calls, R: Wait>(
+    fn run<S: Calls<Text>, R: Wait>(
         &self,
         rt: &R,
         alloc: Global,
@@ -125,7 +125,7 @@ impl Mixed<'_> {
     }
 
     /// What all mixes on these draws take. No mix repeats what an earlier one called.
-    fn on_draws<S: Calls, R: Wait>(
+    fn on_draws<S: Calls<Text>, R: Wait>(
         &self,
         rt: &R,
         alloc: Global,
@@ -145,10 +145,10 @@ impl Mixed<'_> {
     }
 }
 
-impl Work for Mixed<'_> {
+impl Work<Text> for Mixed<'_> {
     type Out = Result<Seen>;
 
-    fn work<S: Calls, R: Wait>(
+    fn work<S: Calls<Text>, R: Wait>(
         &self,
         rt: &R,
         alloc: Global,

@@ -4,6 +4,7 @@
 //! A script of tests/ runs this with each of its growths refused in turn.
 #![tactic(auto)]
 
+mod blobs;
 mod devices;
 mod evicting;
 mod lanes;
@@ -20,6 +21,7 @@ use std::io;
 
 fn main(rt: HostRuntime) -> io::Result<()> {
     objects::tell_all(&rt)?;
+    blobs::tell_all(&rt)?;
     protocol::tell_all(&rt)?;
     devices::tell_all(&rt)?;
     machine::tell_all(&rt)?;

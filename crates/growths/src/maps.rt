@@ -17,7 +17,7 @@ use worker::{Call, Deed, Putting, Trial, is_pair};
 
 /// Each call of a session, and where the pair lies before it. `with` and `contains` read a copy of what lies on a device where
 /// they are refused a growth as they fetch it, so that this passes unseen.
-const CALLS: [(&str, Call, Place); 21] = [
+const CALLS: [(&str, Call, Place); 23] = [
     ("get, a frame", Call::Deed(Deed::Get), Place::Frame),
     ("get, the device", Call::Deed(Deed::Get), Place::Device),
     ("with, a frame", Call::With, Place::Frame),
@@ -50,6 +50,8 @@ const CALLS: [(&str, Call, Place); 21] = [
     ("update", Call::Deed(Deed::Update), Place::Frame),
     ("for_each, a frame", Call::ForEach, Place::Frame),
     ("for_each, the device", Call::ForEach, Place::Device),
+    ("for_each_in, a frame", Call::ForEachIn, Place::Frame),
+    ("for_each_in, the device", Call::ForEachIn, Place::Device),
     ("evict", Call::Evict, Place::Frame),
 ];
 

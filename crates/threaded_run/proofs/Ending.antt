@@ -80,7 +80,7 @@ counts l limit [] h = refl
 counts l limit (s ∷ all) h =
     ap (λ (n : ℕ). n ∷ map (λ ls. length ls) (map (λ s. s.lines) all)) h.0.count ∙ ap (λ (ns : List ℕ). length s.commands ∷ ns) (counts l limit all h.1)
 
-pub ran : (l : Limits) (limit : ℕ) (files : List (List Command)) (passes : List View) (texts : List (List ℕ)) (pairs : Texts) → WorkedAll l limit files passes texts → IsEnd l passes pairs → IsTrue l.honest
+pub ran : (l : Limits) (limit : ℕ) (files : List (List Command)) (passes : List View) (texts : List (List ℕ)) (pairs : Texts) → WorkedAll l limit files passes texts → IsEnd enc_text l passes pairs → IsTrue l.honest
     → Ran (MayReply l.buckets limit) files (file_texts 1 texts ++ written (codes "contents" ∷ map pair_line pairs))
 ran l limit files passes texts pairs w end honest = record {
   calls = history end.log;
@@ -112,17 +112,17 @@ module _ (honest : Bool) (config back : Config) (limit count : ℕ) (files scrip
   l = limits_of (sizes_of config) honest
 
   abbrev Ends : Type 0
-  Ends = EndsBundled (λ worker l begun ended (out : Lines). Gives scripts worker l begun ended out) (limits_of (sizes_of back) honest) limit count outs end
+  Ends = EndsBundled enc_text (λ worker l begun ended (out : Lines). Gives scripts worker l begun ended out) (limits_of (sizes_of back) honest) limit count outs end
 
   abbrev EndsHere : Result (Vec Texts) RunFault → Type 0
-  EndsHere e = EndsBundled (λ worker l begun ended (out : Lines). Gives files worker l begun ended out) l config.limit (length files) outs e
+  EndsHere e = EndsBundled enc_text (λ worker l begun ended (out : Lines). Gives files worker l begun ended out) l config.limit (length files) outs e
 
   ends_here : Ends → EndsHere end
   ends_here h =
-      subst (λ (fs : List (List Command)). EndsBundled (λ worker l begun ended (out : Lines). Gives fs worker l begun ended out) l config.limit (length files) outs end) same_files
-      (subst (λ (n : ℕ). EndsBundled (λ worker l begun ended (out : Lines). Gives scripts worker l begun ended out) l config.limit n outs end) same_count
-      (subst (λ (n : ℕ). EndsBundled (λ worker l begun ended (out : Lines). Gives scripts worker l begun ended out) l n count outs end) same_limit
-      (subst (λ (k : Config). EndsBundled (λ worker l begun ended (out : Lines). Gives scripts worker l begun ended out) (limits_of (sizes_of k) honest) limit count outs end) same h)))
+      subst (λ (fs : List (List Command)). EndsBundled enc_text (λ worker l begun ended (out : Lines). Gives fs worker l begun ended out) l config.limit (length files) outs end) same_files
+      (subst (λ (n : ℕ). EndsBundled enc_text (λ worker l begun ended (out : Lines). Gives scripts worker l begun ended out) l config.limit n outs end) same_count
+      (subst (λ (n : ℕ). EndsBundled enc_text (λ worker l begun ended (out : Lines). Gives scripts worker l begun ended out) l n count outs end) same_limit
+      (subst (λ (k : Config). EndsBundled enc_text (λ worker l begun ended (out : Lines). Gives scripts worker l begun ended out) (limits_of (sizes_of k) honest) limit count outs end) same h)))
 
   lines_here : (e : Result (Vec Texts) RunFault) → EndsHere e → AreLines files (file_texts 1 texts)
   lines_here (Ok bundles) h = lines_before l config.limit files h.passes texts (worked_all l config.limit files h.passes outs texts h.worked given)

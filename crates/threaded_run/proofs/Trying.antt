@@ -7,6 +7,7 @@ use Rattle.table_core.specs.Logs.{history}
 use Rattle.version_words.specs.Views.{Goes}
 use Rattle.version_words.proofs.Fronts.{prefix_self}
 use Rattle.hash_table.proofs.Fronts.{goes_self}
+use Rattle.far_object.specs.Encodings.{enc_text}
 use Rattle.far_map.specs.declared.refusal.Refusal.{Refusal as MapRefusal}
 use Rattle.far_map.specs.declared.refusal.Refusal.TheVariants as map
 use Rattle.far_map.specs.declared.refusal.Lack.TheVariants as lack
@@ -29,7 +30,7 @@ module _ (l : Limits) (limit : ℕ) where
   free : (old new : View) (c : MapCommand) (why : Refusal) → ((log : Log) → MayReply l.buckets limit (history log) c (Err why)) → Goes old new → IsRefused l limit old new c why
   free old new c why may goes = record { goes = goes; seen = λ _. (old.front, prefix_self old.front, goes.grows, may old.front) }
 
-  refused : (old new : View) (c : MapCommand) (why : MapRefusal) → IsRefusedBy l limit old new (operation_of c) why → IsRefused l limit old new c (said why)
+  refused : (old new : View) (c : MapCommand) (why : MapRefusal) → IsRefusedBy enc_text l limit old new (operation_of c) why → IsRefused l limit old new c (said why)
   refused old new c map.Memory h = free old new c refusal.Memory (λ _. tt) h.goes
   refused old new c map.TooLong h = record { goes = h.goes; seen = λ honest. let s = h.seen honest in (s.0, s.1, s.2, too_long_in l.buckets limit (history s.0) (operation_of c) s.3.1) }
   refused old new c (map.Full lack.Frame) h = free old new c refusal.Full (λ _. tt) h.goes
@@ -38,7 +39,7 @@ module _ (l : Limits) (limit : ℕ) where
   refused old new c map.Device h = free old new c refusal.Device (λ _. tt) h.goes
   refused old new c map.Damaged h = record { goes = h.goes; seen = λ honest. h.seen honest }
 
-  done : (old new : View) (c : MapCommand) (answer : Option (List ℕ)) → IsMade l limit old new (operation_of c) answer → IsDone l limit old new c answer
+  done : (old new : View) (c : MapCommand) (answer : Option (List ℕ)) → IsMade enc_text l limit old new (operation_of c) answer → IsDone l limit old new c answer
   done old new c answer h = record {
     finished = h.finished;
     may = λ honest log last is.
@@ -50,10 +51,10 @@ module _ (l : Limits) (limit : ℕ) where
   -- ---- a command that asks the map
 
   pub runs_done : (old new : View) (held later : Option (List ℕ)) (c : MapCommand) (answer : Option (List ℕ)) (line : List ℕ) → line ≡ text_of answer → later ≡ held_behind c (Ok answer) held
-      → IsDoneBy l limit old new (operation_of c) answer → RunsOn l limit old new held later (Map c) line
+      → IsDoneBy enc_text l limit old new (operation_of c) answer → RunsOn l limit old new held later (Map c) line
   runs_done old new held later c answer line is behind h = record { front = h.front; runs = (Ok answer, is, done old h.front c answer h.made, behind); goes = h.goes }
 
-  pub runs_refused : (old new : View) (held : Option (List ℕ)) (c : MapCommand) (why : MapRefusal) (line : List ℕ) → line ≡ refusal_text (said why) → IsRefusedBy l limit old new (operation_of c) why → RunsOn l limit old new held held (Map c) line
+  pub runs_refused : (old new : View) (held : Option (List ℕ)) (c : MapCommand) (why : MapRefusal) (line : List ℕ) → line ≡ refusal_text (said why) → IsRefusedBy enc_text l limit old new (operation_of c) why → RunsOn l limit old new held held (Map c) line
   runs_refused old new held c why line is h = record { front = new; runs = (Err (said why), is, refused old new c why h, refl); goes = goes_self new }
 
   pub held_already : (old new : View) (held : Option (List ℕ)) (k line : List ℕ) → line ≡ refusal_text refusal.HeldAlready → Goes old new → RunsOn l limit old new held held (Map (Hold k)) line
@@ -81,10 +82,10 @@ unheld (command.Hold k) answer held h = absurd (h k refl)
 
 module _ {H : Type 0} (shows : H → Option (List ℕ)) (l : Limits) (limit : ℕ) (old new : View) (o : Asked) (found : Option H) where
   abbrev Held : Type 0
-  Held = AnswersBy l limit old new o (held_in {H = H} {E = MapRefusal} shows (Ok found))
+  Held = AnswersBy enc_text l limit old new o (held_in {H = H} {E = MapRefusal} shows (Ok found))
 
-  pub none_answered : found ≡ None → Held → IsDoneBy l limit old new o None
-  none_answered is h = subst (λ (f : Option H). AnswersBy l limit old new o (held_in {H = H} {E = MapRefusal} shows (Ok f))) is h
+  pub none_answered : found ≡ None → Held → IsDoneBy enc_text l limit old new o None
+  none_answered is h = subst (λ (f : Option H). AnswersBy enc_text l limit old new o (held_in {H = H} {E = MapRefusal} shows (Ok f))) is h
 
-  pub some_answered : (value : H) → found ≡ Some value → Held → IsDoneBy l limit old new o (shows value)
-  some_answered value is h = subst (λ (f : Option H). AnswersBy l limit old new o (held_in {H = H} {E = MapRefusal} shows (Ok f))) is h
+  pub some_answered : (value : H) → found ≡ Some value → Held → IsDoneBy enc_text l limit old new o (shows value)
+  some_answered value is h = subst (λ (f : Option H). AnswersBy enc_text l limit old new o (held_in {H = H} {E = MapRefusal} shows (Ok f))) is h

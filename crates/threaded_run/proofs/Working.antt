@@ -94,7 +94,7 @@ abbrev pub Lines : Type 0
 Lines = Result (Vec ℕ) WorkFault
 
 -- the worker's lines, where there are some, are its file's
-abbrev pub Gives : List (List Command) → ℕ → Limits → SessionView → SessionView → Lines → Type 0
+abbrev pub Gives : List (List Command) → ℕ → Limits → SessionView (List ℕ) → SessionView (List ℕ) → Lines → Type 0
 Gives files worker l begun ended out = IfOk out (λ lines. EndedIs l begun.limit begun.pass (slice_index_or files worker []) (record { pass = ended.pass; text = lines.items }))
 
 lines_front : (outs : List Lines) (last : Lines) → HaveLines (outs ++ last ∷ []) → HaveLines outs
@@ -135,7 +135,7 @@ module _ (l : Limits) (limit : ℕ) (files : List (List Command)) where
       let same : n + suc k ≡ n + 1 + k = omega arith in
       subst (λ (m : ℕ). slice_index_or files m [] ≡ slice_index_or rest k []) same (h (suc k) (omega (arith, lt)))
 
-  all_given : (n : ℕ) (rest : List (List Command)) (served : List (Served Lines)) (texts : List (List ℕ)) → Here n rest → length served ≡ length rest
+  all_given : (n : ℕ) (rest : List (List Command)) (served : List (Served (List ℕ) Lines)) (texts : List (List ℕ)) → Here n rest → length served ≡ length rest
       → AreServed (λ worker begun ended out. Gives files worker l begun ended out) limit n served → AreGiven (map (λ s. s.out) served) texts → WorkedAll l limit rest (map (λ s. s.ended.pass) served) texts
   all_given n [] [] texts here count all given = record { all = []; files_are = refl; passes_are = refl; texts_are = sym given; served = tt }
   all_given n [] (s ∷ served) texts here count all given = absurd (omega (arith, count))

@@ -6,6 +6,7 @@ ghost use Rattle.command_file.specs.declared.command.MapCommand.TheVariants.{Hol
 ghost use Rattle.run_lines.specs.Calls.{operation_of};
 ghost use Rattle.run_lines.specs.Replies.{shown_text, released_text, held_past, IsEvictLine, IsPlaceLine, TellsTable};
 ghost use Rattle.version_words.specs.Views.{Goes};
+ghost use Rattle.far_object.specs.Encodings.{enc_text};
 ghost use Rattle.far_map.specs.Answers.{Answers};
 ghost use Rattle.threaded_run.specs.Replies.{said, shown, RunsOn};
 
@@ -33,12 +34,12 @@ fn said(refusal: Refusal) -> Reply
 }
 
 /// The session's call for a command; a hold is a get here.
-fn call<S: Calls, R: Wait>(
+fn call<S: Calls<Text>, R: Wait>(
     rt: &R,
     me: &mut S,
     command: &MapCommand,
 ) -> Result<Option<Text>, Refusal>
-    ensures answers { Answers S.limits (S.shown me.old) (S.shown me.new) (operation_of command.now) result }
+    ensures answers { Answers enc_text S.limits (S.shown me.old) (S.shown me.new) (operation_of command.now) result }
     ensures limit { (S.shown me.new).limit ≡ (S.shown me.old).limit }
 {
     match command {
@@ -56,7 +57,7 @@ fn call<S: Calls, R: Wait>(
 }
 
 /// Holds a key's value, where none is held, and adds the line.
-fn hold<S: Calls, R: Wait>(
+fn hold<S: Calls<Text>, R: Wait>(
     rt: &R,
     me: &mut S,
     held: &mut Option<S::Held>,
@@ -85,7 +86,7 @@ fn hold<S: Calls, R: Wait>(
 }
 
 /// Runs a command that asks the map, and adds its line.
-fn run_map<S: Calls, R: Wait>(
+fn run_map<S: Calls<Text>, R: Wait>(
     rt: &R,
     me: &mut S,
     held: &mut Option<S::Held>,
@@ -106,7 +107,7 @@ fn run_map<S: Calls, R: Wait>(
 }
 
 /// The line of `evict`.
-fn evict<S: Calls, R: Wait>(rt: &R, me: &mut S) -> &'static [u8]
+fn evict<S: Calls<Text>, R: Wait>(rt: &R, me: &mut S) -> &'static [u8]
     ensures goes { Goes (S.shown me.old).pass (S.shown me.new).pass }
     ensures limit { (S.shown me.new).limit ≡ (S.shown me.old).limit }
     ensures line { IsEvictLine result.now }
@@ -139,7 +140,7 @@ fn push_state(lines: &mut Vec<u8>, state: BucketState) -> Result<(), Memory>
 }
 
 /// Ends the hold, and gives its line.
-fn release<S: Calls>(me: &S, held: &mut Option<S::Held>) -> &'static [u8]
+fn release<S: Calls<Text>>(me: &S, held: &mut Option<S::Held>) -> &'static [u8]
     ensures line { result.now ≡ released_text (shown S.held held.old) }
     ensures held { shown S.held held.new ≡ shown S.held None }
 {
@@ -155,7 +156,7 @@ fn release<S: Calls>(me: &S, held: &mut Option<S::Held>) -> &'static [u8]
 }
 
 /// Adds the line of `show`.
-fn show<S: Calls>(me: &S, held: &Option<S::Held>, lines: &mut Vec<u8>) -> Result<(), Memory>
+fn show<S: Calls<Text>>(me: &S, held: &Option<S::Held>, lines: &mut Vec<u8>) -> Result<(), Memory>
     ensures { OnOk result (lines.new.items ≡ lines.old.items ++ (shown_text (shown S.held held.now) ++ 10 ∷ [])) }
 {
     match held {
@@ -165,7 +166,7 @@ fn show<S: Calls>(me: &S, held: &Option<S::Held>, lines: &mut Vec<u8>) -> Result
 }
 
 /// Runs a command that asks the table, and adds its line.
-fn run_table<S: Calls, R: Wait>(
+fn run_table<S: Calls<Text>, R: Wait>(
     rt: &R,
     me: &mut S,
     held: &mut Option<S::Held>,
@@ -187,7 +188,7 @@ fn run_table<S: Calls, R: Wait>(
 
 /// Runs a command, and adds its line and an LF. Behind one that made no call of the map, which would do so, the session sees to
 /// what its calls have left. `Memory` comes where the line can't be stored; a part of it may stand then.
-fn run_command<S: Calls, R: Wait>(
+fn run_command<S: Calls<Text>, R: Wait>(
     rt: &R,
     me: &mut S,
     held: &mut Option<S::Held>,
@@ -210,7 +211,7 @@ fn run_command<S: Calls, R: Wait>(
 
 /// Runs the script's command at this place, and adds its line and an LF. Where there is no memory for its texts it is refused.
 /// `Memory` comes where the line can't be stored; a part of it may stand then.
-pub(crate) fn run_at<S: Calls, R: Wait>(
+pub(crate) fn run_at<S: Calls<Text>, R: Wait>(
     rt: &R,
     alloc: Global,
     me: &mut S,

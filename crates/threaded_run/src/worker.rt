@@ -8,7 +8,7 @@ use crate::fault::WorkFault;
 use crate::gate::GateKeeper;
 use crate::running::run_at;
 use command_file::Script;
-use far_map::{Calls, Work};
+use far_map::{Calls, Text, Work};
 use std::alloc::Global;
 use std::sync::Wait;
 
@@ -28,7 +28,7 @@ impl<'a, G: GateKeeper> Files<'a, G> {
 }
 
 /// Runs the commands in order, each between the gate's two calls, and gives their lines.
-fn work<S: Calls, G: GateKeeper, R: Wait>(
+fn work<S: Calls<Text>, G: GateKeeper, R: Wait>(
     rt: &R,
     alloc: Global,
     me: &mut S,
@@ -54,7 +54,7 @@ fn work<S: Calls, G: GateKeeper, R: Wait>(
 }
 
 /// The same by a worker that holds nothing. What it holds at the end is let go, also where the run is given up.
-fn work_alone<S: Calls, G: GateKeeper, R: Wait>(
+fn work_alone<S: Calls<Text>, G: GateKeeper, R: Wait>(
     rt: &R,
     alloc: Global,
     me: &mut S,
@@ -74,7 +74,7 @@ fn work_alone<S: Calls, G: GateKeeper, R: Wait>(
     ran
 }
 
-impl<'a, G: GateKeeper + Sync> Work for Files<'a, G> {
+impl<'a, G: GateKeeper + Sync> Work<Text> for Files<'a, G> {
     ghost use Rattle.std.specs.Prelude.{[], IfOk, slice_index_or};
     ghost use Rattle.threaded_run.specs.Runs.{EndedIs};
 
@@ -83,7 +83,7 @@ impl<'a, G: GateKeeper + Sync> Work for Files<'a, G> {
     // The lines are what the file's commands were replied in the history of the worker's pass.
     ghost done = { λ files worker l begun ended out. IfOk out (λ lines. EndedIs l begun.limit begun.pass (slice_index_or files.scripts.now worker []) (record { pass = ended.pass; text = lines.items })) };
 
-    fn work<S: Calls, R: Wait>(
+    fn work<S: Calls<Text>, R: Wait>(
         &self,
         rt: &R,
         alloc: Global,

@@ -4,7 +4,7 @@ use crate::counts::raised;
 use crate::pieces::Pieces;
 use crate::words::first_word;
 use anyhow::{Result, bail};
-use far_map::{Calls, Updated, Work, text};
+use far_map::{Calls, Text, Updated, Work, text};
 use std::alloc::Global;
 use std::sync::{Mutex, Wait};
 
@@ -23,7 +23,7 @@ impl<'a> Counting<'a> {
 }
 
 /// Raises the word's count. Where another thread was faster it is tried again, for as long as that is so.
-fn raise<S: Calls, R: Wait>(rt: &R, alloc: Global, me: &mut S, word: &[u8]) -> Result<()> {
+fn raise<S: Calls<Text>, R: Wait>(rt: &R, alloc: Global, me: &mut S, word: &[u8]) -> Result<()> {
     let key = text(alloc, word)?;
     for _ in rt.forever() {
         match me.update(rt, &key, |found| raised(alloc, found)) {
@@ -37,7 +37,12 @@ fn raise<S: Calls, R: Wait>(rt: &R, alloc: Global, me: &mut S, word: &[u8]) -> R
 }
 
 /// Raises the count of each word.
-fn raise_all<S: Calls, R: Wait>(rt: &R, alloc: Global, me: &mut S, piece: &[u8]) -> Result<()> {
+fn raise_all<S: Calls<Text>, R: Wait>(
+    rt: &R,
+    alloc: Global,
+    me: &mut S,
+    piece: &[u8],
+) -> Result<()> {
     let mut rest = piece;
     while let Some((word, behind)) = first_word(rest) {
         raise(rt, alloc, me, word)?;
@@ -46,10 +51,10 @@ fn raise_all<S: Calls, R: Wait>(rt: &R, alloc: Global, me: &mut S, piece: &[u8])
     Ok(())
 }
 
-impl Work for Counting<'_> {
+impl Work<Text> for Counting<'_> {
     type Out = Result<()>;
 
-    fn work<S: Calls, R: Wait>(
+    fn work<S: Calls<Text>, R: Wait>(
         &self,
         rt: &R,
         alloc: Global,

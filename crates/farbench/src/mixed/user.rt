@@ -10,13 +10,13 @@ use std::sync::Wait;
 
 /// A session with its calls: the keys in their order, so that each is in the cache when it is called, and whether it is a get.
 #[derive(Drop)]
-pub struct User<'a, S: Calls> {
+pub struct User<'a, S: Calls<Text>> {
     me: &'a mut S,
     calls: Vec<(Text, bool)>,
     value: &'a Text,
 }
 
-impl<'a, S: Calls> User<'a, S> {
+impl<'a, S: Calls<Text>> User<'a, S> {
     /// One with the calls of this part of the draws, of which so many in a hundred are gets.
     pub fn new(
         alloc: Global,
@@ -39,7 +39,7 @@ impl<'a, S: Calls> User<'a, S> {
     }
 }
 
-impl<S: Calls> Runner<()> for User<'_, S> {
+impl<S: Calls<Text>> Runner<()> for User<'_, S> {
     fn call<R: Wait>(&mut self, rt: &R, _shared: &(), number: u32) -> bool {
         let Some((key, is_get)) = self.calls.get(number as usize) else {
             return false;

@@ -46,6 +46,7 @@ pub enum Call {
     Contains,
     Hold,
     ForEach,
+    ForEachIn,
     Evict,
 }
 
@@ -70,7 +71,12 @@ impl Texts {
 }
 
 /// Brings the pair to the place.
-fn lay<S: Calls, R: Wait>(rt: &R, me: &mut S, it: &Texts, place: Place) -> Result<(), Memory> {
+fn lay<S: Calls<Text>, R: Wait>(
+    rt: &R,
+    me: &mut S,
+    it: &Texts,
+    place: Place,
+) -> Result<(), Memory> {
     if matches!(place, Place::Nowhere) {
         return Ok(());
     }
@@ -85,7 +91,7 @@ fn lay<S: Calls, R: Wait>(rt: &R, me: &mut S, it: &Texts, place: Place) -> Resul
 
 /// Whether the key's value is this one, as far as can be seen without memory: of a pair on the device it is taken for the old
 /// one.
-fn holds<S: Calls, R: Wait>(rt: &R, me: &mut S, it: &Texts, value: Option<&[u8]>) -> bool {
+fn holds<S: Calls<Text>, R: Wait>(rt: &R, me: &mut S, it: &Texts, value: Option<&[u8]>) -> bool {
     match me.where_is(&it.key) {
         BucketState::Empty(_) => value.is_none(),
         BucketState::Far(_) => value == Some(OLD),
@@ -96,16 +102,20 @@ fn holds<S: Calls, R: Wait>(rt: &R, me: &mut S, it: &Texts, value: Option<&[u8]>
     }
 }
 
-fn is_far<S: Calls>(me: &mut S, it: &Texts) -> bool {
+fn is_far<S: Calls<Text>>(me: &mut S, it: &Texts) -> bool {
     matches!(me.where_is(&it.key), BucketState::Far(_))
 }
 
-fn is_local<S: Calls, R: Wait>(rt: &R, me: &mut S, it: &Texts) -> bool {
+fn is_local<S: Calls<Text>, R: Wait>(rt: &R, me: &mut S, it: &Texts) -> bool {
     !is_far(me, it) && holds(rt, me, it, Some(OLD))
 }
 
 /// Sets the key to the new value. What makes that makes none where it finds no memory, and the key is left.
-fn update<S: Calls, R: Wait>(rt: &R, me: &mut S, it: &Texts) -> Result<Option<Text>, Refusal> {
+fn update<S: Calls<Text>, R: Wait>(
+    rt: &R,
+    me: &mut S,
+    it: &Texts,
+) -> Result<Option<Text>, Refusal> {
     let alloc = it.alloc;
     match me.update(rt, &it.key, |_| text(alloc, NEW).ok()) {
         Ok(Updated::Set(found)) => Ok(found),
@@ -116,7 +126,7 @@ fn update<S: Calls, R: Wait>(rt: &R, me: &mut S, it: &Texts) -> Result<Option<Te
 }
 
 /// What the key had before the call.
-fn found<S: Calls, R: Wait>(
+fn found<S: Calls<Text>, R: Wait>(
     rt: &R,
     me: &mut S,
     it: &Texts,
@@ -136,7 +146,13 @@ fn found<S: Calls, R: Wait>(
     }
 }
 
-fn do_deed<S: Calls, R: Wait>(rt: &R, me: &mut S, it: &Texts, deed: Deed, place: Place) -> Outcome {
+fn do_deed<S: Calls<Text>, R: Wait>(
+    rt: &R,
+    me: &mut S,
+    it: &Texts,
+    deed: Deed,
+    place: Place,
+) -> Outcome {
     let held = match place {
         Place::Nowhere => None,
         _ => Some(OLD),
@@ -150,7 +166,7 @@ fn do_deed<S: Calls, R: Wait>(rt: &R, me: &mut S, it: &Texts, deed: Deed, place:
 }
 
 /// Holds the value, and lets it go.
-fn hold<S: Calls, R: Wait>(rt: &R, me: &mut S, it: &Texts) -> Answer {
+fn hold<S: Calls<Text>, R: Wait>(rt: &R, me: &mut S, it: &Texts) -> Answer {
     match me.hold(rt, &it.key) {
         Ok(Some(held)) => {
             let same = me.bytes_of(&held) == OLD;
@@ -163,7 +179,7 @@ fn hold<S: Calls, R: Wait>(rt: &R, me: &mut S, it: &Texts) -> Answer {
 }
 
 /// Visits the pair alone.
-fn visit<S: Calls, R: Wait>(rt: &R, me: &mut S) -> Answer {
+fn visit<S: Calls<Text>, R: Wait>(rt: &R, me: &mut S) -> Answer {
     let (mut pairs, mut same) = (0u32, true);
     let ended = me.for_each(
         rt,
@@ -175,8 +191,35 @@ fn visit<S: Calls, R: Wait>(rt: &R, me: &mut S) -> Answer {
     answer!(ended, () => pairs == 1 && same, Refusal::Memory)
 }
 
+/// Visits the pair alone, by a visit of each bucket.
+fn visit_each<S: Calls<Text>, R: Wait>(rt: &R, me: &mut S) -> Answer {
+    let (mut pairs, mut same) = (0u32, true);
+    for bucket in 0..me.buckets() {
+        let ended = me.for_each_in(
+            rt,
+            bucket,
+            &mut |key, value| {
+                pairs = pairs.saturating_add(1);
+                same = same && is_text(&key, KEY) && is_text(&value, OLD);
+            },
+        );
+        match ended {
+            Ok(()) => {}
+            Err(Refusal::Memory) => return Answer::Memory,
+            Err(_) => return Answer::Wrong,
+        }
+    }
+    Answer::of(pairs == 1 && same)
+}
+
 /// Makes the call. After a refusal the pair is where it was, with its old value.
-fn make<S: Calls, R: Wait>(rt: &R, me: &mut S, it: &Texts, call: Call, place: Place) -> Outcome {
+fn make<S: Calls<Text>, R: Wait>(
+    rt: &R,
+    me: &mut S,
+    it: &Texts,
+    call: Call,
+    place: Place,
+) -> Outcome {
     match call {
         Call::Deed(which) => do_deed(rt, me, it, which, place),
         Call::With => tried!(
@@ -189,6 +232,7 @@ fn make<S: Calls, R: Wait>(rt: &R, me: &mut S, it: &Texts, call: Call, place: Pl
         ),
         Call::Hold => tried!(hold(rt, me, it), holds(rt, me, it, Some(OLD))),
         Call::ForEach => tried!(visit(rt, me), holds(rt, me, it, Some(OLD))),
+        Call::ForEachIn => tried!(visit_each(rt, me), holds(rt, me, it, Some(OLD))),
         Call::Evict => tried!(
             answer!(me.evict(rt), is_given => is_given, Refusal::Memory).and(is_far(me, it)),
             is_local(rt, me, it)
@@ -203,10 +247,16 @@ pub struct Trial {
     pub place: Place,
 }
 
-impl Work for Trial {
+impl Work<Text> for Trial {
     type Out = Tried;
 
-    fn work<S: Calls, R: Wait>(&self, rt: &R, alloc: Global, _worker: u32, me: &mut S) -> Tried {
+    fn work<S: Calls<Text>, R: Wait>(
+        &self,
+        rt: &R,
+        alloc: Global,
+        _worker: u32,
+        me: &mut S,
+    ) -> Tried {
         let it = Texts::new(alloc)?;
         lay(rt, me, &it, self.place)?;
         Ok(make(rt, me, &it, self.call, self.place))
@@ -217,10 +267,10 @@ impl Work for Trial {
 #[derive(Clone, Copy)]
 pub struct Putting;
 
-impl Work for Putting {
+impl Work<Text> for Putting {
     type Out = Result<(), Memory>;
 
-    fn work<S: Calls, R: Wait>(
+    fn work<S: Calls<Text>, R: Wait>(
         &self,
         rt: &R,
         alloc: Global,

@@ -1,7 +1,9 @@
-//! Numbers and texts as bytes, and their buckets.
+//! Numbers, texts and blobs as bytes, and their buckets.
 use super::common::{equal, holds, list, made, text};
+use far_blob::{Blob, BlobFault, MOST_BYTES};
 use far_object::{FarObject, ObjectFault, Text, TextFault, bucket_of};
 use std::alloc::Global;
+use std::cmp::Ordering;
 use std::process::Abort;
 
 /// What `encode` appends to a list that is not empty.
@@ -77,6 +79,64 @@ fn the_longest_text(rt: HostRuntime) {
     is_written_as(&rt, rt.alloc(), &longest, &written);
     let refused = Text::new(rt.alloc(), bytes.as_slice()).err();
     equal(&rt, refused, Some(TextFault::TooLong));
+}
+
+#[test]
+fn blobs_as_bytes(rt: HostRuntime) {
+    let blobs: [(&[u8], &[u8]); 3] = [
+        (b"", &[0, 0, 0, 0]),
+        (b"a", &[0, 0, 0, 1, 97]),
+        (b"\x00\xff", &[0, 0, 0, 2, 0, 255]),
+    ];
+    for (letters, bytes) in &blobs {
+        let blob = made(&rt, Blob::new(rt.alloc(), letters));
+        is_written_as(&rt, rt.alloc(), &blob, bytes);
+        holds(&rt, blob.as_bytes() == *letters);
+        holds(&rt, blob.into_bytes().as_slice() == *letters);
+    }
+}
+
+/// A shorter blob comes before a longer one, and of two of one length the one of lower bytes.
+#[test]
+fn blobs_in_their_order(rt: HostRuntime) {
+    let rows: [(&[u8], &[u8], Ordering); 4] = [
+        (b"", b"a", Ordering::Less),
+        (b"b", b"aa", Ordering::Less),
+        (b"ab", b"ab", Ordering::Equal),
+        (b"ab", b"aa", Ordering::Greater),
+    ];
+    for (one, other, order) in &rows {
+        let one = made(&rt, Blob::new(rt.alloc(), one));
+        let other = made(&rt, Blob::new(rt.alloc(), other));
+        equal(&rt, one.compare(&other), *order);
+        let bytes = encoding(&rt, rt.alloc(), &other);
+        equal(&rt, one.compare_to_bytes(&bytes), *order);
+    }
+}
+
+/// Of the longest blob and of one byte more, which is refused; and so is a length that tells of one more.
+#[test]
+fn the_longest_blob(rt: HostRuntime) {
+    let bytes = made(&rt, vec![in rt.alloc(); 200u8; MOST_BYTES + 1]);
+    let (most, _) = bytes.split_at(MOST_BYTES);
+    let refused = Blob::new(rt.alloc(), bytes.as_slice()).err();
+    equal(&rt, refused, Some(BlobFault::TooLong));
+    let longest = made(&rt, Blob::new(rt.alloc(), most));
+    equal(&rt, longest.len(), MOST_BYTES + 4);
+    let mut front = list(&rt, rt.alloc(), &[1, 0, 0, 0]);
+    made(&rt, front.extend_from_slice(&bytes));
+    equal(&rt, Blob::skip(&front), Ok(MOST_BYTES + 4));
+    let (found, _) = made(&rt, Blob::decode(rt.alloc(), &front));
+    holds(&rt, found.as_bytes() == longest.as_bytes());
+    let mut front = list(&rt, rt.alloc(), &[1, 0, 0, 1]);
+    made(&rt, front.extend_from_slice(&bytes));
+    equal(&rt, Blob::skip(&front), Err(ObjectFault::Short));
+    let refused = Blob::decode(rt.alloc(), &front).err();
+    equal(&rt, refused, Some(ObjectFault::Short));
+    let refused = Blob::from_vec(bytes).err();
+    equal(&rt, refused, Some(BlobFault::TooLong));
+    let again = made(&rt, Blob::from_vec(longest.into_bytes()));
+    equal(&rt, again.as_bytes().len(), MOST_BYTES);
 }
 
 /// The longer keys' bytes are hashed four at a time, with none, one, two and three behind these.

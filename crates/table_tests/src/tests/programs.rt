@@ -1,5 +1,6 @@
 //! The map as programs use it: the one that the docs show, a crowd over few frames, and each refusal and fault.
 
+mod blobs;
 mod bounded;
 mod crowded;
 mod holds;

@@ -11,16 +11,16 @@ returns-in-Err-make_room-clause-answers g c =
     let limit = c.args.map.now.table.limit in
     let old = c.args.seated.now.caller.pass in
     let o = asked c.args.ask.now in
-    replied_why l limit old c.loop.seated.caller.pass c.call.new.caller.pass c.make_room.new.seated.caller.pass o c.in-Err.refusal c.in-Err-make_room.why c.loop.invariant.0 c.in-Err.ensures.tries
+    replied_why g.V.FarObject.enc l limit old c.loop.seated.caller.pass c.call.new.caller.pass c.make_room.new.seated.caller.pass o c.in-Err.refusal c.in-Err-make_room.why c.loop.invariant.0 c.in-Err.ensures.tries
     c.in-Err-make_room.ensures.pass c.in-Err-make_room.ensures.why
 
 pub returns-in-Ok-clause-answers : goal.returns-in-Ok-clause-answers
 returns-in-Ok-clause-answers g c =
-    done_from g.J.Naming.limits c.args.map.now.table.limit c.args.seated.now.caller.pass c.loop.seated.caller.pass c.call.new.caller.pass (asked c.args.ask.now) c.in-Ok.answer c.loop.invariant.0 c.in-Ok.ensures.tries
+    done_from g.V.FarObject.enc g.J.Naming.limits c.args.map.now.table.limit c.args.seated.now.caller.pass c.loop.seated.caller.pass c.call.new.caller.pass (asked c.args.ask.now) c.in-Ok.answer c.loop.invariant.0 c.in-Ok.ensures.tries
 
 pub returns-in-Ok-call-clause-answers : goal.returns-in-Ok-call-clause-answers
 returns-in-Ok-call-clause-answers g c =
-    done_from g.J.Naming.limits c.args.map.now.table.limit c.args.seated.now.caller.pass c.loop.seated.caller.pass c.call-2.new.caller.pass (asked c.args.ask.now) c.in-Ok-call.answer c.loop.invariant.0 c.in-Ok-call.ensures.tries
+    done_from g.V.FarObject.enc g.J.Naming.limits c.args.map.now.table.limit c.args.seated.now.caller.pass c.loop.seated.caller.pass c.call-2.new.caller.pass (asked c.args.ask.now) c.in-Ok-call.answer c.loop.invariant.0 c.in-Ok-call.ensures.tries
 
 pub returns-in-Ok-clause-none_lost : goal.returns-in-Ok-clause-none_lost
 returns-in-Ok-clause-none_lost g c = loses_trans _ _ _ _ _ _ c.loop.invariant.1 (came _ _ _ c.call.ensures.limbo)

@@ -5,7 +5,7 @@ use Rattle.far_map.proofs.answering.answer_and_keep.Goals as goal
 
 pub returns-clause-answers : goal.returns-clause-answers
 returns-clause-answers g c =
-    answers_on g.J.Naming.limits c.args.map.now.table.limit c.args.seated.now.caller.pass c.answer-answered.new.seated.caller.pass c.after_call.new.seated.caller.pass (asked c.args.ask.now) c.answer-answered.result
+    answers_on g.V.FarObject.enc g.J.Naming.limits c.args.map.now.table.limit c.args.seated.now.caller.pass c.answer-answered.new.seated.caller.pass c.after_call.new.seated.caller.pass (asked c.args.ask.now) c.answer-answered.result
     c.answer-answered.ensures.answers c.after_call.ensures.goes
 
 pub returns-clause-none_lost : goal.returns-clause-none_lost

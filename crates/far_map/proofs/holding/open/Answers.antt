@@ -12,16 +12,16 @@ returns-in-Err-make_room-clause-answers g c =
     let limit = c.args.map.now.table.limit in
     let old = c.args.seated.now.caller.pass in
     let o = Get c.args.key.now in
-    replied_why l limit old c.loop.seated.caller.pass c.open_near.new.caller.pass c.make_room.new.seated.caller.pass o c.in-Err.refusal c.in-Err-make_room.why c.loop.invariant.0 c.in-Err.ensures.tries
+    replied_why g.V.FarObject.enc l limit old c.loop.seated.caller.pass c.open_near.new.caller.pass c.make_room.new.seated.caller.pass o c.in-Err.refusal c.in-Err-make_room.why c.loop.invariant.0 c.in-Err.ensures.tries
     c.in-Err-make_room.ensures.pass c.in-Err-make_room.ensures.why
 
 pub returns-in-Ok-clause-answers : goal.returns-in-Ok-clause-answers
 returns-in-Ok-clause-answers g c =
-    held_answers g.J.Naming.limits c.args.map.now.table.limit c.args.seated.now.caller.pass c.loop.seated.caller.pass c.open_near.new.caller.pass c.args.key.now c.in-Ok.held c.loop.invariant.0 c.in-Ok.ensures.tries
+    held_answers g.V.FarObject.enc g.J.Naming.limits c.args.map.now.table.limit c.args.seated.now.caller.pass c.loop.seated.caller.pass c.open_near.new.caller.pass c.args.key.now c.in-Ok.held c.loop.invariant.0 c.in-Ok.ensures.tries
 
 pub returns-in-Ok-open_near-clause-answers : goal.returns-in-Ok-open_near-clause-answers
 returns-in-Ok-open_near-clause-answers g c =
-    held_answers g.J.Naming.limits c.args.map.now.table.limit c.args.seated.now.caller.pass c.loop.seated.caller.pass c.open_near-2.new.caller.pass c.args.key.now c.in-Ok-open_near.held c.loop.invariant.0 c.in-Ok-open_near.ensures.tries
+    held_answers g.V.FarObject.enc g.J.Naming.limits c.args.map.now.table.limit c.args.seated.now.caller.pass c.loop.seated.caller.pass c.open_near-2.new.caller.pass c.args.key.now c.in-Ok-open_near.held c.loop.invariant.0 c.in-Ok-open_near.ensures.tries
 
 pub returns-in-Ok-clause-none_lost : goal.returns-in-Ok-clause-none_lost
 returns-in-Ok-clause-none_lost g c = loses_trans _ _ _ _ _ _ c.loop.invariant.1 (came _ _ _ c.open_near.ensures.limbo)
@@ -43,5 +43,5 @@ loop-preserved g c = (
 
 pub returns-in-Err-open_near-clause-answers : goal.returns-in-Err-open_near-clause-answers
 returns-in-Err-open_near-clause-answers g c =
-    replied_why g.J.Naming.limits c.args.map.now.table.limit c.args.seated.now.caller.pass c.loop.seated.caller.pass c.open_near-2.new.caller.pass c.open_near-2.new.caller.pass (Get c.args.key.now) c.in-Err-open_near.refusal c.said.result
+    replied_why g.V.FarObject.enc g.J.Naming.limits c.args.map.now.table.limit c.args.seated.now.caller.pass c.loop.seated.caller.pass c.open_near-2.new.caller.pass c.open_near-2.new.caller.pass (Get c.args.key.now) c.in-Err-open_near.refusal c.said.result
     c.loop.invariant.0 c.in-Err-open_near.ensures.tries (goes_self c.open_near-2.new.caller.pass) (inl c.said.ensures)

@@ -6,7 +6,7 @@ use Rattle.far_map.proofs.holding.open_and_keep.Goals as goal
 
 pub returns-clause-answers : goal.returns-clause-answers
 returns-clause-answers g c =
-    answers_on g.J.Naming.limits c.args.map.now.table.limit c.args.seated.now.caller.pass c.open-held.new.seated.caller.pass c.after_call.new.seated.caller.pass (Get c.args.key.now) (held_in (λ s. s.value) c.open-held.result)
+    answers_on g.V.FarObject.enc g.J.Naming.limits c.args.map.now.table.limit c.args.seated.now.caller.pass c.open-held.new.seated.caller.pass c.after_call.new.seated.caller.pass (Get c.args.key.now) (held_in (λ s. s.value) c.open-held.result)
     c.open-held.ensures.answers c.after_call.ensures.goes
 
 pub returns-clause-none_lost : goal.returns-clause-none_lost

@@ -5,9 +5,9 @@ use Rattle.far_map.proofs.Trying.{held_tries, refused_from}
 use Rattle.far_map.proofs.holding.open_near.Goals as goal
 
 pub returns-in-Ok-clause-tries : goal.returns-in-Ok-clause-tries
-returns-in-Ok-clause-tries g c = held_tries g.J.Naming.limits c.args.table.now.limit c.args.caller.now.pass c.loop.caller.pass c.open_scope.new.caller.pass c.args.key.now c.in-Ok.held c.loop.invariant.0 c.in-Ok.ensures.finished
+returns-in-Ok-clause-tries g c = held_tries g.V.FarObject.enc g.J.Naming.limits c.args.table.now.limit c.args.caller.now.pass c.loop.caller.pass c.open_scope.new.caller.pass c.args.key.now c.in-Ok.held c.loop.invariant.0 c.in-Ok.ensures.finished
 
 pub returns-in-Err-bring-clause-tries : goal.returns-in-Err-bring-clause-tries
 returns-in-Err-bring-clause-tries g c =
-    refused_from g.J.Naming.limits c.args.table.now.limit c.args.caller.now.pass c.open_scope.new.caller.pass c.bring.new.caller.pass (Get c.args.key.now) (said c.in-Err-bring.refusal)
+    refused_from g.V.FarObject.enc g.J.Naming.limits c.args.table.now.limit c.args.caller.now.pass c.open_scope.new.caller.pass c.bring.new.caller.pass (Get c.args.key.now) (said c.in-Err-bring.refusal)
     (goes_trans c.loop.invariant.0 c.in-Err-Far.ensures.goes) c.in-Err-bring.ensures.refused

@@ -5,7 +5,7 @@ use Rattle.far_map.proofs.reading.copy_and_keep.Goals as goal
 
 pub returns-clause-answers : goal.returns-clause-answers
 returns-clause-answers g c =
-    answers_on g.J.Naming.limits c.args.map.now.table.limit c.args.seated.now.caller.pass c.copy_value-copied.new.caller.pass c.after_call.new.seated.caller.pass (Get c.args.key.now) c.copy_value-copied.result
+    answers_on g.V.FarObject.enc g.J.Naming.limits c.args.map.now.table.limit c.args.seated.now.caller.pass c.copy_value-copied.new.caller.pass c.after_call.new.seated.caller.pass (Get c.args.key.now) c.copy_value-copied.result
     c.copy_value-copied.ensures.answers c.after_call.ensures.goes
 
 pub returns-clause-none_lost : goal.returns-clause-none_lost

@@ -5,7 +5,7 @@ use Rattle.far_map.proofs.reading.read_and_keep.Goals as goal
 
 pub returns-clause-read : goal.returns-clause-read
 returns-clause-read g c =
-    read_on g.J.Naming.limits c.args.map.now.table.limit c.args.seated.now.caller.pass c.read_value-made.new.seated.caller.pass c.after_call.new.seated.caller.pass c.args.key.now (FnOnceReturnsAt g.F.FnOnce c.args.read) c.read_value-made.result
+    read_on g.V.FarObject.enc g.J.Naming.limits c.args.map.now.table.limit c.args.seated.now.caller.pass c.read_value-made.new.seated.caller.pass c.after_call.new.seated.caller.pass c.args.key.now (λ v. FnOnceReturnsAt g.F.FnOnce c.args.read (g.V.Value.shows v)) c.read_value-made.result
     c.read_value-made.ensures.read c.after_call.ensures.goes
 
 pub returns-clause-none_lost : goal.returns-clause-none_lost

@@ -5,7 +5,7 @@ use Rattle.far_map.proofs.removing.remove_and_keep.Goals as goal
 
 pub returns-clause-answers : goal.returns-clause-answers
 returns-clause-answers g c =
-    answers_on g.J.Naming.limits c.args.map.now.table.limit c.args.seated.now.caller.pass c.remove_in_room-removal.new.seated.caller.pass c.after_call.new.seated.caller.pass (call_of c.args.key.now c.remove_in_room-removal.result)
+    answers_on g.V.FarObject.enc g.J.Naming.limits c.args.map.now.table.limit c.args.seated.now.caller.pass c.remove_in_room-removal.new.seated.caller.pass c.after_call.new.seated.caller.pass (call_of c.args.key.now c.remove_in_room-removal.result)
     (found_in c.remove_in_room-removal.result) c.remove_in_room-removal.ensures.answers c.after_call.ensures.goes
 
 pub returns-clause-none_lost : goal.returns-clause-none_lost

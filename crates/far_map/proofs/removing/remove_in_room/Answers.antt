@@ -13,22 +13,22 @@ returns-in-Err-make_room-clause-answers g c =
     let limit = c.args.map.now.table.limit in
     let old = c.args.seated.now.caller.pass in
     let o = Remove c.args.key.now in
-    replied_why l limit old c.loop.seated.caller.pass c.remove_now.new.caller.pass c.make_room.new.seated.caller.pass o c.in-Err.refusal c.in-Err-make_room.why c.loop.invariant.0 c.in-Err.ensures.tries
+    replied_why g.V.FarObject.enc l limit old c.loop.seated.caller.pass c.remove_now.new.caller.pass c.make_room.new.seated.caller.pass o c.in-Err.refusal c.in-Err-make_room.why c.loop.invariant.0 c.in-Err.ensures.tries
     c.in-Err-make_room.ensures.pass c.in-Err-make_room.ensures.why
 
 pub returns-in-Ok-clause-answers : goal.returns-in-Ok-clause-answers
 returns-in-Ok-clause-answers g c =
-    done_from g.J.Naming.limits c.args.map.now.table.limit c.args.seated.now.caller.pass c.loop.seated.caller.pass c.remove_now.new.caller.pass (removal_of c.args.key.now c.in-Ok.removal.removed) c.in-Ok.removal.found
+    done_from g.V.FarObject.enc g.J.Naming.limits c.args.map.now.table.limit c.args.seated.now.caller.pass c.loop.seated.caller.pass c.remove_now.new.caller.pass (removal_of c.args.key.now c.in-Ok.removal.removed) c.in-Ok.removal.found
     c.loop.invariant.0 c.in-Ok.ensures.tries
 
 pub returns-in-Ok-remove_now-clause-answers : goal.returns-in-Ok-remove_now-clause-answers
 returns-in-Ok-remove_now-clause-answers g c =
-    done_from g.J.Naming.limits c.args.map.now.table.limit c.args.seated.now.caller.pass c.loop.seated.caller.pass c.remove_now-2.new.caller.pass (removal_of c.args.key.now c.in-Ok-remove_now.removal.removed)
+    done_from g.V.FarObject.enc g.J.Naming.limits c.args.map.now.table.limit c.args.seated.now.caller.pass c.loop.seated.caller.pass c.remove_now-2.new.caller.pass (removal_of c.args.key.now c.in-Ok-remove_now.removal.removed)
     c.in-Ok-remove_now.removal.found c.loop.invariant.0 c.in-Ok-remove_now.ensures.tries
 
 pub returns-in-Err-remove_now-clause-answers : goal.returns-in-Err-remove_now-clause-answers
 returns-in-Err-remove_now-clause-answers g c =
-    replied_why g.J.Naming.limits c.args.map.now.table.limit c.args.seated.now.caller.pass c.loop.seated.caller.pass c.remove_now-2.new.caller.pass c.remove_now-2.new.caller.pass (Remove c.args.key.now) c.in-Err-remove_now.refusal c.said.result
+    replied_why g.V.FarObject.enc g.J.Naming.limits c.args.map.now.table.limit c.args.seated.now.caller.pass c.loop.seated.caller.pass c.remove_now-2.new.caller.pass c.remove_now-2.new.caller.pass (Remove c.args.key.now) c.in-Err-remove_now.refusal c.said.result
     c.loop.invariant.0 c.in-Err-remove_now.ensures.tries (goes_self c.remove_now-2.new.caller.pass) (inl c.said.ensures)
 
 pub returns-in-Ok-clause-none_lost : goal.returns-in-Ok-clause-none_lost

@@ -1,4 +1,4 @@
-use Rattle.std.proofs.Common.{rules, map, arith, refl, Ok, IfOk, subst}
+use Rattle.std.proofs.Common.{rules, map, arith, refl}
 use Rattle.std.specs.Prelude.{vec_len}
 use Rattle.far_map.proofs.Working.{nothing, more_ok, more_behind}
 use Rattle.far_map.proofs.sharing.+fn-workers-join+arg3+workers.Goals as goal

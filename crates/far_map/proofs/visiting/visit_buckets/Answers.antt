@@ -1,5 +1,4 @@
 use Rattle.std.proofs.Common.{◌≡◌, ℕ, ◌++◌, [], refl, ◌∙◌, subst, arith, of_calls}
-use Rattle.std.specs.List.{FoldsTo}
 use Rattle.hash_table.proofs.Fronts.{goes_self, goes_trans}
 use Rattle.far_map.specs.Visits.{AreRead}
 use Rattle.far_map.proofs.Visits.{folds_on, read_more}
@@ -16,7 +15,7 @@ loop-bucket-preserved g c =
       goes_trans inv.1 c.in-Ok.ensures.goes,
       c.in-Ok.ensures.limbo ∙ inv.2,
       inv.3 ++ c.in-Ok.pairs.items,
-      read_more g.J.Naming.limits at.bucket c.args.caller.now.pass at.caller.pass c.copy_bucket.new.caller.pass inv.3 c.in-Ok.pairs.items inv.4 c.in-Ok.ensures.goes c.in-Ok.ensures.pairs,
+      read_more g.V.FarObject.enc g.J.Naming.limits at.bucket c.args.caller.now.pass at.caller.pass c.copy_bucket.new.caller.pass inv.3 c.in-Ok.pairs.items inv.4 c.in-Ok.ensures.goes c.in-Ok.ensures.pairs,
       folds_on (λ f pair h. goal.F-step g f pair.0 pair.1 tt h) _ _ _ _ _ inv.5 c.hand_over.ensures.handed,
     )
 
@@ -39,4 +38,4 @@ returns-clause-visits g c =
     let at = c.loop-bucket in
     let inv = at.invariant in
     let all : at.bucket ≡ g.J.Naming.limits.buckets = omega (arith, c.loop-bucket-test.false, at.auto.bucket-end, c.requires.all) in
-    (inv.3, subst (λ (n : ℕ). AreRead g.J.Naming.limits n c.args.caller.now.pass at.caller.pass inv.3) all inv.4, inv.5)
+    (inv.3, subst (λ (n : ℕ). AreRead g.V.FarObject.enc g.J.Naming.limits n c.args.caller.now.pass at.caller.pass inv.3) all inv.4, inv.5)

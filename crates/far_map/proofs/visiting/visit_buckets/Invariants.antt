@@ -10,4 +10,4 @@ invariant-loop-bucket g l =
     goal.F-IsAlwaysCallable g l.visit
     × Goes l.fn.caller.pass l.caller.pass
     × (l.caller.limbo ≡ l.fn.caller.limbo)
-    × (pairs : Pairs) × AreRead g.J.Naming.limits l.bucket l.fn.caller.pass l.caller.pass pairs × FoldsTo (λ f pair h. goal.F-step g f pair.0 pair.1 tt h) l.fn.visit pairs l.visit
+    × (pairs : Pairs g.row.V.Denot) × AreRead g.V.FarObject.enc g.J.Naming.limits l.bucket l.fn.caller.pass l.caller.pass pairs × FoldsTo (λ f pair h. goal.F-step g f pair.0 pair.1 tt h) l.fn.visit pairs l.visit

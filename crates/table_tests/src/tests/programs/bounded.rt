@@ -19,10 +19,10 @@ struct Fills {
     value: Text,
 }
 
-impl Work for Fills {
+impl Work<Text> for Fills {
     type Out = Result<u64, Refusal>;
 
-    fn work<S: Calls, R: Wait>(
+    fn work<S: Calls<Text>, R: Wait>(
         &self,
         rt: &R,
         alloc: Global,

@@ -15,10 +15,10 @@ const ROUNDS: u32 = 300;
 /// Each counts a shared number up by `put_if`, and puts keys of its own, which it reads where they lie.
 struct Counters;
 
-impl Work for Counters {
+impl Work<Text> for Counters {
     type Out = Result<u32, Refusal>;
 
-    fn work<S: Calls, R: Wait>(
+    fn work<S: Calls<Text>, R: Wait>(
         &self,
         rt: &R,
         alloc: Global,
@@ -39,7 +39,7 @@ impl Work for Counters {
 }
 
 // One more, where nobody was faster.
-fn count<S: Calls, R: Wait>(rt: &R, alloc: Global, me: &mut S) -> Result<bool, Refusal> {
+fn count<S: Calls<Text>, R: Wait>(rt: &R, alloc: Global, me: &mut S) -> Result<bool, Refusal> {
     let key = text(alloc, b"count")?;
     let now = me.get(rt, &key)?;
     let next = now

@@ -1,17 +1,17 @@
 //! A value that is held from one call to another.
 use super::super::expect::{equal, made};
 use far_device::FakeDevice;
-use far_map::{Calls, Refusal, Settings, Work, run, text};
+use far_map::{Calls, Refusal, Settings, Text, Work, run, text};
 use std::alloc::Global;
 use std::sync::Wait;
 
 /// Holds a value, changes the key twice, and reads what it holds.
 struct Holder;
 
-impl Work for Holder {
+impl Work<Text> for Holder {
     type Out = Result<bool, Refusal>;
 
-    fn work<S: Calls, R: Wait>(
+    fn work<S: Calls<Text>, R: Wait>(
         &self,
         rt: &R,
         alloc: Global,

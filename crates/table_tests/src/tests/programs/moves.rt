@@ -1,17 +1,17 @@
 //! Where a bucket lies, and a frame that is emptied on request.
 use super::super::expect::{equal, made};
 use far_device::FakeDevice;
-use far_map::{BucketState, Calls, Refusal, Settings, Work, run, text};
+use far_map::{BucketState, Calls, Refusal, Settings, Text, Work, run, text};
 use std::alloc::Global;
 use std::sync::Wait;
 
 /// Puts a value, has its frame emptied, and gets it again.
 struct Mover;
 
-impl Work for Mover {
+impl Work<Text> for Mover {
     type Out = Result<[BucketState; 4], Refusal>;
 
-    fn work<S: Calls, R: Wait>(
+    fn work<S: Calls<Text>, R: Wait>(
         &self,
         rt: &R,
         alloc: Global,

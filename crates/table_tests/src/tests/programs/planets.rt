@@ -1,16 +1,16 @@
 //! The program that `docs/CALLING.md` shows.
 use far_device::FakeDevice;
-use far_map::{Calls, Refusal, Settings, Stats, Work, run, text};
+use far_map::{Calls, Refusal, Settings, Stats, Text, Work, run, text};
 use std::alloc::Global;
 use std::sync::Wait;
 
 // What the workers share, read only.
 struct Planets;
 
-impl Work for Planets {
+impl Work<Text> for Planets {
     type Out = Result<Stats, Refusal>;
 
-    fn work<S: Calls, R: Wait>(
+    fn work<S: Calls<Text>, R: Wait>(
         &self,
         rt: &R,
         alloc: Global,

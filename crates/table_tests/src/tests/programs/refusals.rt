@@ -2,7 +2,9 @@
 use super::super::devices::BrokenDevice;
 use super::super::expect::{equal, made};
 use far_device::{CannedDevice, Device, FakeDevice, FaultyDevice};
-use far_map::{Calls, Refusal, RunFault, Setting, Settings, Stats, Work, run, run_apart, text};
+use far_map::{
+    Calls, Refusal, RunFault, Setting, Settings, Stats, Text, Work, run, run_apart, text,
+};
 use std::alloc::Global;
 use std::process::Abort;
 use std::sync::Wait;
@@ -22,7 +24,7 @@ struct Told {
     stats: Stats,
 }
 
-fn puts_and_gets<S: Calls, R: Wait>(
+fn puts_and_gets<S: Calls<Text>, R: Wait>(
     rt: &R,
     alloc: Global,
     me: &mut S,
@@ -41,10 +43,16 @@ fn puts_and_gets<S: Calls, R: Wait>(
     Ok(())
 }
 
-impl Work for Puts<'_> {
+impl Work<Text> for Puts<'_> {
     type Out = Told;
 
-    fn work<S: Calls, R: Wait>(&self, rt: &R, alloc: Global, _worker: u32, me: &mut S) -> Told {
+    fn work<S: Calls<Text>, R: Wait>(
+        &self,
+        rt: &R,
+        alloc: Global,
+        _worker: u32,
+        me: &mut S,
+    ) -> Told {
         let ended = puts_and_gets(rt, alloc, me, self);
         Told {
             ended,

@@ -2,7 +2,7 @@
 use super::super::expect::{equal, made};
 use super::numbers::number;
 use far_device::FakeDevice;
-use far_map::{Calls, Refusal, Settings, Stats, Work, run, text};
+use far_map::{Calls, Refusal, Settings, Stats, Text, Work, run, text};
 use std::alloc::Global;
 use std::sync::Wait;
 
@@ -12,10 +12,10 @@ struct Remover;
 /// What each removal did, and what was counted.
 type Told = ((bool, bool, bool), (bool, bool, bool), Stats);
 
-impl Work for Remover {
+impl Work<Text> for Remover {
     type Out = Result<Told, Refusal>;
 
-    fn work<S: Calls, R: Wait>(
+    fn work<S: Calls<Text>, R: Wait>(
         &self,
         rt: &R,
         alloc: Global,
@@ -66,11 +66,11 @@ const ROUNDS: u32 = 500;
 /// Each sets one key where it has no value, and takes that value out.
 struct Racers;
 
-impl Work for Racers {
+impl Work<Text> for Racers {
     /// How often it set the key, and how often it took it out.
     type Out = Result<(u32, u32), Refusal>;
 
-    fn work<S: Calls, R: Wait>(
+    fn work<S: Calls<Text>, R: Wait>(
         &self,
         rt: &R,
         alloc: Global,
@@ -114,11 +114,11 @@ fn what_is_set_is_removed_once(rt: HostRuntime) {
 /// Each sets one key to a value of its own where it has none, and takes its own value out.
 struct Strangers;
 
-impl Work for Strangers {
+impl Work<Text> for Strangers {
     /// Whether each of its values was there until it took it out itself.
     type Out = Result<bool, Refusal>;
 
-    fn work<S: Calls, R: Wait>(
+    fn work<S: Calls<Text>, R: Wait>(
         &self,
         rt: &R,
         alloc: Global,

@@ -3,7 +3,7 @@ use super::super::expect::{equal, made};
 use super::super::handing::Taker;
 use super::numbers::{number, value_of};
 use far_device::{Device, FakeDevice, FaultyDevice};
-use far_map::{Calls, Refusal, RunFault, Setting, Settings, Work, run_through};
+use far_map::{Calls, Refusal, RunFault, Setting, Settings, Text, Work, run_through};
 use std::alloc::Global;
 use std::process::Abort;
 use std::sync::Wait;
@@ -15,10 +15,10 @@ struct Counts {
     each: u32,
 }
 
-impl Work for Counts {
+impl Work<Text> for Counts {
     type Out = Result<(), Refusal>;
 
-    fn work<S: Calls, R: Wait>(
+    fn work<S: Calls<Text>, R: Wait>(
         &self,
         rt: &R,
         alloc: Global,

@@ -20,10 +20,10 @@ fn next(alloc: Global, found: Option<&Text>) -> Option<Text> {
     number(alloc, found.map_or(0, value_of).wrapping_add(1)).ok()
 }
 
-impl Work for Adders {
+impl Work<Text> for Adders {
     type Out = Result<u32, Refusal>;
 
-    fn work<S: Calls, R: Wait>(
+    fn work<S: Calls<Text>, R: Wait>(
         &self,
         rt: &R,
         alloc: Global,
@@ -62,10 +62,10 @@ fn each_update_is_counted_once(rt: HostRuntime) {
 /// Updates that make nothing, of a key without a value and of one with it.
 struct Idle;
 
-impl Work for Idle {
+impl Work<Text> for Idle {
     type Out = Result<bool, Refusal>;
 
-    fn work<S: Calls, R: Wait>(
+    fn work<S: Calls<Text>, R: Wait>(
         &self,
         rt: &R,
         alloc: Global,

@@ -2,6 +2,7 @@ use Rattle.std.proofs.Common.{◌≡◌, ℕ, List, Option, Some, None, ap, sym,
 use Rattle.std.specs.Prelude.{codes}
 use Rattle.table_core.specs.declared.operation.Operation.TheVariants.{Get}
 use Rattle.run_lines.specs.Replies.{refusal_text}
+use Rattle.far_object.specs.Encodings.{enc_text}
 use Rattle.far_map.specs.Answers.{IsDone}
 use Rattle.command_file.specs.declared.command.Command.TheVariants.{Map}
 use Rattle.command_file.specs.declared.command.MapCommand.TheVariants.{Hold}
@@ -36,10 +37,11 @@ returns-in_default-clause-line g c =
     let old = g.S.Calls.shown c.args.me.now in
     let new = g.S.Calls.shown c.hold.new.self in
     let later = shown g.S.Calls.held c.replace.new.self in
+    let bytes : g.S.Calls.held c.in-Ok-Some.value ≡ Some c.bytes_of.result.now = c.bytes_of.ensures.1 ∙ ap Some (sym c.bytes_of.ensures.2) in
     let same : later ≡ g.S.Calls.held c.in-Ok-Some.value = ap (λ x. shown g.S.Calls.held x) c.replace.ensures.after in
     line_so c.push_line-pushed.result c.args.lines.now.items c.push_line-pushed.new.lines.items c.bytes_of.result.now (λ (line : List ℕ). RunsOn l old.limit old.pass new.pass (shown g.S.Calls.held c.args.held.now) later (Map (Hold c.args.key.now)) line)
-    (runs_done l old.limit old.pass new.pass (shown g.S.Calls.held c.args.held.now) later (Hold c.args.key.now) (Some c.bytes_of.result.now) c.bytes_of.result.now refl (same ∙ c.bytes_of.ensures)
-    (subst (λ (x : Option (List ℕ)). IsDone l old.limit old.pass new.pass (Get c.args.key.now) x) c.bytes_of.ensures
+    (runs_done l old.limit old.pass new.pass (shown g.S.Calls.held c.args.held.now) later (Hold c.args.key.now) (Some c.bytes_of.result.now) c.bytes_of.result.now refl (same ∙ bytes)
+    (subst (λ (x : Option (List ℕ)). IsDone enc_text l old.limit old.pass new.pass (Get c.args.key.now) x) bytes
     (some_answered g.S.Calls.held l old.limit old.pass new.pass (Get c.args.key.now) c.in-Ok-Some.field-0 c.in-Ok-Some.value (search rules) c.in-Ok-Some.ensures.answers))) c.push_line-pushed.ensures
 
 pub returns-in-Err-clause-line : goal.returns-in-Err-clause-line

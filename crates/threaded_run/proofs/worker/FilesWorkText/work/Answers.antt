@@ -3,7 +3,7 @@ use Rattle.std.proofs.lemmas.Bool.Decides.{nat_tests}
 use Rattle.command_file.specs.declared.command.Command.{Command}
 use Rattle.threaded_run.specs.Runs.{EndedIs}
 use Rattle.threaded_run.proofs.Working.{idle, past_end}
-use Rattle.threaded_run.proofs.worker.FilesWork.work.Goals as goal
+use Rattle.threaded_run.proofs.worker.FilesWorkText.work.Goals as goal
 
 -- there is no such file
 pub returns-in-None : goal.returns-in-None
