@@ -22,8 +22,8 @@ use std::time::{Duration, Instant};
 use std::{env, thread};
 use system::{Epoll, Event, INPUT};
 
-const USAGE: &str = "usage: front [--port N] [--bind ADDRESS] [--unix PATH] [--timeout SECONDS] [--connections N] \
-    [--output-limit BYTES] --lane REQUESTS REPLIES [--lane REQUESTS REPLIES]...";
+const USAGE: &str = "usage: front [--port N] [--bind ADDRESS] [--guarded] [--unix PATH] [--timeout SECONDS] \
+    [--connections N] [--output-limit BYTES] --lane REQUESTS REPLIES [--lane REQUESTS REPLIES]...";
 const REFUSAL: &[u8] = b"-ERR max number of clients reached\r\n";
 /// How long replies that are owed are waited for at the end.
 const END: Duration = Duration::from_secs(1);
@@ -59,6 +59,8 @@ struct Options {
     /// The port of TCP, 0 for any that is free.
     port: Option<u16>,
     bind: IpAddr,
+    /// The server asks for a password, so that others than this machine may come.
+    guarded: bool,
     unix: Option<PathBuf>,
     /// Seconds that a client may be silent, 0 for any.
     timeout: u32,
@@ -73,13 +75,15 @@ impl Options {
     fn read(mut words: impl Iterator<Item = OsString>) -> Result<Options, String> {
         let bind = IpAddr::from([127, 0, 0, 1]);
         let (port, unix, lanes) = (None, None, Vec::new());
-        let mut it = Options { port, bind, unix, timeout: 0, connections: 10_000, output_limit: 1 << 26, lanes };
+        let mut it =
+            Options { port, bind, guarded: false, unix, timeout: 0, connections: 10_000, output_limit: 1 << 26, lanes };
         while let Some(name) = words.next() {
             let name = name.to_string_lossy().into_owned();
             let mut value = || words.next().ok_or(format!("{name} lacks its value"));
             match name.as_str() {
                 "--port" => it.port = Some(read(&name, value()?)?),
                 "--bind" => it.bind = read(&name, value()?)?,
+                "--guarded" => it.guarded = true,
                 "--unix" => it.unix = Some(value()?.into()),
                 "--timeout" => it.timeout = read(&name, value()?)?,
                 "--connections" => it.connections = read(&name, value()?)?,
@@ -91,6 +95,7 @@ impl Options {
         match (it.lanes.is_empty(), &it.port, &it.unix) {
             (true, ..) => Err("there is no --lane".into()),
             (_, None, None) => Err("there is neither --port nor --unix".into()),
+            _ if !it.bind.is_loopback() && !it.guarded => Err(format!("--bind {} needs --guarded", it.bind)),
             _ => Ok(it),
         }
     }
@@ -231,11 +236,17 @@ impl Front {
                 _ => of(format_args!("lane {place} has ended"), self.lanes[place].see(token, flags, &mut self.shared))?,
             }
         }
+        self.hand_over()?;
+        Ok(ends)
+    }
+
+    /// Hands over to the lanes what came for them.
+    fn hand_over(&mut self) -> Result<(), String> {
         for (place, lane) in self.lanes.iter_mut().enumerate() {
             of(format_args!("lane {place} has ended"), lane.hand_over(&mut self.shared))?;
         }
         self.shared.wakes = false;
-        Ok(ends)
+        Ok(())
     }
 
     fn take_client(&mut self, listener: usize) {
@@ -259,11 +270,10 @@ impl Front {
         // Further signals change nothing.
         let _ = self.shared.epoll.watch(&self.signals, INPUT, 0, SIGNALS);
         let end = Instant::now() + END;
-        while self.lanes.iter().any(|it| !it.is_free()) {
+        let mut stands = self.hand_over().is_ok();
+        while stands && self.lanes.iter().any(|it| !it.is_free()) {
             let left = end.saturating_duration_since(Instant::now());
-            if left.is_zero() || self.turn(left).is_err() {
-                return;
-            }
+            stands = !left.is_zero() && self.turn(left).is_ok();
         }
     }
 }

@@ -37,7 +37,7 @@ def faults_at_the_start(work, _):
     with socket.create_server(("127.0.0.1", 0)) as taken:
         port = str(taken.getsockname()[1])
         tell(1, f"127.0.0.1:{port}: Address already in use", "--port", port, *lane)
-    tell(1, "192.0.2.1:0: Cannot assign", "--port", "0", "--bind", "192.0.2.1", *lane)
+    tell(1, "192.0.2.1:0: Cannot assign", "--port", "0", "--bind", "192.0.2.1", "--guarded", *lane)
     tell(1, "/none/socket: No such file", "--unix", "/none/socket", *lane)
     tell(1, "/none/pipe: No such file", "--port", "0", "--lane", "/none/pipe", pipe)
     tell(1, f"{program}: it is no pipe", "--port", "0", "--lane", pipe, program)
@@ -46,6 +46,8 @@ def faults_at_the_start(work, _):
     tell(2, "--port 65536: no value", "--port", "65536", *lane)
     tell(2, "--timeout -1: no value", "--port", "0", "--timeout", "-1", *lane)
     tell(2, "--bind here: no value", "--port", "0", "--bind", "here", *lane)
+    for address in ("192.0.2.1", "0.0.0.0", "::"):
+        tell(2, f"--bind {address} needs --guarded", "--port", "0", "--bind", address, *lane)
     tell(2, "--connections x: no value", "--port", "0", "--connections", "x", *lane)
     tell(2, "--output-limit : no value", "--port", "0", "--output-limit", "", *lane)
     tell(2, "--lane lacks its value", "--port", "0", "--lane", pipe)
@@ -68,6 +70,16 @@ def a_signal_waits_for_replies(work, _):
             assert is_closed(owed) and is_closed(silent)
             assert front.ended(0) == ""
             assert not front.path.exists()
+
+
+def a_signal_waits_for_nothing_else(work, _):
+    with Front(work, lanes=2) as front:
+        for client in [front.client() for _ in range(4)]:
+            pong(client)
+        began = time.monotonic()
+        front.process.terminate()
+        assert front.ended(0) == ""
+        assert time.monotonic() - began < 0.7, "it waits though nothing is owed"
 
 
 def a_signal_waits_a_second_at_most(work, _):
@@ -146,7 +158,7 @@ def too_few_files_are_told(work, _):
 
 
 TRIALS = [
-    refused_memory_closes_one_client, faults_at_the_start, a_signal_waits_for_replies,
+    refused_memory_closes_one_client, faults_at_the_start, a_signal_waits_for_replies, a_signal_waits_for_nothing_else,
     a_signal_waits_a_second_at_most, a_signal_ends_it_before_the_lanes_come, a_lane_that_fails_ends_it,
     a_unix_socket_is_its_owners, too_few_files_are_told,
 ]

@@ -67,8 +67,18 @@ def replayed(order):
     return held if all(asked(held, words) == reply for words, reply in order) else None
 
 
-def is_found(made, contents):
-    """Whether there is a history of these calls with these contents, None for any."""
+def may_be_next(at, places, times):
+    """Whether no other file's next call had ended before this file's began."""
+    began = times[at][places[at]][0]
+    return all(place == len(calls) or calls[place][1] >= began for place, calls in zip(places, times))
+
+
+def is_found(made, contents, ask=asked, times=None):
+    """Whether there is a history of these calls with these contents, None for any.
+
+    `ask` does a call to the map. `times` has when each call began and ended, where a call that ended before another one of
+    another file began is to stand before it.
+    """
     seen = set()
     stack = [((0,) * len(made), {})]
     while stack:
@@ -78,11 +88,11 @@ def is_found(made, contents):
                 return True
             continue
         for at, (place, file) in enumerate(zip(places, made)):
-            if place == len(file):
+            if place == len(file) or (times and not may_be_next(at, places, times)):
                 continue
             words, reply = file[place]
             after = dict(held)
-            if asked(after, words) == reply:
+            if ask(after, words) == reply:
                 step = (*places[:at], place + 1, *places[at + 1:])
                 key = step, tuple(sorted(after.items()))
                 if key not in seen:

@@ -1,0 +1,9 @@
+mod Trying
+mod Pushed
+mod Held
+mod Removing
+mod Several
+mod Placing
+mod Executing
+mod Passing
+mod Stepping

@@ -1,0 +1,11 @@
+use Rattle.std.proofs.Common.{◌≡◌, ◌++◌, ◌∷◌, List, length, take}
+use Rattle.std.specs.List.{flat_map}
+use Rattle.resp.specs.Replies.{Token, Count, token}
+use Rattle.far_server.specs.Queues.{waiting}
+use Rattle.far_server.specs.Answers.{AreRun}
+use Rattle.far_server.proofs.answering.execute.Given as goal
+
+abbrev pub invariant-loop-request : goal.invariant-loop-request
+invariant-loop-request g l = (l.connection.queue ≡ l.fn.connection.queue)
+    × ((each : List Token) × (l.reply.items ≡ l.fn.reply.items ++ flat_map token (Count (length (waiting l.queue)) ∷ each))
+    × AreRun g.S.Calls.limits l.around.settings.now.longest_value (take l.request-index (waiting l.queue)) each (g.S.Calls.shown l.fn.me) (g.S.Calls.shown l.me))

@@ -1,0 +1,13 @@
+use Rattle.std.proofs.Common.{◌≡◌, ◌++◌, ◌∷◌, ℕ, List, length}
+use Rattle.std.specs.List.{flat_map}
+use Rattle.resp.specs.Replies.{Token, Count, token}
+use Rattle.commands.specs.Arguments.{listed}
+use Rattle.far_server.specs.Many.{AreListed}
+use Rattle.far_server.proofs.many.get_keys.Given as goal
+
+abbrev pub invariant-loop-key : goal.invariant-loop-key
+invariant-loop-key g l = (each : List Token) × (l.reply.items ≡ l.fn.reply.items ++ flat_map token (Count (length (listed l.fn.keys)) ∷ each))
+    × ((done : List (List ℕ)) × (listed l.fn.keys ≡ done ++ listed l.rest) × AreListed g.S.Calls.limits l.asking.now l.asking.most l.asking.command done each (g.S.Calls.shown l.fn.me) (g.S.Calls.shown l.me))
+
+abbrev pub decreases-loop-key : goal.decreases-loop-key
+decreases-loop-key g l = length (listed l.rest)

@@ -1,0 +1,11 @@
+pub mod Sessions
+pub mod Refusing
+pub mod Keyed
+pub mod Many
+pub mod Flushes
+pub mod Queues
+pub mod Logins
+pub mod Runs
+pub mod Answers
+pub mod Services
+pub mod Serving

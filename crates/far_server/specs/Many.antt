@@ -1,0 +1,65 @@
+-- What a command on several keys does with its session, and what it replies.
+use Rattle.std.specs.Prelude.{◌≡◌, ◌⊎◌, ℕ, ◌+◌, ◌-◌, ◌^◌, ◌<◌, min, pos, Bool, true, false, MatchBool, List, [], ◌∷◌, ◌++◌, length, codes}
+use denote.Ref.{Bor}
+use Rattle.table_core.specs.declared.limits.Limits.{Limits}
+use Rattle.resp.specs.Replies.{Token, Simple, Number, Count, token}
+use Rattle.commands.specs.declared.command.Change.{Change}
+use Rattle.key_commands.specs.declared.asked.KeyCommand.{KeyCommand}
+use Rattle.key_commands.specs.declared.asked.KeyCommand.TheVariants as ask
+use Rattle.far_server.specs.Sessions.{Session}
+use Rattle.far_server.specs.Keyed.{IsKeyed}
+
+-- one more, as far as 63 bits tell
+abbrev pub more : ℕ → ℕ
+more n = min (n + 1) (2 ^ 63 - 1)
+
+abbrev pub one : List ℕ
+one = codes ":1\r\n"
+
+abbrev pub none : List ℕ
+none = codes ":0\r\n"
+
+abbrev pub ok : List ℕ
+ok = codes "+OK\r\n"
+
+-- one more where a key was counted
+abbrev pub counted : Bool → ℕ → ℕ
+counted true n = more n
+counted false n = n
+
+module _ (l : Limits) (now most : ℕ) where
+  module _ (command : KeyCommand) where
+    -- The command was carried out on these keys, one after another, and each replied 1 or 0: so many 1 more than before.
+    abbrev pub AreCounted : List (List ℕ) → ℕ → ℕ → Session → Session → Type 0
+    AreCounted [] from to old new = (old ≡ new) × (from ≡ to)
+    AreCounted (k ∷ ks) from to old new = (mid : Session) × (r : Token) × (is_one : Bool) × IsKeyed l k command now most old mid r
+        × MatchBool is_one (token r ≡ one) (token r ≡ none) × AreCounted ks (counted is_one from) to mid new
+
+    -- the reply is how many replied 1, or the first that is neither 1 nor 0
+    abbrev pub IsCountedEach : List (List ℕ) → Session → Session → Token → Type 0
+    IsCountedEach ks old new r = ((count : ℕ) × AreCounted ks 0 count old new × (r ≡ Number (pos count)))
+        ⊎ ((before : List (List ℕ)) × (k : List ℕ) × (behind : List (List ℕ)) × (count : ℕ) × (mid : Session) × (ks ≡ before ++ k ∷ behind) × AreCounted before 0 count old mid × IsKeyed l k command now most mid new r)
+
+    -- the command was carried out on these keys, one after another, and these are the replies
+    abbrev pub AreListed : List (List ℕ) → List Token → Session → Session → Type 0
+    AreListed [] rs old new = (old ≡ new) × (rs ≡ [])
+    AreListed (k ∷ ks) rs old new = (mid : Session) × (r : Token) × (rest : List Token) × IsKeyed l k command now most old mid r × AreListed ks rest mid new × (rs ≡ r ∷ rest)
+
+    -- an array of the replies
+    abbrev pub IsListedEach : List (List ℕ) → Session → Session → List Token → Type 0
+    IsListedEach ks old new rs = (each : List Token) × AreListed ks each old new × (rs ≡ Count (length ks) ∷ each)
+
+  -- a key was set to a value, without options
+  abbrev pub IsSet : List ℕ → List ℕ → Session → Session → Token → Type 0
+  IsSet k v old new r = (value : Bor (List ℕ)) × (change : Change) × (value.now ≡ v) × IsKeyed l k (ask.Set value change) now most old new r
+
+  -- keys and values in turn, of which each key was set
+  abbrev pub AreSet : List (List ℕ) → Session → Session → Type 0
+  AreSet [] old new = old ≡ new
+  AreSet (k ∷ []) old new = ⊥
+  AreSet (k ∷ v ∷ rest) old new = (mid : Session) × (r : Token) × IsSet k v old mid r × (token r ≡ ok) × AreSet rest mid new
+
+  -- the reply is OK, or the first that is not
+  abbrev pub IsSetEach : List (List ℕ) → Session → Session → Token → Type 0
+  IsSetEach pairs old new r = ((before rest : List (List ℕ)) × (pairs ≡ before ++ rest) × (length rest < 2) × AreSet before old new × (r ≡ Simple (codes "OK")))
+      ⊎ ((before : List (List ℕ)) × (k v : List ℕ) × (rest : List (List ℕ)) × (mid : Session) × (pairs ≡ before ++ k ∷ v ∷ rest) × AreSet before old mid × IsSet k v mid new r)

@@ -1,0 +1,20 @@
+-- What is replied for a call that the map refuses.
+use Rattle.std.specs.Prelude.{ℕ, List, codes}
+use Rattle.far_map.specs.declared.refusal.Refusal.{Refusal}
+use Rattle.far_map.specs.declared.refusal.Refusal.TheVariants as refusal
+
+abbrev pub text_of : Refusal → List ℕ
+text_of refusal.TooLong = codes "ERR bucket is full"
+text_of (refusal.Full what) = codes "OOM command not allowed: no frame can be emptied"
+text_of refusal.NamesSpent = codes "ERR far map has no names left"
+text_of refusal.Device = codes "ERR far device failed"
+text_of refusal.Damaged = codes "ERR far device gave back damaged bytes"
+text_of refusal.Memory = codes "OOM command not allowed: out of memory"
+
+-- where memory is full, and nothing can be swapped out
+abbrev pub no_room : List ℕ
+no_room = codes "OOM command not allowed when used memory > 'maxmemory'."
+
+-- where others were faster each time
+abbrev pub overtaken : List ℕ
+overtaken = codes "ERR the key is changed by others all the time"

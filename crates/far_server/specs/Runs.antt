@@ -1,0 +1,48 @@
+-- What a request does with its session, and what it replies.
+use Rattle.std.specs.Prelude.{◌≡◌, ◌⊎◌, ℕ, List, [], ◌∷◌, ◌++◌, MatchOption}
+use denote.Ref.{Bor}
+use Rattle.table_core.specs.declared.limits.Limits.{Limits}
+use Rattle.version_words.specs.Views.{Goes}
+use Rattle.resp.specs.Replies.{Token, Failure}
+use Rattle.commands.specs.Arguments.{listed}
+use Rattle.commands.specs.Commands.{Spells}
+use Rattle.commands.specs.declared.arguments.Arguments.{Arguments}
+use Rattle.commands.specs.declared.command.Command.{Command}
+use Rattle.commands.specs.declared.command.Command.TheVariants as command
+use Rattle.commands.specs.declared.name.OfKeys.{OfKeys}
+use Rattle.commands.specs.declared.name.OfKeys.TheVariants as keys
+use Rattle.commands.specs.declared.server.ServerCommand.TheVariants as server
+use Rattle.key_commands.specs.declared.asked.KeyCommand.TheVariants as ask
+use Rattle.key_commands.specs.Asked.{of_one_key}
+use Rattle.far_server.specs.Sessions.{Session}
+use Rattle.far_server.specs.Keyed.{IsKeyed}
+use Rattle.far_server.specs.Many.{IsCountedEach, IsListedEach, IsSetEach}
+use Rattle.far_server.specs.Flushes.{Flushes}
+
+module _ (l : Limits) (now most : ℕ) where
+  -- a command on these keys
+  abbrev pub IsOfKeys : OfKeys → List (List ℕ) → Session → Session → List Token → Type 0
+  IsOfKeys keys.Del ks old new rs = (r : Token) × (rs ≡ r ∷ []) × IsCountedEach l now most ask.Delete ks old new r
+  IsOfKeys keys.Unlink ks old new rs = (r : Token) × (rs ≡ r ∷ []) × IsCountedEach l now most ask.Delete ks old new r
+  IsOfKeys keys.Exists ks old new rs = (r : Token) × (rs ≡ r ∷ []) × IsCountedEach l now most ask.Exists ks old new r
+  IsOfKeys keys.Touch ks old new rs = (r : Token) × (rs ≡ r ∷ []) × IsCountedEach l now most ask.Exists ks old new r
+  IsOfKeys keys.MGet ks old new rs = IsListedEach l now most ask.Get ks old new rs
+
+  -- A command on several keys, or on none: one that asks for no key makes no call of the map.
+  abbrev pub IsOther : Command → Session → Session → List Token → Type 0
+  IsOther (command.Keys of arguments) old new rs = IsOfKeys of (listed arguments) old new rs
+  IsOther (command.SetMany pairs) old new rs = (r : Token) × (rs ≡ r ∷ []) × IsSetEach l now most (listed pairs) old new r
+  IsOther (command.Server server.Flush) old new rs = Flushes l old new
+  IsOther c old new rs = Goes old.pass new.pass
+
+  -- a command was run, and these are its replies: one, or an array with what is in it
+  abbrev pub IsRunAs : Command → Session → Session → List Token → Type 0
+  IsRunAs c old new rs = MatchOption (of_one_key c) (IsOther c old new rs) (λ p. (r : Token) × (rs ≡ r ∷ []) × IsKeyed l p.0.now p.1 now most old new r)
+
+  -- the session was not touched, and the reply is an error
+  abbrev pub IsFailure : Session → Session → List Token → Type 0
+  IsFailure old new rs = (old ≡ new) × ((text : List ℕ) × (rs ≡ Failure text ∷ []))
+
+-- a request of these arguments was run at a time, as the command that they spell, or is none
+abbrev pub IsRequest : Limits → ℕ → List (List ℕ) → Session → Session → List Token → Type 0
+IsRequest l most arguments old new rs = (now : ℕ) × (((c : Command) × Spells arguments c × IsRunAs l now most c old new rs) ⊎ IsFailure l now most old new rs)

@@ -1,0 +1,33 @@
+-- What a lane's service does: its connections and its session.
+use Rattle.std.specs.Prelude.{◌≡◌, ◌≢◌, ℕ, List, map, slice_index_or, Option, ⊤}
+use Rattle.table_core.specs.declared.limits.Limits.{Limits}
+use Rattle.version_words.specs.Views.{Goes}
+use Rattle.lanes.specs.Calls.{Call, Asked, Left, Awake}
+use Rattle.far_server.specs.Sessions.{Session}
+use Rattle.far_server.specs.Answers.{Known, known, unknown, IsAnswered}
+use Rattle.far_server.specs.declared.connection.Connection.{Connection}
+
+-- a lane: its session, and what is known of the connection of each number
+pub record Lane : Type 0 where
+  pub session : Session
+  pub connections : ℕ → Known
+
+-- a lane of which these connections are known
+abbrev pub lane_of : Option (List ℕ) → Session → List Connection → Lane
+lane_of password session connections = record { session = session; connections = λ c. slice_index_or (map known connections) c (unknown password) }
+
+module _ (l : Limits) (password : Option (List ℕ)) (most : ℕ) where
+  -- nothing is known of the connections
+  abbrev pub IsNew : Lane → Type 0
+  IsNew lane = (c : ℕ) → lane.connections c ≡ unknown password
+
+  -- the other connections are known as before
+  abbrev pub Leaves : ℕ → Lane → Lane → Type 0
+  Leaves c before after = (d : ℕ) → d ≢ c → after.connections d ≡ before.connections d
+
+  -- what a lane does at a call
+  abbrev pub Acts : Lane → Call → Lane → Type 0
+  Acts before (Asked c arguments reply next) after =
+      IsAnswered l password most (before.connections c) (after.connections c) arguments before.session after.session reply × Leaves c before after
+  Acts before (Left c) after = (after.session ≡ before.session) × (after.connections c ≡ unknown password) × Leaves c before after
+  Acts before (Awake woken) after = Goes before.session.pass after.session.pass × ((c : ℕ) → after.connections c ≡ before.connections c)

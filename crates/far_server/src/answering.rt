@@ -1,0 +1,319 @@
+//! A request is answered: who may ask, what waits for EXEC, and what is done at once.
+ghost use Rattle.std.specs.Prelude.{◌≡◌, ◌⊎◌, ◌++◌, ◌∷◌, true, ℕ, List, length, IfOk, OnOk};
+ghost use Rattle.std.specs.List.{flat_map};
+ghost use Rattle.resp.specs.Replies.{Token, Count, token};
+ghost use Rattle.commands.specs.Arguments.{listed};
+ghost use Rattle.commands.specs.Commands.{Spells};
+ghost use Rattle.commands.specs.declared.command.Command.TheVariants as commands;
+ghost use Rattle.far_server.specs.Queues.{waiting};
+ghost use Rattle.far_server.specs.Logins.{HasLogin};
+ghost use Rattle.far_server.specs.Answers.{known, waits_in, is_free, IsHeld, MovesOn, AreRun, IsExecutedOrElse, Did, IsAnswered};
+
+use crate::around::{Around, Desk, milliseconds};
+use crate::connection::Connection;
+use crate::login::{NO_LOGIN, answer_auth, answer_hello};
+use crate::queue::Queue;
+use crate::running::run;
+use crate::settings::ServerSettings;
+use crate::single::{push_one_failure, push_one_fault, push_one_simple};
+use commands::{Arguments, Command, Fault, OfNothing, ServerCommand, read};
+use far_blob::Blob;
+use far_map::Calls;
+use lanes::Next;
+use resp::push_count;
+use std::alloc::{AllocError, Global};
+use std::rt::Clock;
+use std::sync::Wait;
+
+const NESTED: &[u8] = b"ERR MULTI calls can not be nested";
+
+const NO_MULTI_BEFORE_EXEC: &[u8] = b"ERR EXEC without MULTI";
+
+const NO_MULTI_BEFORE_DISCARD: &[u8] = b"ERR DISCARD without MULTI";
+
+const SPOILT: &[u8] = b"EXECABORT Transaction discarded because of previous errors.";
+
+const FULL_QUEUE: &[u8] = b"ERR too many bytes wait for EXEC";
+
+/// Whether EXEC is to run none of the requests behind a MULTI of which one has this fault: it has a wrong name, or a wrong count of
+/// arguments. Of other faults EXEC replies.
+fn spoils(fault: &Fault<'_>) -> bool {
+    matches!(
+        fault,
+        Fault::Unknown(_)
+            | Fault::Refused(_)
+            | Fault::Keys
+            | Fault::Subcommand(_, _)
+            | Fault::Count(_)
+            | Fault::SubcommandCount(_)
+            | Fault::SlowLogCount(_)
+    )
+}
+
+/// Has a request wait for EXEC, unless its fault is one that EXEC has no reply for.
+fn wait(
+    alloc: Global,
+    most: u32,
+    queue: &mut Queue,
+    request: Arguments<'_>,
+    asked: Result<Command<'_>, Fault<'_>>,
+    reply: &mut Vec<u8>,
+) -> Result<(), AllocError>
+    ensures { OnOk result ((rs : List Token) × (reply.new.items ≡ reply.old.items ++ flat_map token rs) × IsHeld (waiting queue.old) (waiting queue.new) (listed request.entry) rs) }
+{
+    if let Err(fault) = asked {
+        if spoils(&fault) {
+            queue.spoil();
+            return push_one_fault(reply, fault);
+        }
+    }
+    if !queue.has_room(request, most) {
+        queue.spoil();
+        return push_one_failure(reply, FULL_QUEUE);
+    }
+    queue.push(alloc, request)?;
+    push_one_simple(reply, b"QUEUED")
+}
+
+/// Runs the requests that wait, one after another: the reply is an array of theirs.
+fn execute<S: Calls<Blob>, C: Clock, R: Wait>(
+    around: &Around<'_, C, R>,
+    me: &mut S,
+    connection: &mut Connection,
+    desk: &mut Desk,
+    queue: &Queue,
+    now: u64,
+    reply: &mut Vec<u8>,
+) -> Result<(), AllocError>
+    ensures ran { OnOk result ((rs : List Token) × (reply.new.items ≡ reply.old.items ++ flat_map token rs) × ((each : List Token) × AreRun S.limits around.now.settings.now.longest_value (waiting queue.now) each (S.shown me.old) (S.shown me.new) × (rs ≡ Count (length (waiting queue.now)) ∷ each))) }
+    ensures queue { connection.new.queue ≡ connection.old.queue }
+{
+    let requests = queue.requests();
+    match push_count(reply, requests.len()) {
+        Ok(()) => {}
+        Err(refused) => return Err(refused),
+    }
+    for request in requests {
+        let request = request.arguments();
+        let asked = read(request, now);
+        match run(around, me, connection, desk, request, asked, now, reply) {
+            Ok(()) => {}
+            Err(refused) => return Err(refused),
+        }
+    }
+    Ok(())
+}
+
+/// EXEC.
+fn answer_exec<S: Calls<Blob>, C: Clock, R: Wait>(
+    around: &Around<'_, C, R>,
+    me: &mut S,
+    connection: &mut Connection,
+    desk: &mut Desk,
+    now: u64,
+    reply: &mut Vec<u8>,
+) -> Result<(), AllocError>
+    ensures { OnOk result ((rs : List Token) × (reply.new.items ≡ reply.old.items ++ flat_map token rs) × IsExecutedOrElse S.limits around.now.settings.now.longest_value (known connection.old) (known connection.new) (S.shown me.old) (S.shown me.new) rs) }
+{
+    match connection.queue.take() {
+        None => push_one_failure(reply, NO_MULTI_BEFORE_EXEC),
+        Some(queue) => {
+            if queue.is_spoilt() {
+                return push_one_failure(reply, SPOILT);
+            }
+            execute(around, me, connection, desk, &queue, now, reply)
+        }
+    }
+}
+
+/// MULTI.
+fn answer_multi(
+    alloc: Global,
+    connection: &mut Connection,
+    reply: &mut Vec<u8>,
+) -> Result<(), AllocError>
+    ensures said { OnOk result ((rs : List Token) × (reply.new.items ≡ reply.old.items ++ flat_map token rs)) }
+    ensures waits { MovesOn (waits_in connection.old.queue) (waits_in connection.new.queue) }
+    ensures passed { connection.new.passed ≡ connection.old.passed }
+{
+    if connection.queue.is_some() {
+        return push_one_failure(reply, NESTED);
+    }
+    connection.queue = Some(Queue::new(alloc));
+    push_one_simple(reply, b"OK")
+}
+
+/// DISCARD.
+fn answer_discard(connection: &mut Connection, reply: &mut Vec<u8>) -> Result<(), AllocError>
+    ensures said { OnOk result ((rs : List Token) × (reply.new.items ≡ reply.old.items ++ flat_map token rs)) }
+    ensures waits { MovesOn (waits_in connection.old.queue) (waits_in connection.new.queue) }
+    ensures passed { connection.new.passed ≡ connection.old.passed }
+{
+    match connection.queue.take() {
+        None => push_one_failure(reply, NO_MULTI_BEFORE_DISCARD),
+        Some(_) => push_one_simple(reply, b"OK"),
+    }
+}
+
+/// RESET: the connection is as a new one, but for its number.
+fn answer_reset(
+    settings: &ServerSettings,
+    connection: &mut Connection,
+    reply: &mut Vec<u8>,
+) -> Result<(), AllocError>
+    ensures said { OnOk result ((rs : List Token) × (reply.new.items ≡ reply.old.items ++ flat_map token rs)) }
+    ensures waits { MovesOn (waits_in connection.old.queue) (waits_in connection.new.queue) }
+    ensures passed { connection.new.passed ≡ is_free settings.now.password }
+{
+    connection.passed = settings.password.is_none();
+    connection.name.clear();
+    connection.queue = None;
+    push_one_simple(reply, b"RESET")
+}
+
+/// Has a request wait for EXEC, or runs it where no MULTI stands before it.
+fn wait_or_run<S: Calls<Blob>, C: Clock, R: Wait>(
+    around: &Around<'_, C, R>,
+    me: &mut S,
+    connection: &mut Connection,
+    desk: &mut Desk,
+    request: Arguments<'_>,
+    asked: Result<Command<'_>, Fault<'_>>,
+    now: u64,
+    reply: &mut Vec<u8>,
+) -> Result<(), AllocError>
+    requires { IfOk asked (λ c. Spells (listed request) c) }
+    ensures { OnOk result ((rs : List Token) × (reply.new.items ≡ reply.old.items ++ flat_map token rs) × Did S.limits around.now.settings.now.longest_value (known connection.old) (known connection.new) (listed request.entry) (S.shown me.old) (S.shown me.new) rs) }
+{
+    match connection.queue.take() {
+        None => run(around, me, connection, desk, request, asked, now, reply),
+        Some(mut queue) => {
+            let most = around.settings.longest_queue;
+            let waited = wait(around.alloc, most, &mut queue, request, asked, reply);
+            connection.queue = Some(queue);
+            waited
+        }
+    }
+}
+
+/// Answers a request of a connection that may ask.
+fn answer_friend<S: Calls<Blob>, C: Clock, R: Wait>(
+    around: &Around<'_, C, R>,
+    me: &mut S,
+    connection: &mut Connection,
+    desk: &mut Desk,
+    request: Arguments<'_>,
+    asked: Result<Command<'_>, Fault<'_>>,
+    now: u64,
+    reply: &mut Vec<u8>,
+) -> Result<(), AllocError>
+    requires { IfOk asked (λ c. Spells (listed request) c) }
+    ensures { OnOk result ((rs : List Token) × (reply.new.items ≡ reply.old.items ++ flat_map token rs) × Did S.limits around.now.settings.now.longest_value (known connection.old) (known connection.new) (listed request.entry) (S.shown me.old) (S.shown me.new) rs) }
+{
+    match asked {
+        Ok(Command::Quit) => push_one_simple(reply, b"OK"),
+        Ok(Command::Nothing(OfNothing::Multi)) => answer_multi(around.alloc, connection, reply),
+        Ok(Command::Nothing(OfNothing::Exec)) => {
+            answer_exec(around, me, connection, desk, now, reply)
+        }
+        Ok(Command::Nothing(OfNothing::Discard)) => answer_discard(connection, reply),
+        Ok(Command::Nothing(OfNothing::Reset)) => answer_reset(around.settings, connection, reply),
+        _ => wait_or_run(around, me, connection, desk, request, asked, now, reply),
+    }
+}
+
+/// A command to the server of a connection that has to log in first.
+fn answer_login(
+    settings: &ServerSettings,
+    connection: &mut Connection,
+    request: Arguments<'_>,
+    command: ServerCommand<'_>,
+    reply: &mut Vec<u8>,
+) -> Result<(), AllocError>
+    requires { Spells (listed request) (commands.Server command) }
+    ensures said { OnOk result ((rs : List Token) × (reply.new.items ≡ reply.old.items ++ flat_map token rs)) }
+    ensures login { connection.new.passed ≡ true → (connection.old.passed ≡ true) ⊎ HasLogin settings.now.password (listed request.entry) }
+    ensures queue { connection.new.queue ≡ connection.old.queue }
+{
+    let _ = request;
+    match command {
+        ServerCommand::Auth(login) => answer_auth(settings, connection, login, reply),
+        ServerCommand::Hello(greeting) => answer_hello(settings, connection, greeting, reply),
+        _ => push_one_failure(reply, NO_LOGIN),
+    }
+}
+
+/// A command of a connection that has to log in first.
+fn answer_stranger(
+    settings: &ServerSettings,
+    connection: &mut Connection,
+    request: Arguments<'_>,
+    command: Command<'_>,
+    reply: &mut Vec<u8>,
+) -> Result<(), AllocError>
+    requires { Spells (listed request) command }
+    ensures said { OnOk result ((rs : List Token) × (reply.new.items ≡ reply.old.items ++ flat_map token rs)) }
+    ensures login { connection.new.passed ≡ true → (connection.old.passed ≡ true) ⊎ HasLogin settings.now.password (listed request.entry) }
+    ensures waits { MovesOn (waits_in connection.old.queue) (waits_in connection.new.queue) }
+{
+    match command {
+        Command::Quit => push_one_simple(reply, b"OK"),
+        Command::Nothing(OfNothing::Reset) => answer_reset(settings, connection, reply),
+        Command::Server(command) => answer_login(settings, connection, request, command, reply),
+        _ => push_one_failure(reply, NO_LOGIN),
+    }
+}
+
+/// Answers a request of a connection that has to log in first.
+fn refuse_or_log_in(
+    settings: &ServerSettings,
+    connection: &mut Connection,
+    request: Arguments<'_>,
+    asked: Result<Command<'_>, Fault<'_>>,
+    reply: &mut Vec<u8>,
+) -> Result<(), AllocError>
+    requires { IfOk asked (λ c. Spells (listed request) c) }
+    ensures said { OnOk result ((rs : List Token) × (reply.new.items ≡ reply.old.items ++ flat_map token rs)) }
+    ensures login { connection.new.passed ≡ true → (connection.old.passed ≡ true) ⊎ HasLogin settings.now.password (listed request.entry) }
+    ensures waits { MovesOn (waits_in connection.old.queue) (waits_in connection.new.queue) }
+{
+    match asked {
+        Ok(command) => answer_stranger(settings, connection, request, command, reply),
+        Err(fault) => push_one_fault(reply, fault),
+    }
+}
+
+/// What the lane does behind a request.
+fn next_behind(asked: &Result<Command<'_>, Fault<'_>>) -> Next {
+    match asked {
+        Ok(Command::Quit) => Next::End,
+        _ => Next::GoOn,
+    }
+}
+
+/// Answers a request, by the time that the clock tells.
+pub(crate) fn answer_request<S: Calls<Blob>, C: Clock, R: Wait>(
+    around: &Around<'_, C, R>,
+    me: &mut S,
+    connection: &mut Connection,
+    desk: &mut Desk,
+    request: Arguments<'_>,
+    reply: &mut Vec<u8>,
+) -> Result<Next, AllocError>
+    ensures { OnOk result ((rs : List Token) × (reply.new.items ≡ reply.old.items ++ flat_map token rs) × IsAnswered S.limits around.now.settings.now.password around.now.settings.now.longest_value (known connection.old) (known connection.new) (listed request.entry) (S.shown me.old) (S.shown me.new) rs) }
+{
+    let now = milliseconds(around.clock);
+    let asked = read(request, now);
+    let next = next_behind(&asked);
+    if connection.passed {
+        match answer_friend(around, me, connection, desk, request, asked, now, reply) {
+            Ok(()) => Ok(next),
+            Err(refused) => Err(refused),
+        }
+    } else {
+        match refuse_or_log_in(around.settings, connection, request, asked, reply) {
+            Ok(()) => Ok(next),
+            Err(refused) => Err(refused),
+        }
+    }
+}

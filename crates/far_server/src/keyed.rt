@@ -1,0 +1,333 @@
+//! A command on one key, by calls of a session.
+//!
+//! # One point
+//!
+//! The key's value is got, the command is carried out on it, and what it makes of the value is put, or taken out, only where the value
+//! is still the one that was found: else all is done again. So a reply is that of the point of its last call, and the calls before it
+//! left the map as it was.
+ghost use Rattle.std.specs.Prelude.{◌≡◌, ◌≢◌, ◌++◌, ℕ, List, take, IfOk, OnOk, OnErr, MatchBool, Some};
+ghost use Rattle.key_commands.specs.declared.asked.Effect.TheVariants as effects;
+ghost use Rattle.resp.specs.Replies.{Token, Failure, token};
+ghost use Rattle.key_commands.specs.Doing.{Does};
+ghost use Rattle.table_core.specs.Lent.{lent_value};
+ghost use Rattle.far_server.specs.Keyed.{IsSettled, IsTried, IsEnded, IsKeyed};
+
+use crate::around::Desk;
+use crate::refusing::{NO_ROOM, OVERTAKEN, text_of};
+use crate::room::{has_room, may_grow};
+use crate::tally::{Tally, count};
+use far_blob::Blob;
+use far_map::{Calls, Refusal, Value, text};
+use far_object::Text;
+use key_commands::{Effect, KeyCommand, apply, is_blind};
+use resp::push_failure;
+use std::alloc::{AllocError, Global};
+use std::sync::Wait;
+
+/// How often a command is tried while others change its key.
+const MOST_TRIES: u32 = 1_000;
+
+/// What is asked of a key, when, and within which bound.
+#[derive(Clone, Copy)]
+pub(crate) struct Asking<'a> {
+    pub(crate) command: KeyCommand<'a>,
+    /// In milliseconds since 1970.
+    pub(crate) now: u64,
+    /// The most bytes of a value.
+    pub(crate) most: u32,
+}
+
+/// Carries the command out on what was found. After want of memory `reply` has what it had.
+fn apply_to(
+    asking: Asking<'_>,
+    found: Option<&Blob>,
+    stored: &mut Vec<u8>,
+    reply: &mut Vec<u8>,
+) -> Result<Effect, Refusal>
+    ensures done { IfOk result (λ effect. (r : Token) × (reply.new.items ≡ reply.old.items ++ token r) × Does asking.entry.command asking.entry.now asking.entry.most (lent_value found.entry) r effect stored.new.items) }
+    ensures kept { OnErr result (reply.new.items ≡ reply.old.items) }
+{
+    let bytes = match found {
+        Some(found) => Some(found.as_bytes()),
+        None => None,
+    };
+    match apply(
+        asking.command,
+        asking.now,
+        asking.most,
+        bytes,
+        stored,
+        reply,
+    ) {
+        Ok(effect) => Ok(effect),
+        Err(_) => Err(Refusal::Memory),
+    }
+}
+
+/// Puts what the desk has over a value that was found, where it is still there: whether it was.
+fn put_over<S: Calls<Blob>, R: Wait>(
+    rt: &R,
+    alloc: Global,
+    me: &mut S,
+    key: &Text,
+    found: Option<&Blob>,
+    desk: &mut Desk,
+) -> Result<bool, Refusal>
+    ensures { IsSettled S.limits key.now (lent_value found.entry) effects.Sets desk.old.stored.items (S.shown me.old) (S.shown me.new) result }
+{
+    let value = match Blob::from_bytes(alloc, desk.stored.as_slice()) {
+        Ok(value) => value,
+        Err(why) => return Err(why),
+    };
+    match me.put_if(rt, key, found, &value) {
+        Ok(before) => {
+            let is_done = are_same(before.as_ref(), found);
+            desk.tally.count_set(is_done, found.is_none());
+            Ok(is_done)
+        }
+        Err(why) => Err(why),
+    }
+}
+
+/// Takes a value out that was found, where it is still there: whether it was.
+fn take_out<S: Calls<Blob>, R: Wait>(
+    rt: &R,
+    me: &mut S,
+    key: &Text,
+    found: &Blob,
+    desk: &mut Desk,
+) -> Result<bool, Refusal>
+    ensures { IsSettled S.limits key.now (Some found.now) effects.Removes desk.old.stored.items (S.shown me.old) (S.shown me.new) result }
+{
+    match me.remove_if(rt, key, found) {
+        Ok(removal) => {
+            desk.tally.count_removal(removal.removed);
+            Ok(removal.removed)
+        }
+        Err(why) => Err(why),
+    }
+}
+
+/// Makes the change of a value that was found, where it is still there: whether it was.
+fn settle<S: Calls<Blob>, R: Wait>(
+    rt: &R,
+    alloc: Global,
+    me: &mut S,
+    key: &Text,
+    found: Option<&Blob>,
+    effect: Effect,
+    desk: &mut Desk,
+) -> Result<bool, Refusal>
+    ensures { IsSettled S.limits key.now (lent_value found.entry) effect desk.old.stored.items (S.shown me.old) (S.shown me.new) result }
+{
+    match (effect, found) {
+        (Effect::Sets, _) => put_over(rt, alloc, me, key, found, desk),
+        (Effect::Removes, Some(found)) => take_out(rt, me, key, found, desk),
+        _ => Ok(true),
+    }
+}
+
+/// Whether both are none, or the same bytes.
+fn are_same(one: Option<&Blob>, other: Option<&Blob>) -> bool
+    ensures { MatchBool result (lent_value one.entry ≡ lent_value other.entry) (lent_value one.entry ≢ lent_value other.entry) }
+{
+    match (one, other) {
+        (None, None) => true,
+        (Some(one), Some(other)) => one.as_bytes() == other.as_bytes(),
+        _ => false,
+    }
+}
+
+/// Counts a command that reads a value as a hit or a miss.
+fn count_found(tally: &mut Tally, command: KeyCommand<'_>, is_found: bool) {
+    let reads = matches!(
+        command,
+        KeyCommand::Get
+            | KeyCommand::GetDel
+            | KeyCommand::GetEx(_)
+            | KeyCommand::GetRange { first: _, last: _ }
+            | KeyCommand::Exists
+            | KeyCommand::StrLen
+    );
+    if reads && is_found {
+        count(&mut tally.hits);
+    } else if reads {
+        count(&mut tally.misses);
+    }
+}
+
+/// One try, whose reply is pushed: whether it is done. Else anything may be pushed.
+fn try_once<S: Calls<Blob>, R: Wait>(
+    rt: &R,
+    alloc: Global,
+    me: &mut S,
+    key: &Text,
+    asking: Asking<'_>,
+    desk: &mut Desk,
+    reply: &mut Vec<u8>,
+) -> Result<bool, Refusal>
+    ensures { (pushed : List ℕ) × (reply.new.items ≡ reply.old.items ++ pushed) × IsTried S.limits key.now asking.entry.command asking.entry.now asking.entry.most (S.shown me.old) (S.shown me.new) pushed result }
+{
+    let found = match me.get(rt, key) {
+        Ok(found) => found,
+        Err(why) => return Err(why),
+    };
+    count_found(&mut desk.tally, asking.command, found.is_some());
+    match apply_to(asking, found.as_ref(), &mut desk.stored, reply) {
+        Ok(effect) => settle(rt, alloc, me, key, found.as_ref(), effect, desk),
+        Err(why) => Err(why),
+    }
+}
+
+/// Sets the key without a look, where the command sets the same whatever is found: whether it did.
+fn set_blindly<S: Calls<Blob>, R: Wait>(
+    rt: &R,
+    alloc: Global,
+    me: &mut S,
+    key: &Text,
+    asking: Asking<'_>,
+    desk: &mut Desk,
+    reply: &mut Vec<u8>,
+) -> Result<bool, Refusal>
+    ensures { (pushed : List ℕ) × (reply.new.items ≡ reply.old.items ++ pushed) × IsTried S.limits key.now asking.entry.command asking.entry.now asking.entry.most (S.shown me.old) (S.shown me.new) pushed result }
+{
+    if !is_blind(asking.command) {
+        return Ok(false);
+    }
+    match apply_to(asking, None, &mut desk.stored, reply) {
+        Ok(Effect::Sets) => {}
+        Ok(_) => return Ok(false),
+        Err(why) => return Err(why),
+    }
+    let value = match Blob::from_bytes(alloc, desk.stored.as_slice()) {
+        Ok(value) => value,
+        Err(why) => return Err(why),
+    };
+    match me.put(rt, key, &value) {
+        Ok(before) => {
+            desk.tally.count_set(true, before.is_none());
+            Ok(true)
+        }
+        Err(why) => Err(why),
+    }
+}
+
+/// Tries until it is done; where others were faster each time it is not. Else anything may be pushed.
+fn try_often<S: Calls<Blob>, R: Wait>(
+    rt: &R,
+    alloc: Global,
+    me: &mut S,
+    key: &Text,
+    asking: Asking<'_>,
+    desk: &mut Desk,
+    reply: &mut Vec<u8>,
+) -> Result<bool, Refusal>
+    ensures { (pushed : List ℕ) × (reply.new.items ≡ reply.old.items ++ pushed) × IsEnded S.limits key.now asking.entry.command asking.entry.now asking.entry.most (S.shown me.old) (S.shown me.new) pushed result }
+{
+    let before = reply.len();
+    match set_blindly(rt, alloc, me, key, asking, desk, reply) {
+        Ok(true) => return Ok(true),
+        Ok(false) => {}
+        Err(why) => return Err(why),
+    }
+    for _ in 0..MOST_TRIES {
+        reply.truncate(before);
+        match try_once(rt, alloc, me, key, asking, desk, reply) {
+            Ok(true) => return Ok(true),
+            Ok(false) => {}
+            Err(why) => return Err(why),
+        }
+    }
+    Ok(false)
+}
+
+/// The command on the key of these bytes.
+fn try_key<S: Calls<Blob>, R: Wait>(
+    rt: &R,
+    alloc: Global,
+    me: &mut S,
+    key: &[u8],
+    asking: Asking<'_>,
+    desk: &mut Desk,
+    reply: &mut Vec<u8>,
+) -> Result<bool, Refusal>
+    ensures { (pushed : List ℕ) × (reply.new.items ≡ reply.old.items ++ pushed) × IsEnded S.limits key.now asking.entry.command asking.entry.now asking.entry.most (S.shown me.old) (S.shown me.new) pushed result }
+{
+    match text(alloc, key) {
+        Ok(key) => try_often(rt, alloc, me, &key, asking, desk, reply),
+        Err(why) => Err(why),
+    }
+}
+
+/// Puts an error in the place of what was pushed.
+fn fail(before: usize, text: &[u8], reply: &mut Vec<u8>) -> Result<(), AllocError>
+    ensures done { OnOk result (reply.new.items ≡ take before reply.old.items ++ token (Failure text.now)) }
+    ensures kept { OnErr result (reply.new.items ≡ take before reply.old.items) }
+{
+    reply.truncate(before);
+    push_failure(reply, text)
+}
+
+/// Carries out a command on a key, and pushes its reply, whatever room there is.
+fn answer_now<S: Calls<Blob>, R: Wait>(
+    rt: &R,
+    alloc: Global,
+    me: &mut S,
+    key: &[u8],
+    asking: Asking<'_>,
+    desk: &mut Desk,
+    reply: &mut Vec<u8>,
+) -> Result<(), AllocError>
+    ensures done { OnOk result ((r : Token) × (reply.new.items ≡ reply.old.items ++ token r) × IsKeyed S.limits key.now asking.entry.command asking.entry.now asking.entry.most (S.shown me.old) (S.shown me.new) r) }
+    ensures kept { OnErr result (reply.new.items ≡ reply.old.items) }
+{
+    let before = reply.len();
+    match try_key(rt, alloc, me, key, asking, desk, reply) {
+        Ok(true) => Ok(()),
+        Ok(false) => fail(before, OVERTAKEN, reply),
+        Err(why) => {
+            desk.tally.count_refusal(why);
+            fail(before, text_of(why), reply)
+        }
+    }
+}
+
+/// Carries out a command on a key where it leaves no more bytes than it found, or there is room for them.
+fn answer_in_room<S: Calls<Blob>, R: Wait>(
+    rt: &R,
+    alloc: Global,
+    me: &mut S,
+    key: &[u8],
+    asking: Asking<'_>,
+    desk: &mut Desk,
+    reply: &mut Vec<u8>,
+) -> Result<(), AllocError>
+    ensures done { OnOk result ((r : Token) × (reply.new.items ≡ reply.old.items ++ token r) × IsKeyed S.limits key.now asking.entry.command asking.entry.now asking.entry.most (S.shown me.old) (S.shown me.new) r) }
+    ensures kept { OnErr result (reply.new.items ≡ reply.old.items) }
+{
+    if has_room(rt, me, desk.most_in_frames) {
+        return answer_now(rt, alloc, me, key, asking, desk, reply);
+    }
+    count(&mut desk.tally.refused_memory);
+    push_failure(reply, NO_ROOM)
+}
+
+/// Carries out a command on a key, and pushes its reply: one token. After want of memory `reply` has what it had.
+pub(crate) fn answer_key<S: Calls<Blob>, R: Wait>(
+    rt: &R,
+    alloc: Global,
+    me: &mut S,
+    key: &[u8],
+    asking: Asking<'_>,
+    desk: &mut Desk,
+    reply: &mut Vec<u8>,
+) -> Result<(), AllocError>
+    ensures done { OnOk result ((r : Token) × (reply.new.items ≡ reply.old.items ++ token r) × IsKeyed S.limits key.now asking.entry.command asking.entry.now asking.entry.most (S.shown me.old) (S.shown me.new) r) }
+    ensures kept { OnErr result (reply.new.items ≡ reply.old.items) }
+{
+    if may_grow(asking.command) {
+        answer_in_room(rt, alloc, me, key, asking, desk, reply)
+    } else {
+        answer_now(rt, alloc, me, key, asking, desk, reply)
+    }
+}

@@ -1,0 +1,95 @@
+//! Who may ask.
+ghost use Rattle.std.specs.Prelude.{◌≡◌, ◌⊎◌, ◌++◌, true, List, ℕ, IsTrue, OnOk};
+ghost use Rattle.std.specs.List.{flat_map};
+ghost use Rattle.resp.specs.Replies.{Token, token};
+ghost use Rattle.far_server.specs.Logins.{IsLogin, IsRight};
+
+use crate::connection::Connection;
+use crate::settings::ServerSettings;
+use crate::single::{push_one_failure, push_one_simple};
+use commands::{Greeting, Login};
+use sha2::{Digest, Sha256};
+use std::alloc::AllocError;
+
+/// What a command is answered that asks for a login first.
+pub(crate) const NO_LOGIN: &[u8] = b"NOAUTH Authentication required.";
+
+const NO_LOGIN_OF_HELLO: &[u8] =
+    b"NOAUTH HELLO must be called with the client already authenticated, otherwise the HELLO <proto> AUTH <user> <pass> option can be used to authenticate the client and select the RESP protocol version at the same time";
+
+const WRONG_LOGIN: &[u8] = b"WRONGPASS invalid username-password pair or user is disabled.";
+
+const NO_PASSWORD: &[u8] =
+    b"ERR AUTH <password> called without any password configured for the default user. Are you sure your configuration is correct?";
+
+/// Whether two digests are the same. It looks at every byte, so that the time that it takes tells nothing of them.
+fn are_same(one: &[u8; 32], other: &[u8; 32]) -> bool
+    ensures { IsTrue result → one.now ≡ other.now }
+{
+    let mut is_same = true;
+    for at in 0..32 {
+        is_same &= one[at] == other[at];
+    }
+    is_same
+}
+
+/// Whether a login is right. The one user is `default`, who needs no password where none is set.
+fn is_right(password: &Option<[u8; 32]>, login: Login<'_>) -> bool
+    ensures { IsTrue result → IsLogin password.now login.entry.password.now }
+{
+    let is_user = match login.user {
+        Some(user) => user == b"default".as_slice(),
+        None => true,
+    };
+    match password {
+        Some(digest) => are_same(digest, &Sha256::digest(login.password)) && is_user,
+        None => is_user,
+    }
+}
+
+/// AUTH.
+pub(crate) fn answer_auth(
+    settings: &ServerSettings,
+    connection: &mut Connection,
+    login: Login<'_>,
+    reply: &mut Vec<u8>,
+) -> Result<(), AllocError>
+    ensures said { OnOk result ((rs : List Token) × (reply.new.items ≡ reply.old.items ++ flat_map token rs)) }
+    ensures login { connection.new.passed ≡ true → (connection.old.passed ≡ true) ⊎ IsLogin settings.now.password login.entry.password.now }
+    ensures queue { connection.new.queue ≡ connection.old.queue }
+{
+    if settings.password.is_none() && login.user.is_none() {
+        return push_one_failure(reply, NO_PASSWORD);
+    }
+    if !is_right(&settings.password, login) {
+        return push_one_failure(reply, WRONG_LOGIN);
+    }
+    connection.passed = true;
+    push_one_simple(reply, b"OK")
+}
+
+/// HELLO, which may log in and name the connection.
+pub(crate) fn answer_hello(
+    settings: &ServerSettings,
+    connection: &mut Connection,
+    greeting: Greeting<'_>,
+    reply: &mut Vec<u8>,
+) -> Result<(), AllocError>
+    ensures said { OnOk result ((rs : List Token) × (reply.new.items ≡ reply.old.items ++ flat_map token rs)) }
+    ensures login { connection.new.passed ≡ true → (connection.old.passed ≡ true) ⊎ IsRight settings.now.password greeting.entry.login }
+    ensures queue { connection.new.queue ≡ connection.old.queue }
+{
+    if let Some(login) = greeting.login {
+        if !is_right(&settings.password, login) {
+            return push_one_failure(reply, WRONG_LOGIN);
+        }
+        connection.passed = true;
+    }
+    if !connection.passed {
+        return push_one_failure(reply, NO_LOGIN_OF_HELLO);
+    }
+    if let Some(name) = greeting.name {
+        connection.set_name(name)?;
+    }
+    server_commands::hello(connection.id, reply)
+}

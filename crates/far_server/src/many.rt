@@ -1,0 +1,170 @@
+//! Commands on several keys: one after another, each by calls of its own.
+ghost use Rattle.std.specs.Prelude.{◌≡◌, ◌<◌, ◌^◌, ◌++◌, ◌∷◌, ℕ, List, length, MatchBool, MatchOption, IfSome, IsTrue, OnOk};
+ghost use Rattle.std.specs.List.{flat_map};
+ghost use Rattle.resp.specs.Replies.{Token, token};
+ghost use Rattle.commands.specs.Arguments.{listed};
+ghost use Rattle.far_server.specs.Many.{one, none, ok, counted, IsCountedEach, IsListedEach, IsSetEach};
+
+use crate::around::Desk;
+use crate::keyed::{Asking, answer_key};
+use commands::{Arguments, Change, Lifetime, Where};
+use far_blob::Blob;
+use far_map::Calls;
+use key_commands::KeyCommand;
+use resp::{push_count, push_number, push_simple};
+use std::alloc::{AllocError, Global};
+use std::sync::Wait;
+
+/// What a command replies to a key that it counts.
+const ONE: &[u8] = b":1\r\n";
+
+/// What it replies to another one.
+const NONE: &[u8] = b":0\r\n";
+
+/// What SET replies where it sets.
+const OK: &[u8] = b"+OK\r\n";
+
+/// As many keys as can be counted.
+const MOST_COUNTED: u64 = (1 << 63) - 1;
+
+/// A SET without options.
+const PLAIN: Change = Change {
+    to: Where::Always,
+    get: false,
+    lifetime: Lifetime::Forever,
+};
+
+/// Whether a reply is 1, where it is 1 or 0.
+fn is_one(said: &[u8]) -> Option<bool>
+    ensures { IfSome result (λ b. MatchBool b (said.now ≡ one) (said.now ≡ none)) }
+{
+    if said == ONE {
+        Some(true)
+    } else if said == NONE {
+        Some(false)
+    } else {
+        None
+    }
+}
+
+/// One more where a key was counted, as far as 63 bits tell.
+fn counted(is_one: bool, count: u64) -> u64
+    requires { count < 2 ^ 63 }
+    ensures value { result ≡ counted is_one count }
+    ensures fits { result < 2 ^ 63 }
+{
+    if is_one && count < MOST_COUNTED {
+        count + 1
+    } else {
+        count
+    }
+}
+
+/// Carries a command out on each key, and replies how many replied 1. Where one replies an error, that is the reply, and the keys
+/// behind it are left.
+pub(crate) fn count_keys<S: Calls<Blob>, R: Wait>(
+    rt: &R,
+    alloc: Global,
+    me: &mut S,
+    keys: Arguments<'_>,
+    asking: Asking<'_>,
+    desk: &mut Desk,
+    reply: &mut Vec<u8>,
+) -> Result<(), AllocError>
+    ensures { OnOk result ((r : Token) × (reply.new.items ≡ reply.old.items ++ token r) × IsCountedEach S.limits asking.entry.now asking.entry.most asking.entry.command (listed keys.entry) (S.shown me.old) (S.shown me.new) r) }
+{
+    let before = reply.len();
+    let mut count: u64 = 0;
+    let mut rest = keys;
+    while let Some((key, behind)) = rest.split_first() {
+        match answer_key(rt, alloc, me, key, asking, desk, reply) {
+            Ok(()) => {}
+            Err(refused) => return Err(refused),
+        }
+        match is_one(&reply[before..]) {
+            Some(is_one) => count = counted(is_one, count),
+            None => return Ok(()),
+        }
+        reply.truncate(before);
+        rest = behind;
+    }
+    push_number(reply, count as i64)
+}
+
+/// GET of each key: their replies in an array, of which some may be errors.
+pub(crate) fn get_keys<S: Calls<Blob>, R: Wait>(
+    rt: &R,
+    alloc: Global,
+    me: &mut S,
+    keys: Arguments<'_>,
+    asking: Asking<'_>,
+    desk: &mut Desk,
+    reply: &mut Vec<u8>,
+) -> Result<(), AllocError>
+    ensures { OnOk result ((rs : List Token) × (reply.new.items ≡ reply.old.items ++ flat_map token rs) × IsListedEach S.limits asking.entry.now asking.entry.most asking.entry.command (listed keys.entry) (S.shown me.old) (S.shown me.new) rs) }
+{
+    match push_count(reply, keys.len()) {
+        Ok(()) => {}
+        Err(refused) => return Err(refused),
+    }
+    let mut rest = keys;
+    while let Some((key, behind)) = rest.split_first() {
+        match answer_key(rt, alloc, me, key, asking, desk, reply) {
+            Ok(()) => {}
+            Err(refused) => return Err(refused),
+        }
+        rest = behind;
+    }
+    Ok(())
+}
+
+/// Whether a reply is OK.
+fn is_ok(said: &[u8]) -> bool
+    ensures { IsTrue result → said.now ≡ ok }
+{
+    said == OK
+}
+
+/// The first key, its value, and what stands behind them.
+fn first_pair(pairs: Arguments<'_>) -> Option<(&[u8], &[u8], Arguments<'_>)>
+    ensures { MatchOption result (length (listed pairs.entry) < 2) (λ p. listed pairs.entry ≡ p.0.now ∷ p.1.now ∷ listed p.2) }
+{
+    let (key, behind) = pairs.split_first()?;
+    let (value, behind) = behind.split_first()?;
+    Some((key, value, behind))
+}
+
+/// SET of each pair. Where one replies an error, that is the reply, and the pairs behind it are left.
+pub(crate) fn set_pairs<S: Calls<Blob>, R: Wait>(
+    rt: &R,
+    alloc: Global,
+    me: &mut S,
+    pairs: Arguments<'_>,
+    now: u64,
+    most: u32,
+    desk: &mut Desk,
+    reply: &mut Vec<u8>,
+) -> Result<(), AllocError>
+    ensures { OnOk result ((r : Token) × (reply.new.items ≡ reply.old.items ++ token r) × IsSetEach S.limits now most (listed pairs.entry) (S.shown me.old) (S.shown me.new) r) }
+{
+    let before = reply.len();
+    let mut rest = pairs;
+    while let Some((key, value, behind)) = first_pair(rest) {
+        let command = KeyCommand::Set {
+            value,
+            change: PLAIN,
+        };
+        let asking = Asking { command, now, most };
+        match answer_key(rt, alloc, me, key, asking, desk, reply) {
+            Ok(()) => {}
+            Err(refused) => return Err(refused),
+        }
+        if is_ok(&reply[before..]) {
+            reply.truncate(before);
+        } else {
+            return Ok(());
+        }
+        rest = behind;
+    }
+    push_simple(reply, b"OK")
+}

@@ -1,0 +1,122 @@
+//! The requests that wait for EXEC.
+ghost use Rattle.std.specs.Prelude.{◌≡◌, ◌++◌, ◌∷◌, [], map, length, IfOk, OnOk, OnErr};
+ghost use Rattle.resp.specs.Parsing.{AreWithin};
+ghost use Rattle.commands.specs.Arguments.{listed};
+ghost use Rattle.far_server.specs.Queues.{held, waiting};
+
+use commands::{Arguments, Span};
+use std::alloc::{AllocError, Global};
+
+/// How many bytes an argument that waits takes beside its own.
+const COST: usize = 16;
+
+/// A request of its own, whose arguments are copied.
+#[derive(Drop)]
+pub(crate) struct Request {
+    bytes: Vec<u8>,
+    spans: Vec<Span>,
+}
+
+impl Request {
+    /// Adds an argument behind the others.
+    fn push(&mut self, argument: &[u8]) -> Result<(), AllocError>
+        requires { AreWithin (length self.old.bytes.items) self.old.spans.items }
+        ensures pushed { OnOk result (held self.new ≡ held self.old ++ argument.now ∷ []) }
+        ensures within { OnOk result (AreWithin (length self.new.bytes.items) self.new.spans.items) }
+    {
+        let from = self.bytes.len();
+        let len = argument.len();
+        self.bytes.extend_from_slice(argument)?;
+        self.spans.push(Span { from, len })?;
+        Ok(())
+    }
+
+    /// A copy of a request.
+    fn copy(alloc: Global, request: Arguments<'_>) -> Result<Request, AllocError>
+        ensures { IfOk result (λ r. held r ≡ listed request.entry) }
+    {
+        let mut copy = Request {
+            bytes: Vec::new(alloc),
+            spans: Vec::new(alloc),
+        };
+        let mut rest = request;
+        while let Some((argument, behind)) = rest.split_first() {
+            copy.push(argument)?;
+            rest = behind;
+        }
+        Ok(copy)
+    }
+
+    /// How many bytes it takes.
+    fn len(&self) -> usize {
+        let spans = self.spans.len().saturating_mul(COST);
+        self.bytes.len().saturating_add(spans)
+    }
+
+    pub(crate) fn arguments(&self) -> Arguments<'_>
+        ensures { listed result ≡ held self.now }
+    {
+        Arguments {
+            bytes: self.bytes.as_slice(),
+            spans: self.spans.as_slice(),
+        }
+    }
+}
+
+/// The requests that wait for EXEC, behind a MULTI.
+#[derive(Drop)]
+pub(crate) struct Queue {
+    requests: Vec<Request>,
+    bytes: usize,
+    /// One was refused, so that EXEC runs none.
+    is_spoilt: bool,
+}
+
+impl Queue {
+    pub(crate) fn new(alloc: Global) -> Queue
+        ensures { waiting result ≡ [] }
+    {
+        Queue {
+            requests: Vec::new(alloc),
+            bytes: 0,
+            is_spoilt: false,
+        }
+    }
+
+    pub(crate) fn is_spoilt(&self) -> bool {
+        self.is_spoilt
+    }
+
+    pub(crate) fn spoil(&mut self)
+        ensures { waiting self.new ≡ waiting self.old }
+    {
+        self.is_spoilt = true;
+    }
+
+    /// Whether a request may wait too, where those that wait may have so many bytes.
+    pub(crate) fn has_room(&self, request: Arguments<'_>, most: u32) -> bool {
+        let mut bytes = self.bytes;
+        for span in request.spans {
+            bytes = bytes.saturating_add(span.len.saturating_add(COST));
+        }
+        bytes <= most as usize
+    }
+
+    /// Has a request wait behind the others.
+    pub(crate) fn push(&mut self, alloc: Global, request: Arguments<'_>) -> Result<(), AllocError>
+        ensures pushed { OnOk result (waiting self.new ≡ waiting self.old ++ listed request.entry ∷ []) }
+        ensures kept { OnErr result (waiting self.new ≡ waiting self.old) }
+    {
+        let copy = Request::copy(alloc, request)?;
+        let len = copy.len();
+        self.requests.push(copy)?;
+        self.bytes = self.bytes.saturating_add(len);
+        Ok(())
+    }
+
+    pub(crate) fn requests(&self) -> &[Request]
+        ensures { map (λ r. held r) result.now ≡ waiting self.now }
+    {
+        self.requests.as_slice()
+    }
+}

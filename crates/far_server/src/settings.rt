@@ -1,0 +1,26 @@
+//! What a server is opened with.
+
+use far_map::Settings;
+use resp::Limits;
+use server_commands::Options;
+
+/// What a server is opened with.
+#[derive(Clone, Copy)]
+pub struct ServerSettings {
+    /// The map.
+    pub map: Settings,
+    /// Threads that answer, each with a pipe of requests and one of replies.
+    pub lanes: u32,
+    /// What a request may have.
+    pub requests: Limits,
+    /// The most bytes of a value.
+    pub longest_value: u32,
+    /// The most bytes of the requests that wait for EXEC on one connection.
+    pub longest_queue: u32,
+    /// The most bytes of objects on devices, which INFO tells; 0 for any number.
+    pub far_limit: u64,
+    /// The SHA-256 digest of the password, and none where none is asked for.
+    pub password: Option<[u8; 32]>,
+    /// What CONFIG GET answers.
+    pub options: Options,
+}

@@ -1,0 +1,49 @@
+//! Replies of one token.
+ghost use Rattle.std.specs.Prelude.{◌≡◌, ◌++◌, ◌∷◌, [], ℕ, List, OnOk};
+ghost use Rattle.std.specs.List.{flat_map};
+ghost use Rattle.resp.specs.Replies.{Token, Failure, Simple, String, Number, Nothing, token};
+
+use commands::Fault;
+use resp::{push_failure, push_nothing, push_number, push_simple, push_string};
+use std::alloc::AllocError;
+
+pub(crate) fn push_one_failure(reply: &mut Vec<u8>, text: &[u8]) -> Result<(), AllocError>
+    ensures exact { OnOk result (reply.new.items ≡ reply.old.items ++ flat_map token (Failure text.now ∷ [])) }
+    ensures said { OnOk result ((rs : List Token) × (reply.new.items ≡ reply.old.items ++ flat_map token rs)) }
+{
+    push_failure(reply, text)
+}
+
+pub(crate) fn push_one_simple(reply: &mut Vec<u8>, text: &[u8]) -> Result<(), AllocError>
+    ensures exact { OnOk result (reply.new.items ≡ reply.old.items ++ flat_map token (Simple text.now ∷ [])) }
+    ensures said { OnOk result ((rs : List Token) × (reply.new.items ≡ reply.old.items ++ flat_map token rs)) }
+{
+    push_simple(reply, text)
+}
+
+pub(crate) fn push_one_string(reply: &mut Vec<u8>, bytes: &[u8]) -> Result<(), AllocError>
+    ensures exact { OnOk result (reply.new.items ≡ reply.old.items ++ flat_map token (String bytes.now ∷ [])) }
+    ensures said { OnOk result ((rs : List Token) × (reply.new.items ≡ reply.old.items ++ flat_map token rs)) }
+{
+    push_string(reply, bytes)
+}
+
+pub(crate) fn push_one_number(reply: &mut Vec<u8>, n: i64) -> Result<(), AllocError>
+    ensures exact { OnOk result (reply.new.items ≡ reply.old.items ++ flat_map token (Number n ∷ [])) }
+    ensures said { OnOk result ((rs : List Token) × (reply.new.items ≡ reply.old.items ++ flat_map token rs)) }
+{
+    push_number(reply, n)
+}
+
+pub(crate) fn push_one_nothing(reply: &mut Vec<u8>) -> Result<(), AllocError>
+    ensures exact { OnOk result (reply.new.items ≡ reply.old.items ++ flat_map token (Nothing ∷ [])) }
+    ensures said { OnOk result ((rs : List Token) × (reply.new.items ≡ reply.old.items ++ flat_map token rs)) }
+{
+    push_nothing(reply)
+}
+
+pub(crate) fn push_one_fault(reply: &mut Vec<u8>, fault: Fault<'_>) -> Result<(), AllocError>
+    ensures { OnOk result ((text : List ℕ) × (reply.new.items ≡ reply.old.items ++ flat_map token (Failure text ∷ []))) }
+{
+    server_commands::fault(fault, reply)
+}

@@ -1,0 +1,178 @@
+//! What lanes count, for INFO. No contract claims anything of it.
+
+use far_map::{Refusal, Traffic};
+use std::alloc::{AllocError, Global};
+use std::sync::atomic::{AtomicU64, Ordering};
+
+/// What a lane has counted since the start.
+#[derive(Clone, Copy, Debug, Default, PartialEq, Eq)]
+pub(crate) struct Tally {
+    /// Connections that came, and that are over.
+    pub(crate) came: u64,
+    pub(crate) left: u64,
+    pub(crate) commands: u64,
+    /// Keys that got a value and had none, and those that lost theirs.
+    pub(crate) gained: u64,
+    pub(crate) lost: u64,
+    /// Commands that found a value to read, and those that found none.
+    pub(crate) hits: u64,
+    pub(crate) misses: u64,
+    pub(crate) expired: u64,
+    /// Calls of the map, and moves, that drew a name.
+    pub(crate) names: u64,
+    pub(crate) local_reads: u64,
+    pub(crate) far_reads: u64,
+    pub(crate) swap_ins: u64,
+    pub(crate) swap_outs: u64,
+    pub(crate) device_failures: u64,
+    pub(crate) refused_memory: u64,
+    pub(crate) refused_full: u64,
+    pub(crate) refused_device: u64,
+}
+
+/// How many numbers a tally has.
+const NUMBERS: usize = 17;
+
+/// One more.
+pub(crate) fn count(number: &mut u64) {
+    *number = number.wrapping_add(1);
+}
+
+impl Tally {
+    /// Takes over what a session has counted of reads and moves.
+    pub(crate) fn see(&mut self, traffic: &Traffic) {
+        self.local_reads = traffic.local_reads;
+        self.far_reads = traffic.far_reads;
+        self.swap_ins = traffic.swap_ins;
+        self.swap_outs = traffic.swap_outs;
+        self.device_failures = traffic.device_failures;
+    }
+
+    /// Counts a key that was set, where it had none.
+    pub(crate) fn count_set(&mut self, is_done: bool, was_none: bool) {
+        if is_done {
+            count(&mut self.names);
+        }
+        if is_done && was_none {
+            count(&mut self.gained);
+        }
+    }
+
+    /// Counts a key that was taken out.
+    pub(crate) fn count_removal(&mut self, is_done: bool) {
+        if is_done {
+            count(&mut self.names);
+            count(&mut self.lost);
+        }
+    }
+
+    /// Counts a command that the map refused.
+    pub(crate) fn count_refusal(&mut self, why: Refusal) {
+        match why {
+            Refusal::Memory => count(&mut self.refused_memory),
+            Refusal::Full(_) => count(&mut self.refused_full),
+            Refusal::TooLong => count(&mut self.refused_full),
+            Refusal::Device => count(&mut self.refused_device),
+            Refusal::Damaged => count(&mut self.refused_device),
+            Refusal::NamesSpent => {}
+        }
+    }
+
+    fn numbers(&self) -> [u64; NUMBERS] {
+        [
+            self.came,
+            self.left,
+            self.commands,
+            self.gained,
+            self.lost,
+            self.hits,
+            self.misses,
+            self.expired,
+            self.names,
+            self.local_reads,
+            self.far_reads,
+            self.swap_ins,
+            self.swap_outs,
+            self.device_failures,
+            self.refused_memory,
+            self.refused_full,
+            self.refused_device,
+        ]
+    }
+
+    fn of(numbers: &[u64; NUMBERS]) -> Tally {
+        Tally {
+            came: numbers[0],
+            left: numbers[1],
+            commands: numbers[2],
+            gained: numbers[3],
+            lost: numbers[4],
+            hits: numbers[5],
+            misses: numbers[6],
+            expired: numbers[7],
+            names: numbers[8],
+            local_reads: numbers[9],
+            far_reads: numbers[10],
+            swap_ins: numbers[11],
+            swap_outs: numbers[12],
+            device_failures: numbers[13],
+            refused_memory: numbers[14],
+            refused_full: numbers[15],
+            refused_device: numbers[16],
+        }
+    }
+}
+
+/// What each lane last told. A lane writes its own numbers alone, so that none waits for another.
+#[derive(Drop)]
+pub(crate) struct Tallies {
+    told: Vec<AtomicU64>,
+    /// How many connections have got a number.
+    ids: AtomicU64,
+}
+
+/// How far the numbers of a lane are from those of the next one: whole lines of the cache.
+const STRIDE: usize = 32;
+
+impl Tallies {
+    pub(crate) fn new(alloc: Global, lanes: u32) -> Result<Tallies, AllocError> {
+        let mut told = Vec::new(alloc);
+        for _ in 0..lanes {
+            for _ in 0..STRIDE {
+                told.push(AtomicU64::new(0))?;
+            }
+        }
+        let ids = AtomicU64::new(0);
+        Ok(Tallies { told, ids })
+    }
+
+    /// A number that no connection has got, from 1 on.
+    pub(crate) fn next_id(&self) -> u64 {
+        self.ids.fetch_add(1, Ordering::SeqCst).wrapping_add(1)
+    }
+
+    /// Tells what a lane has counted, of which it last told so much.
+    pub(crate) fn tell(&self, lane: u32, last: &Tally, now: &Tally) {
+        let (last, now) = (last.numbers(), now.numbers());
+        for at in 0..NUMBERS {
+            if last[at] != now[at] {
+                let place = (lane as usize).wrapping_mul(STRIDE).wrapping_add(at);
+                if let Some(told) = self.told.get(place) {
+                    told.store(now[at], Ordering::SeqCst);
+                }
+            }
+        }
+    }
+
+    /// The sum over all lanes.
+    pub(crate) fn sum(&self) -> Tally {
+        let mut numbers = [0u64; NUMBERS];
+        for (place, told) in self.told.iter().enumerate() {
+            let at = place % STRIDE;
+            if at < NUMBERS {
+                numbers[at] = numbers[at].wrapping_add(told.load(Ordering::SeqCst));
+            }
+        }
+        Tally::of(&numbers)
+    }
+}

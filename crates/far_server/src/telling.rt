@@ -1,0 +1,111 @@
+//! Commands to the server itself, and on a connection.
+ghost use Rattle.std.specs.Prelude.{◌≡◌, ◌⊎◌, ◌++◌, true, ℕ, List, OnOk};
+ghost use Rattle.std.specs.List.{flat_map};
+ghost use Rattle.resp.specs.Replies.{Token, token};
+ghost use Rattle.far_server.specs.Logins.{AsksToPass};
+
+use crate::around::{Around, Desk};
+use crate::connection::Connection;
+use crate::login::{answer_auth, answer_hello};
+use crate::single::{push_one_nothing, push_one_number, push_one_simple, push_one_string};
+use commands::ServerCommand;
+use far_blob::Blob;
+use far_map::Calls;
+use server_commands::{
+    Facts, command_count, command_docs, command_list, config_get, info, slow_log_get, slow_log_len,
+};
+use std::alloc::AllocError;
+
+/// How many keys have a value, as the lanes last told.
+pub(crate) fn keys<C, R>(around: &Around<'_, C, R>) -> i64 {
+    let sum = around.tallies.sum();
+    sum.gained.saturating_sub(sum.lost).min(i64::MAX as u64) as i64
+}
+
+/// What INFO tells.
+fn facts<S: Calls<Blob>, C, R>(around: &Around<'_, C, R>, me: &S, now: u64) -> Facts {
+    let sum = around.tallies.sum();
+    let settings = around.settings;
+    Facts {
+        now,
+        started: around.started,
+        lanes: settings.lanes,
+        port: settings.options.port,
+        clients: sum.came.saturating_sub(sum.left),
+        accepted: sum.came,
+        commands: sum.commands,
+        most_clients: settings.options.most_clients,
+        most_memory: settings.options.most_memory,
+        evicts: settings.options.evicts,
+        bytes_in_frames: me.bytes_in_frames(),
+        buckets: settings.map.buckets,
+        frames: settings.map.frames,
+        most_in_frames: settings.map.bytes,
+        keys: sum.gained.saturating_sub(sum.lost),
+        hits: sum.hits,
+        misses: sum.misses,
+        expired: sum.expired,
+        evicted: 0,
+        local_hits: sum.local_reads,
+        swap_outs: sum.swap_outs,
+        swap_ins: sum.swap_ins,
+        read_throughs: sum.far_reads.saturating_sub(sum.swap_ins),
+        device_failures: sum.device_failures,
+        refused_memory: sum.refused_memory,
+        refused_full: sum.refused_full,
+        refused_device: sum.refused_device,
+        far_limit: settings.far_limit,
+        names_left: settings.map.names.saturating_sub(sum.names),
+    }
+}
+
+/// A command that asks for no value.
+pub(crate) fn answer_server<S: Calls<Blob>, C, R>(
+    around: &Around<'_, C, R>,
+    me: &S,
+    connection: &mut Connection,
+    command: ServerCommand<'_>,
+    now: u64,
+    reply: &mut Vec<u8>,
+) -> Result<(), AllocError>
+    ensures said { OnOk result ((rs : List Token) × (reply.new.items ≡ reply.old.items ++ flat_map token rs)) }
+    ensures login { connection.new.passed ≡ true → (connection.old.passed ≡ true) ⊎ AsksToPass around.now.settings.now.password command.entry }
+    ensures queue { connection.new.queue ≡ connection.old.queue }
+{
+    match command {
+        ServerCommand::Auth(login) => answer_auth(around.settings, connection, login, reply),
+        ServerCommand::Hello(greeting) => answer_hello(
+            around.settings,
+            connection,
+            greeting,
+            reply,
+        ),
+        ServerCommand::ClientId => push_one_number(
+            reply,
+            connection.id.min(i64::MAX as u64) as i64,
+        ),
+        ServerCommand::ClientGetName => push_name(reply, connection),
+        ServerCommand::ClientSetName(name) => {
+            connection.set_name(name)?;
+            push_one_simple(reply, b"OK")
+        }
+        ServerCommand::CommandList => command_list(reply),
+        ServerCommand::CommandCount => command_count(reply),
+        ServerCommand::CommandDocs(names) => command_docs(names, reply),
+        ServerCommand::ConfigGet(patterns) => config_get(&around.settings.options, patterns, reply),
+        ServerCommand::SlowLogLen => slow_log_len(reply),
+        ServerCommand::SlowLogGet => slow_log_get(reply),
+        ServerCommand::Info(sections) => info(&facts(around, me, now), sections, reply),
+        _ => push_one_simple(reply, b"OK"),
+    }
+}
+
+fn push_name(reply: &mut Vec<u8>, connection: &Connection) -> Result<(), AllocError>
+    ensures { OnOk result ((rs : List Token) × (reply.new.items ≡ reply.old.items ++ flat_map token rs)) }
+{
+    if connection.name.is_empty() {
+        push_one_nothing(reply)
+    } else {
+        push_one_string(reply, connection.name.as_slice())
+    }
+}

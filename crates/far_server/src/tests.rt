@@ -1,0 +1,5 @@
+//! A server over pipes in memory. What is wanted is what redis-server answers.
+
+mod asking;
+mod ends;
+mod pipes;

@@ -1,0 +1,134 @@
+//! Pipes in memory, and what a lane answers through them.
+use crate::{LaneEnd, OpenFault, Pipes, ServerSettings, run_server};
+use far_device::FakeDevice;
+use far_map::Settings;
+use resp::Limits;
+use server_commands::Options;
+use std::alloc::Global;
+use std::process::Abort;
+use std::rt::Clock;
+use std::sync::Wait;
+use std::thread::Threads;
+
+/// What each lane is given; a lane behind the last has no pipes.
+#[derive(Drop)]
+pub struct Given<'a> {
+    pub lanes: &'a [&'a [u8]],
+}
+
+impl<'a> Pipes for Given<'a> {
+    type Input = &'a [u8];
+
+    type Output = Vec<u8>;
+
+    ghost opens = { λ s lane input output. Unit {0} };
+
+    fn open(&self, alloc: Global, lane: u32) -> Result<(&'a [u8], Vec<u8>), OpenFault> {
+        match self.lanes.get(lane as usize) {
+            Some(came) => Ok((*came, Vec::new(alloc))),
+            None => Err(OpenFault::Io),
+        }
+    }
+}
+
+/// A small server of so many lanes.
+pub fn settings(lanes: u32) -> ServerSettings {
+    ServerSettings {
+        map: Settings::new(16, 16, 1 << 20),
+        lanes,
+        requests: Limits {
+            arguments: 64,
+            bytes: 100_000,
+            line: 1_000,
+        },
+        longest_value: 70_000,
+        longest_queue: 1_000,
+        far_limit: 0,
+        password: None,
+        options: Options {
+            most_memory: 1 << 24,
+            evicts: false,
+            most_clients: 10,
+            timeout: 0,
+            longest_value: 70_000,
+            port: 0,
+            lanes,
+        },
+    }
+}
+
+/// Adds a frame.
+fn push_frame(rt: &impl Abort, frames: &mut Vec<u8>, kind: u8, data: &[u8]) {
+    assert!(rt; data.len() < 65_536);
+    frames
+        .extend_from_slice(&[kind, 0, 0, 0, 0])
+        .expect(rt, "a head");
+    let len = (data.len() as u32).to_be_bytes();
+    frames.extend_from_slice(&len).expect(rt, "a length");
+    frames.extend_from_slice(data).expect(rt, "data");
+}
+
+/// One connection of number 0, which sends this.
+pub fn frames_of(rt: &impl Abort, alloc: Global, requests: &[u8]) -> Vec<u8> {
+    let mut frames = Vec::new(alloc);
+    push_frame(rt, &mut frames, 1, b"");
+    push_frame(rt, &mut frames, 0, requests);
+    push_frame(rt, &mut frames, 2, b"");
+    frames
+}
+
+/// The data of frames that have fewer than 2^16 bytes each.
+fn data_of(rt: &impl Abort, alloc: Global, frames: &[u8]) -> Vec<u8> {
+    let mut data = Vec::new(alloc);
+    let mut rest = frames;
+    for _ in 0..frames.len() {
+        if rest.len() < 9 {
+            break;
+        }
+        let len = usize::from(rest[7]) * 256 + usize::from(rest[8]);
+        let body = &rest[9..];
+        if body.len() < len {
+            break;
+        }
+        data.extend_from_slice(&body[..len]).expect(rt, "data");
+        rest = &body[len..];
+    }
+    data
+}
+
+/// How the lanes of a server end.
+pub fn ends<R: Threads + Wait + Sync + Clock + Abort>(
+    rt: &R,
+    alloc: Global,
+    settings: ServerSettings,
+    lanes: &[&[u8]],
+) -> Vec<Result<Vec<u8>, LaneEnd>> {
+    let devices = Vec::from_array(alloc, [FakeDevice::new(alloc)]).expect(rt, "devices");
+    let pipes = Given { lanes };
+    let ended = run_server(rt, alloc, settings, devices, &pipes, rt).expect(rt, "a run");
+    let mut said = Vec::new(alloc);
+    for end in ended {
+        let end = match end {
+            Ok((_, output)) => Ok(data_of(rt, alloc, output.as_slice())),
+            Err(end) => Err(end),
+        };
+        said.push(end).expect(rt, "an end");
+    }
+    said
+}
+
+/// Stops the test where a client that sends this is answered otherwise.
+pub fn replies<R: Threads + Wait + Sync + Clock + Abort>(
+    rt: &R,
+    alloc: Global,
+    settings: ServerSettings,
+    requests: &[u8],
+    want: &[u8],
+) {
+    let frames = frames_of(rt, alloc, requests);
+    let said = ends(rt, alloc, settings, &[frames.as_slice()]);
+    match said.first() {
+        Some(Ok(said)) => assert_eq!(rt; said.as_slice(), want),
+        _ => panic!(rt; "the lane did not end well"),
+    }
+}

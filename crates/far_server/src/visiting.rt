@@ -1,0 +1,282 @@
+//! What is asked of all keys: each bucket is visited by itself.
+ghost use Rattle.std.specs.Prelude.{◌≡◌, ◌<◌, ◌≤◌, ◌++◌, ◌∷◌, [], ℕ, List, IfOk, OnOk};
+ghost use Rattle.std.specs.List.{flat_map};
+ghost use Rattle.resp.specs.Replies.{Token, Count, String, token};
+ghost use Rattle.version_words.specs.Views.{Goes};
+ghost use Rattle.far_server.specs.Flushes.{Flushes};
+
+use crate::around::Desk;
+use crate::refusing::text_of;
+use crate::single::{push_one_failure, push_one_nothing, push_one_simple, push_one_string};
+use commands::{Scan, is_expired, matches, read_stored};
+use far_blob::Blob;
+use far_map::{Calls, Refusal};
+use far_object::Text;
+use itoa::Buffer;
+use resp::{push_count, push_string};
+use std::alloc::{AllocError, Global};
+use std::sync::Wait;
+
+/// How many buckets SCAN visits for each key that it is to look at.
+const BUCKETS_A_KEY: u64 = 10;
+
+/// The keys of a bucket, without those whose value is expired at this time; 0 for all.
+fn keys_in<S: Calls<Blob>, R: Wait>(
+    rt: &R,
+    alloc: Global,
+    me: &mut S,
+    bucket: u32,
+    now: u64,
+) -> Result<Vec<Text>, Refusal>
+    requires { bucket < S.limits.buckets }
+    ensures { Goes (S.shown me.old).pass (S.shown me.new).pass }
+{
+    let mut keys = Vec::new(alloc);
+    let mut is_short = false;
+    let mut visit = |key: Text, value: Blob| {
+        let is_over = match read_stored(value.as_bytes()) {
+            Some((deadline, _)) => is_expired(deadline, now),
+            None => false,
+        };
+        if !is_over && keys.push(key).is_err() {
+            is_short = true;
+        }
+    };
+    match me.for_each_in(rt, bucket, &mut visit) {
+        Ok(()) => {}
+        Err(why) => return Err(why),
+    }
+    if is_short {
+        return Err(Refusal::Memory);
+    }
+    Ok(keys)
+}
+
+/// What a SCAN has found so far, and how many keys it looked at.
+#[derive(Drop)]
+struct Found {
+    keys: Vec<Text>,
+    looked: u64,
+}
+
+/// Adds the keys of a bucket that are asked for.
+fn add_keys(found: &mut Found, keys: Vec<Text>, scan: Scan<'_>) -> Result<(), AllocError> {
+    for key in keys {
+        found.looked = found.looked.saturating_add(1);
+        let is_wanted = match scan.pattern {
+            Some(pattern) => matches(pattern, key.as_bytes()),
+            None => true,
+        };
+        if is_wanted && scan.strings {
+            found.keys.push(key)?;
+        }
+    }
+    Ok(())
+}
+
+/// The keys from a bucket on, and the bucket at which the next SCAN goes on; 0 at the end.
+fn find<S: Calls<Blob>, R: Wait>(
+    rt: &R,
+    alloc: Global,
+    me: &mut S,
+    scan: Scan<'_>,
+    now: u64,
+) -> Result<(u32, Found), Refusal>
+    ensures { Goes (S.shown me.old).pass (S.shown me.new).pass }
+{
+    let buckets = me.buckets();
+    let mut found = Found {
+        keys: Vec::new(alloc),
+        looked: 0,
+    };
+    let first = scan.cursor.min(u64::from(buckets)) as u32;
+    let most = scan.count.saturating_mul(BUCKETS_A_KEY);
+    for bucket in first..buckets {
+        if found.looked >= scan.count || u64::from(bucket - first) >= most {
+            return Ok((bucket, found));
+        }
+        let keys = match keys_in(rt, alloc, me, bucket, now) {
+            Ok(keys) => keys,
+            Err(why) => return Err(why),
+        };
+        if add_keys(&mut found, keys, scan).is_err() {
+            return Err(Refusal::Memory);
+        }
+    }
+    Ok((0, found))
+}
+
+/// The keys, each as a string.
+fn push_keys(reply: &mut Vec<u8>, keys: &[Text]) -> Result<(), AllocError>
+    ensures { OnOk result ((rs : List Token) × (reply.new.items ≡ reply.old.items ++ flat_map token rs)) }
+{
+    for key in keys {
+        match push_string(reply, key.as_bytes()) {
+            Ok(()) => {}
+            Err(refused) => return Err(refused),
+        }
+    }
+    Ok(())
+}
+
+/// What stands before the keys of a SCAN: it is an array of a cursor and an array.
+fn push_head(reply: &mut Vec<u8>, next: &[u8], keys: usize) -> Result<(), AllocError>
+    ensures { OnOk result (reply.new.items ≡ reply.old.items ++ flat_map token (Count 2 ∷ String next.now ∷ Count keys ∷ [])) }
+{
+    push_count(reply, 2)?;
+    push_string(reply, next)?;
+    push_count(reply, keys)
+}
+
+/// SCAN: the bucket at which the next one goes on, and an array of keys.
+fn push_found(reply: &mut Vec<u8>, next: u32, found: &Found) -> Result<(), AllocError>
+    ensures { OnOk result ((rs : List Token) × (reply.new.items ≡ reply.old.items ++ flat_map token rs)) }
+{
+    let mut digits = Buffer::new();
+    match push_head(reply, digits.format(next).as_bytes(), found.keys.len()) {
+        Ok(()) => {}
+        Err(refused) => return Err(refused),
+    }
+    match push_keys(reply, found.keys.as_slice()) {
+        Ok(()) => Ok(()),
+        Err(refused) => Err(refused),
+    }
+}
+
+/// Answers SCAN. The cursor is the number of a bucket, so a key that stays is found.
+pub(crate) fn answer_scan<S: Calls<Blob>, R: Wait>(
+    rt: &R,
+    alloc: Global,
+    me: &mut S,
+    scan: Scan<'_>,
+    now: u64,
+    reply: &mut Vec<u8>,
+) -> Result<(), AllocError>
+    ensures goes { Goes (S.shown me.old).pass (S.shown me.new).pass }
+    ensures said { OnOk result ((rs : List Token) × (reply.new.items ≡ reply.old.items ++ flat_map token rs)) }
+{
+    match find(rt, alloc, me, scan, now) {
+        Ok((next, found)) => push_found(reply, next, &found),
+        Err(why) => push_one_failure(reply, text_of(why)),
+    }
+}
+
+/// A key of the first of these buckets that has one.
+fn find_between<S: Calls<Blob>, R: Wait>(
+    rt: &R,
+    alloc: Global,
+    me: &mut S,
+    from: u32,
+    to: u32,
+    now: u64,
+) -> Result<Option<Text>, Refusal>
+    requires { to ≤ S.limits.buckets }
+    ensures { Goes (S.shown me.old).pass (S.shown me.new).pass }
+{
+    for bucket in from..to {
+        match keys_in(rt, alloc, me, bucket, now) {
+            Ok(mut keys) => {
+                if let Some(key) = keys.pop() {
+                    return Ok(Some(key));
+                }
+            }
+            Err(why) => return Err(why),
+        }
+    }
+    Ok(None)
+}
+
+/// A key of the first bucket that has one, from this one on, and then from 0 on.
+fn find_any<S: Calls<Blob>, R: Wait>(
+    rt: &R,
+    alloc: Global,
+    me: &mut S,
+    first: u32,
+    now: u64,
+) -> Result<Option<Text>, Refusal>
+    ensures { Goes (S.shown me.old).pass (S.shown me.new).pass }
+{
+    let buckets = me.buckets();
+    match find_between(rt, alloc, me, first, buckets, now) {
+        Ok(None) => find_between(rt, alloc, me, 0, first.min(buckets), now),
+        found => found,
+    }
+}
+
+/// Answers RANDOMKEY: a key of the first bucket that has one from the drawn one on.
+pub(crate) fn answer_random_key<S: Calls<Blob>, R: Wait>(
+    rt: &R,
+    alloc: Global,
+    me: &mut S,
+    draw: u32,
+    now: u64,
+    reply: &mut Vec<u8>,
+) -> Result<(), AllocError>
+    ensures goes { Goes (S.shown me.old).pass (S.shown me.new).pass }
+    ensures said { OnOk result ((rs : List Token) × (reply.new.items ≡ reply.old.items ++ flat_map token rs)) }
+{
+    let first = draw % me.buckets().max(1);
+    match find_any(rt, alloc, me, first, now) {
+        Ok(Some(key)) => push_one_string(reply, key.as_bytes()),
+        Ok(None) => push_one_nothing(reply),
+        Err(why) => push_one_failure(reply, text_of(why)),
+    }
+}
+
+/// Takes all keys out that the bucket had when it was visited.
+fn empty_bucket<S: Calls<Blob>, R: Wait>(
+    rt: &R,
+    alloc: Global,
+    me: &mut S,
+    bucket: u32,
+    desk: &mut Desk,
+) -> Result<(), Refusal>
+    requires { bucket < S.limits.buckets }
+    ensures { Flushes S.limits (S.shown me.old) (S.shown me.new) }
+{
+    let keys = match keys_in(rt, alloc, me, bucket, 0) {
+        Ok(keys) => keys,
+        Err(why) => return Err(why),
+    };
+    for key in &keys {
+        match me.remove(rt, key) {
+            Ok(value) => desk.tally.count_removal(value.is_some()),
+            Err(why) => return Err(why),
+        }
+    }
+    Ok(())
+}
+
+fn empty_all<S: Calls<Blob>, R: Wait>(
+    rt: &R,
+    alloc: Global,
+    me: &mut S,
+    desk: &mut Desk,
+) -> Result<(), Refusal>
+    ensures { Flushes S.limits (S.shown me.old) (S.shown me.new) }
+{
+    for bucket in 0..me.buckets() {
+        match empty_bucket(rt, alloc, me, bucket, desk) {
+            Ok(()) => {}
+            Err(why) => return Err(why),
+        }
+    }
+    Ok(())
+}
+
+/// Answers FLUSHALL: bucket by bucket, so a key that is set meanwhile may stay.
+pub(crate) fn answer_flush<S: Calls<Blob>, R: Wait>(
+    rt: &R,
+    alloc: Global,
+    me: &mut S,
+    desk: &mut Desk,
+    reply: &mut Vec<u8>,
+) -> Result<(), AllocError>
+    ensures flushes { Flushes S.limits (S.shown me.old) (S.shown me.new) }
+    ensures said { OnOk result ((rs : List Token) × (reply.new.items ≡ reply.old.items ++ flat_map token rs)) }
+{
+    match empty_all(rt, alloc, me, desk) {
+        Ok(()) => push_one_simple(reply, b"OK"),
+        Err(why) => push_one_failure(reply, text_of(why)),
+    }
+}

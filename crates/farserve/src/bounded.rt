@@ -1,0 +1,79 @@
+//! A disk whose slots take no more than so many bytes.
+ghost use Rattle.std.specs.Prelude.{◌≡◌, ◌<◌};
+
+use file_device::{Disk, DiskFault, Slot, Step};
+use std::io::ErrorKind;
+
+/// How many classes of slots a disk has.
+const CLASSES: usize = 21;
+
+/// Bytes of a slot of class 0; of each further class they are twice as many.
+const SMALLEST: u64 = 64;
+
+/// A disk that refuses a slot with which those of all classes would take more than `most` bytes. A slot that was written once takes its
+/// bytes until its class is cleared, as in a file.
+#[derive(Drop)]
+pub struct BoundedDisk<K: Disk> {
+    disk: K,
+    most: u64,
+    used: u64,
+    /// Of each class the number behind the last slot that was written.
+    ends: [u32; CLASSES],
+}
+
+impl<K: Disk> BoundedDisk<K> {
+    pub fn new(disk: K, most: u64) -> Self {
+        BoundedDisk {
+            disk,
+            most,
+            used: 0,
+            ends: [0; CLASSES],
+        }
+    }
+
+    /// Counts the bytes up to the slot, and says whether there is room for them.
+    fn take(&mut self, slot: Slot) -> bool
+        requires { slot.class < 21 }
+        ensures { self.new.disk ≡ self.old.disk }
+    {
+        let end = self.ends[slot.class as usize];
+        if slot.number < end {
+            return true;
+        }
+        let more = u64::from(slot.number - end).saturating_add(1);
+        let used = self
+            .used
+            .saturating_add(more.saturating_mul(SMALLEST << slot.class));
+        if used > self.most {
+            return false;
+        }
+        self.used = used;
+        self.ends[slot.class as usize] = slot.number.saturating_add(1);
+        true
+    }
+}
+
+impl<K: Disk> Disk for BoundedDisk<K> {
+    ghost HONEST = { K.HONEST };
+
+    ghost kept = { λ bounded slot. K.kept bounded.disk slot };
+
+    fn write_slot(&mut self, slot: Slot, bytes: &[u8]) -> Result<(), DiskFault> {
+        if !self.take(slot) {
+            return Err(DiskFault::Io(Step::Write, ErrorKind::StorageFull));
+        }
+        self.disk.write_slot(slot, bytes)
+    }
+
+    fn read_slot(&mut self, slot: Slot, len: u32, out: &mut Vec<u8>) -> Result<(), DiskFault> {
+        self.disk.read_slot(slot, len, out)
+    }
+
+    fn clear(&mut self, class: u8) -> Result<(), DiskFault> {
+        self.disk.clear(class)?;
+        let taken = u64::from(self.ends[class as usize]).saturating_mul(SMALLEST << class);
+        self.used = self.used.saturating_sub(taken);
+        self.ends[class as usize] = 0;
+        Ok(())
+    }
+}

@@ -1,0 +1,75 @@
+//! The devices that a server is opened over.
+
+use crate::bounded::BoundedDisk;
+use crate::fault::Fault;
+use file_device::{DiskFault, FileDevice, FileDisk, MemoryDisk};
+use std::alloc::AllocError;
+use std::fs::File;
+use std::hash::RandomState;
+use std::random::RandomSource;
+use std::rt::Files;
+
+/// How many there are, where there are no more folders.
+const DEVICES: u32 = 4;
+
+/// A device in a folder, of the lane of this number.
+fn open<R>(
+    rt: R,
+    folder: &str,
+    lane: u32,
+    most: u64,
+) -> Result<FileDevice<BoundedDisk<FileDisk<R>>>, DiskFault>
+where
+    R: Files<File = File> + AllocGlobal + RandomSource + Copy + Drop,
+{
+    let Ok(keys) = RandomState::new(&rt) else {
+        return Err(DiskFault::Memory);
+    };
+    let disk = FileDisk::open(rt, folder, lane)?;
+    Ok(FileDevice::new(rt.alloc(), BoundedDisk::new(disk, most), keys))
+}
+
+/// Devices in these folders in turn, in which at most so many bytes are kept together.
+pub fn open_far<'a, R>(
+    rt: R,
+    folders: &[&'a str],
+    most: u64,
+) -> Result<Vec<FileDevice<BoundedDisk<FileDisk<R>>>>, Fault<'a>>
+where
+    R: Files<File = File> + AllocGlobal + RandomSource + Copy + Drop,
+{
+    let count = DEVICES.max(folders.len().min(64) as u32);
+    let mut devices = Vec::new(rt.alloc());
+    for lane in 0..count {
+        let Some(folder) = folders.get(lane as usize % folders.len().max(1)).copied() else {
+            return Ok(devices);
+        };
+        if folder.is_empty() {
+            return Err(Fault::Folder(folder));
+        }
+        match open(rt, folder, lane, most / u64::from(count)) {
+            Ok(device) => {
+                if devices.push(device).is_err() {
+                    return Err(Fault::Memory);
+                }
+            }
+            Err(DiskFault::Memory) => return Err(Fault::Memory),
+            Err(DiskFault::Io(_, _)) => return Err(Fault::Folder(folder)),
+        }
+    }
+    Ok(devices)
+}
+
+/// A device that keeps nothing, so that all stays in frames.
+pub fn open_none<R>(rt: &R) -> Result<Vec<FileDevice<BoundedDisk<MemoryDisk>>>, AllocError>
+where
+    R: AllocGlobal + RandomSource,
+{
+    let Ok(keys) = RandomState::new(rt) else {
+        return Err(AllocError);
+    };
+    let disk = BoundedDisk::new(MemoryDisk::new(rt.alloc()), 0);
+    let mut devices = Vec::new(rt.alloc());
+    devices.push(FileDevice::new(rt.alloc(), disk, keys))?;
+    Ok(devices)
+}

@@ -1,0 +1,84 @@
+//! Why the program ends early, and the status that it ends with.
+
+use far_map::RunFault;
+use far_server::LaneEnd;
+use std::fmt::{Display, Formatter};
+use std::{fmt, io};
+
+/// Why the program ends early. Its text is the line on standard error.
+#[derive(Drop, Debug)]
+pub enum Fault<'a> {
+    /// An option, and its text that is no size within these bounds, in bytes.
+    Size(&'static str, &'a str, u64, u64),
+    /// The text of `--bind`, which is no IP address.
+    Bind(&'a str),
+    /// The address of `--bind`, where everybody could get in.
+    Open(&'a str),
+    /// The text of `--unix`, at which a socket can't lie.
+    Unix(&'a str),
+    /// The text of `--memory`, too little for the buckets and threads.
+    Little(&'a str),
+    /// An option that is not there yet.
+    Later(&'static str),
+    /// There are no pipes to a front.
+    Pipes,
+    /// The file of the password can't be read.
+    Unread(&'a str, io::Error),
+    /// The file of the password begins with an empty line.
+    Empty(&'a str),
+    /// A folder that can't be used.
+    Folder(&'a str),
+    /// There are more than 64 folders.
+    Folders,
+    /// A growth of memory was refused.
+    Memory,
+    /// The words for the front could not be written.
+    Write,
+    /// The map could not be run, or its devices failed.
+    Run(RunFault),
+    /// A lane ended before its requests did.
+    Lane(LaneEnd),
+}
+
+impl Fault<'_> {
+    /// The status that the program ends with: 2 for wrong options and folders, and 1 for what the system refused.
+    pub fn status(&self) -> u8 {
+        match self {
+            Fault::Memory | Fault::Write | Fault::Run(_) | Fault::Lane(_) => 1,
+            _ => 2,
+        }
+    }
+}
+
+impl Display for Fault<'_> {
+    fn fmt<W: fmt::Write>(&self, f: &mut Formatter<W>) -> fmt::Result {
+        match self {
+            Fault::Size(option, text, least, most) => write!(
+                f,
+                "--{option} {text}: no size from {least} to {most} bytes; 64k, 256m and 2g are sizes"
+            ),
+            Fault::Bind(text) => write!(f, "--bind {text}: no IP address"),
+            Fault::Open(text) => write!(
+                f,
+                "--bind {text}: others than this machine could get in, so it needs --password-file"
+            ),
+            Fault::Unix(text) => write!(f, "--unix {text}: no path of 1 to 107 bytes"),
+            Fault::Little(text) => {
+                write!(
+                    f,
+                    "--memory {text}: too little for so many buckets and threads"
+                )
+            }
+            Fault::Later(option) => write!(f, "--{option}: not there yet"),
+            Fault::Pipes => f.write_str("it has no front; bin/farserve starts both"),
+            Fault::Unread(path, fault) => write!(f, "--password-file {path}: {fault}"),
+            Fault::Empty(path) => write!(f, "--password-file {path}: its first line is empty"),
+            Fault::Folder(path) => write!(f, "--far {path}: cannot open"),
+            Fault::Folders => f.write_str("--far: more than 64 folders"),
+            Fault::Memory => f.write_str("memory"),
+            Fault::Write => f.write_str("standard output can't be written"),
+            Fault::Run(fault) => write!(f, "the map could not be run: {fault}"),
+            Fault::Lane(fault) => write!(f, "a lane has ended: {fault}"),
+        }
+    }
+}

@@ -1,0 +1,231 @@
+//! `farserve --memory SIZE [--far DIR]...`: the server behind its front. `bin/farserve` starts both.
+//!
+//! All options are read here. Standard output then has the number of lanes and the words that the front is started with, each with
+//! a NUL behind it, and one more NUL; standard error has a line that says what was chosen.
+#![tactic(auto)]
+
+mod asked;
+mod bounded;
+mod devices;
+mod fault;
+mod password;
+mod pipes;
+mod sizes;
+mod sizing;
+
+use anyhow::{Result, bail};
+use asked::{Asked, command};
+use devices::{open_far, open_none};
+use far_device::Device;
+use far_map::Settings;
+use far_server::{ServerSettings, run_server};
+use fault::Fault;
+use pipes::NamedPipes;
+use resp::Limits;
+use server_commands::Options;
+use sizing::{Sizes, divide};
+use std::env::Env;
+use std::fs::File;
+use std::io::ErrorKind;
+use std::process::ExitCode;
+use std::rt::Files;
+use std::sync::Wait;
+use std::thread::Threads;
+use std::{env, io};
+
+/// The least bytes that a bucket's object may have, and the most: keys that share a bucket share it.
+const BUCKET: (u32, u32) = (4 << 20, 16 << 20);
+
+/// The least bytes that a request may have, and that may wait for EXEC on a connection.
+const REQUEST: u32 = 4 << 20;
+
+/// Arguments of a request, and bytes of a line of words.
+const ARGUMENTS: u32 = 65_536;
+
+/// The most connections.
+const CLIENTS: u32 = 10_000;
+
+/// The limit of what lies far, as INFO tells it: 0 for none.
+fn told_limit(limit: u64) -> u64 {
+    if limit == u64::MAX { 0 } else { limit }
+}
+
+/// What the server is run with.
+fn settings(asked: &Asked<'_>, sizes: Sizes, password: Option<[u8; 32]>) -> ServerSettings {
+    let value = asked.value_limit;
+    let bucket = value.saturating_mul(4).clamp(BUCKET.0, BUCKET.1);
+    let map = Settings {
+        bytes: sizes.bytes,
+        ..Settings::new(sizes.buckets, sizes.buckets, bucket)
+    };
+    let requests = Limits {
+        arguments: ARGUMENTS,
+        bytes: value.saturating_mul(2).max(REQUEST),
+        line: ARGUMENTS,
+    };
+    ServerSettings {
+        map,
+        lanes: asked.threads,
+        requests,
+        longest_value: value,
+        longest_queue: requests.bytes,
+        far_limit: told_limit(asked.far_limit),
+        password,
+        options: Options {
+            most_memory: asked.memory,
+            evicts: false,
+            most_clients: u64::from(CLIENTS),
+            timeout: u64::from(asked.timeout),
+            longest_value: u64::from(value),
+            port: u32::from(asked.port),
+            lanes: asked.threads,
+        },
+    }
+}
+
+/// Writes how many lanes there are, and what the front is started with.
+fn tell_front(rt: &impl Print, asked: &Asked<'_>) -> io::Result<()> {
+    let (lanes, port, bind, timeout) = (asked.threads, asked.port, asked.bind, asked.timeout);
+    print!(rt;
+        "{lanes}\0--port\0{port}\0--bind\0{bind}\0--timeout\0{timeout}\0--connections\0{CLIENTS}\0"
+    )?;
+    if let Some(path) = asked.unix {
+        print!(rt; "--unix\0{path}\0")?;
+    }
+    if asked.password_file.is_some() {
+        print!(rt; "--guarded\0")?;
+    }
+    print!(rt; "\0")
+}
+
+/// Says what was chosen.
+fn tell_log(rt: &impl Eprint, asked: &Asked<'_>, sizes: Sizes) -> io::Result<()> {
+    let (memory, threads, value) = (asked.memory, asked.threads, asked.value_limit);
+    let Sizes { buckets, bytes } = sizes;
+    eprint!(rt;
+        "farserve: {memory} bytes of memory, {bytes} of them for objects, {buckets} buckets, {threads} threads, "
+    )?;
+    eprint!(rt; "values up to {value} bytes, far in")?;
+    for folder in asked.folders.as_slice() {
+        eprint!(rt; " {folder}")?;
+    }
+    if asked.folders.is_empty() {
+        eprint!(rt; " no folder")?;
+    } else if asked.far_limit < u64::MAX {
+        let most = asked.far_limit;
+        eprint!(rt; ", {most} bytes at most")?;
+    }
+    eprint!(rt; "\n")
+}
+
+/// Serves over these devices until the front has ended.
+fn serve_over<'a, D, R>(
+    rt: &R,
+    host: HostRuntime,
+    asked: &Asked<'a>,
+    settings: ServerSettings,
+    devices: Vec<D>,
+) -> Result<(), Fault<'a>>
+where
+    D: Device + Send,
+    R: AllocGlobal + Print + Threads + Wait + Sync,
+{
+    if tell_front(rt, asked).is_err() {
+        return Err(Fault::Write);
+    }
+    let pipes = NamedPipes {
+        rt: host,
+        folder: asked.pipes,
+    };
+    let ends = match run_server(rt, rt.alloc(), settings, devices, &pipes, &host) {
+        Ok(ends) => ends,
+        Err(fault) => return Err(Fault::Run(fault)),
+    };
+    for end in ends {
+        if let Err(fault) = end {
+            return Err(Fault::Lane(fault));
+        }
+    }
+    Ok(())
+}
+
+/// Serves what these options ask for.
+fn serve<'a, R>(rt: &R, host: HostRuntime, asked: &Asked<'a>) -> Result<(), Fault<'a>>
+where
+    R: Files<File = File> + AllocGlobal + Print + Eprint + Threads + Wait + Sync,
+{
+    let folders = asked.folders.as_slice();
+    let is_far = !folders.is_empty();
+    let Some(sizes) = divide(asked.memory, asked.buckets, asked.threads, is_far) else {
+        return Err(Fault::Little(asked.memory_text));
+    };
+    let password = match asked.password_file {
+        Some(path) => Some(password::digest_of(rt, rt.alloc(), path)?),
+        None => None,
+    };
+    let settings = settings(asked, sizes, password);
+    if !is_far {
+        let Ok(devices) = open_none(&host) else {
+            return Err(Fault::Memory);
+        };
+        let _ = tell_log(rt, asked, sizes);
+        return serve_over(rt, host, asked, settings, devices);
+    }
+    let devices = open_far(host, folders, asked.far_limit)?;
+    let _ = tell_log(rt, asked, sizes);
+    serve_over(rt, host, asked, settings, devices)
+}
+
+/// Does what these words ask for, and gives the status: 0, 1 where the system refused something, 2 where they are no such words.
+fn run_words<R>(rt: &R, host: HostRuntime, words: &[String]) -> Result<u8>
+where
+    R: Files<File = File> + AllocGlobal + Print + Eprint + Threads + Wait + Sync,
+{
+    let command = command(rt.alloc())?;
+    let matches = match command.try_get_matches_from(words) {
+        Ok(matches) => matches,
+        Err(error) => {
+            error.print(rt)?;
+            return Ok(if error.exit_code() == 0 { 0 } else { 2 });
+        }
+    };
+    let served = match Asked::of(rt.alloc(), &matches) {
+        Ok(asked) => serve(rt, host, &asked),
+        Err(fault) => Err(fault),
+    };
+    match served {
+        Ok(()) => Ok(0),
+        Err(fault) => {
+            eprintln!(rt; "farserve: {fault}")?;
+            Ok(fault.status())
+        }
+    }
+}
+
+/// The same of the program's words behind its name. Words that are no texts are no such words.
+fn run<R>(rt: &R, host: HostRuntime) -> Result<u8>
+where
+    R: Env + Files<File = File> + AllocGlobal + Print + Eprint + Threads + Wait + Sync,
+{
+    let words = match env::args(rt) {
+        Ok(words) => words,
+        Err(fault) if fault.kind() == ErrorKind::InvalidData => {
+            eprintln!(rt; "farserve: an argument is no UTF-8 text")?;
+            return Ok(2);
+        }
+        Err(fault) => bail!("{fault}"),
+    };
+    let words: Vec<String> = words.skip(1).collect(rt.alloc())?;
+    run_words(rt, host, words.as_slice())
+}
+
+fn main(rt: HostRuntime) -> ExitCode {
+    let status = match run(&rt, rt) {
+        Ok(status) => status,
+        Err(fault) => {
+            let _ = eprintln!(rt; "farserve: {fault}");
+            1
+        }
+    };
+    ExitCode::from(status)
+}

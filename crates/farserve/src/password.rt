@@ -1,0 +1,48 @@
+//! The password, of which only the digest is kept.
+
+use crate::fault::Fault;
+use sha2::{Digest, Sha256};
+use std::alloc::Global;
+use std::fs::File;
+use std::io;
+use std::io::Read;
+use std::rt::Files;
+
+/// The most bytes that are read of the file.
+const MOST: u64 = 4096;
+
+fn read_front<R: Files<File = File>>(rt: &R, alloc: Global, path: &str) -> io::Result<Vec<u8>> {
+    let mut bytes = Vec::new(alloc);
+    let mut file = File::open(rt, path)?;
+    file.by_ref().take(MOST).read_to_end(&mut bytes)?;
+    Ok(bytes)
+}
+
+/// The first line, without its LF and a CR before that.
+fn first_line(bytes: &[u8]) -> &[u8] {
+    let mut line = bytes;
+    for (at, byte) in bytes.iter().enumerate() {
+        if *byte == b'\n' {
+            line = bytes.get(..at).unwrap_or(bytes);
+            break;
+        }
+    }
+    line.strip_suffix(b"\r").unwrap_or(line)
+}
+
+/// The SHA-256 of the password that the first line of this file is.
+pub fn digest_of<'a, R: Files<File = File>>(
+    rt: &R,
+    alloc: Global,
+    path: &'a str,
+) -> Result<[u8; 32], Fault<'a>> {
+    let bytes = match read_front(rt, alloc, path) {
+        Ok(bytes) => bytes,
+        Err(fault) => return Err(Fault::Unread(path, fault)),
+    };
+    let line = first_line(bytes.as_slice());
+    if line.is_empty() {
+        return Err(Fault::Empty(path));
+    }
+    Ok(Sha256::digest(line))
+}

@@ -1,0 +1,83 @@
+//! What a server knows of itself.
+
+/// What INFO tells. Counts are since the start, and times are in milliseconds since 1970.
+#[derive(Clone, Copy)]
+pub struct Facts {
+    pub now: u64,
+    pub started: u64,
+    /// Threads that answer.
+    pub lanes: u32,
+    /// 0 for none.
+    pub port: u32,
+    /// Connections that there are.
+    pub clients: u64,
+    /// Connections that there were and are.
+    pub accepted: u64,
+    pub commands: u64,
+    pub most_clients: u64,
+    /// Bytes that the server may have.
+    pub most_memory: u64,
+    /// Whether values go where there is no room; else a command that needs some is refused.
+    pub evicts: bool,
+    /// Bytes of objects in frames.
+    pub bytes_in_frames: u64,
+    pub buckets: u32,
+    pub frames: u32,
+    /// Bytes that objects in frames may have.
+    pub most_in_frames: u64,
+    /// Bytes that objects on devices may have; 0 for any number.
+    pub far_limit: u64,
+    /// Keys that have a value, as they were last counted.
+    pub keys: u64,
+    /// Reads of a key that had a value.
+    pub hits: u64,
+    pub misses: u64,
+    pub expired: u64,
+    pub evicted: u64,
+    /// Calls that found their bucket in a frame.
+    pub local_hits: u64,
+    pub swap_outs: u64,
+    pub swap_ins: u64,
+    /// Calls that read their bucket from a device and left it there.
+    pub read_throughs: u64,
+    pub device_failures: u64,
+    /// Commands that were refused for want of memory.
+    pub refused_memory: u64,
+    /// Commands that were refused since their bucket was full.
+    pub refused_full: u64,
+    /// Commands that were refused since a device failed.
+    pub refused_device: u64,
+    /// Changes and moves for which there are names left.
+    pub names_left: u64,
+}
+
+/// What CONFIG GET answers of.
+#[derive(Clone, Copy)]
+pub struct Options {
+    /// `maxmemory`, in bytes.
+    pub most_memory: u64,
+    /// `maxmemory-policy`: `allkeys-random`, or else `noeviction`.
+    pub evicts: bool,
+    /// `maxclients`.
+    pub most_clients: u64,
+    /// `timeout`, in seconds; 0 for none.
+    pub timeout: u64,
+    /// `proto-max-bulk-len`: the most bytes of an argument.
+    pub longest_value: u64,
+    /// 0 for none.
+    pub port: u32,
+    /// `io-threads`.
+    pub lanes: u32,
+}
+
+/// The name that Redis has for what happens where there is no room.
+pub(crate) fn policy(evicts: bool) -> &'static str {
+    if evicts {
+        "allkeys-random"
+    } else {
+        "noeviction"
+    }
+}
+
+/// The version of Redis whose commands these are.
+pub(crate) const REDIS_VERSION: &str = "7.0.15";

@@ -1,0 +1,219 @@
+"""Trials of server.py: memory, how the server starts and ends, and what it refuses at the start."""
+import contextlib
+import os
+import signal
+import socket
+import stat
+import subprocess
+import tempfile
+import time
+from pathlib import Path
+
+from server_parts import MEBIBYTE, OK, PATIENCE, PONG, ROOT, Client, bulk, children, request, until
+
+MEMORY = 48 * MEBIBYTE
+# Resident memory may pass what was asked for by so much.
+SLACK = 1.15
+
+
+def fill(server, count, value_of, piece):
+    """Sets so many keys, and gives a client."""
+    client = server.client()
+    for at in range(0, count, piece):
+        asked = [("SET", f"key{number}", value_of(number)) for number in range(at, min(at + piece, count))]
+        assert client.ask_all(asked) == [OK] * len(asked)
+    return client
+
+
+def stay_within_memory(tried, count, value_of, piece):
+    with tried.start(memory="48m") as server:
+        client = fill(server, count, value_of, piece)
+        assert client.number("DBSIZE") == count
+        for number in range(0, count, max(1, count // 2000)):
+            assert client.ask("GET", f"key{number}") == bulk(value_of(number))
+        # Values that are set anew and taken away leave no more behind.
+        fill(server, count // 4, value_of, piece)
+        client.ask_all([("DEL", f"key{number}") for number in range(0, count, 4)])
+        fill(server, count // 4, value_of, piece)
+        peak = server.peak()
+        assert peak < MEMORY * SLACK, f"{peak / MEBIBYTE:.1f} MiB were resident"
+        return f"{peak / MEBIBYTE:.1f} MiB of 48"
+
+
+def small_values_stay_within_memory(tried, _):
+    return stay_within_memory(tried, 200_000, lambda number: b"%064d" % number, 500)
+
+
+def large_values_stay_within_memory(tried, _):
+    return stay_within_memory(tried, 2_000, lambda number: b"%060000d" % number, 10)
+
+
+def is_full_alone(server, memory):
+    """Sets more than there is room for: what is refused is told, what was set stands, and memory stays bounded."""
+    client, held, refused = server.client(), {}, 0
+    for at in range(8000):
+        key, value = f"key{at % 5000}", b"%010000d" % at
+        told = client.ask("SET", key, value)
+        if told == OK:
+            held[key] = value
+        else:
+            refused += 1
+            assert told[:5] in (b"-ERR ", b"-OOM "), told
+    peak, server.scratch_peak = server.peak(), server.scratch()
+    assert refused and peak < memory * SLACK, f"{refused} were refused, {peak / MEBIBYTE:.1f} MiB were resident"
+    wrong = sum(client.ask("GET", key) != bulk(value) for key, value in held.items())
+    assert held and not wrong, f"{wrong} of {len(held)} are not what was set"
+    assert client.ask("DEL", *held) == b":%d\r\n" % len(held) and client.ask("SET", "k", "1") == OK
+    return f"{len(held)} of 5000 held"
+
+
+def what_has_no_room_is_refused(tried, _):
+    with tried.start(memory="32m", far=None) as server:
+        alone = is_full_alone(server, 32 * MEBIBYTE)
+    with tried.start("--far-limit", "8m", memory="32m") as server:
+        limited = is_full_alone(server, 32 * MEBIBYTE)
+        assert 0 < server.scratch_peak <= 8 * MEBIBYTE, server.scratch_peak
+    return f"{alone} in memory, {limited} with 8 MiB of disk"
+
+
+@contextlib.contextmanager
+def small_disk(folder):
+    """A folder on a disk of 4 MiB, or None where there is no leave to mount one."""
+    folder.mkdir()
+    words = ["mount", "-t", "tmpfs", "-o", "size=4m", "none", folder]
+    if os.geteuid() or subprocess.run(words, stderr=subprocess.DEVNULL).returncode:
+        yield None
+        return
+    try:
+        yield folder
+    finally:
+        subprocess.run(["umount", "-l", folder], check=True)
+
+
+def a_full_disk_harms_nothing(tried, _):
+    with small_disk(Path(tried.work) / "disk") as disk:
+        if disk is None:
+            return "(skipped: no leave to mount a disk)"
+        with tried.start(memory="32m", far=disk) as server:
+            return is_full_alone(server, 32 * MEBIBYTE)
+
+
+def a_signal_ends_it(tried, _):
+    for name in (signal.SIGTERM, signal.SIGINT):
+        for to_all in (False, True):
+            with tried.start() as server:
+                client = server.client()
+                assert client.ask("SET", "k", "1") == OK
+                both = [server.pid("front"), server.pid("farserve")]
+                client.send(request("GET", "k") * 1000)
+                if to_all:
+                    os.killpg(server.process.pid, name)
+                else:
+                    server.process.send_signal(name)
+                assert server.process.wait(PATIENCE) == 0, server.text()
+                assert not [it for it in both if os.path.exists(f"/proc/{it}")], "one of the two is left"
+                assert len(server.text().splitlines()) <= 2, server.text()
+                assert client.is_ended()
+    assert not os.listdir(tried.runtime), "the folder of the pipes is left"
+
+
+def who_dies_is_named(tried, _):
+    for name, told in (("front", "the front has ended with status -9"), ("farserve", "the server has ended with status -9")):
+        with tried.start() as server:
+            client, other = server.client(), "front" if name == "farserve" else "farserve"
+            assert client.ask("PING") == PONG
+            other = server.pid(other)
+            os.kill(server.pid(name), signal.SIGKILL)
+            said = server.ended(1)
+            assert told in said, said
+            assert client.is_ended() and not os.path.exists(f"/proc/{other}")
+    with tried.start() as server:
+        both = children(server.process.pid)
+        server.process.kill()
+        until(lambda: not any(os.path.exists(f"/proc/{it}") for it in both), "the end of both")
+    for left in Path(tried.runtime).iterdir():
+        subprocess.run(["rm", "-rf", left], check=True)
+
+
+# Runs bin/farserve with another program in the place of the server's.
+INSTEAD = """import sys
+from importlib.machinery import SourceFileLoader
+farserve = SourceFileLoader("farserve", sys.argv[1]).load_module()
+farserve.built_server = lambda _: sys.argv[2]
+sys.exit(farserve.main([]))
+"""
+
+
+def who_dies_early_is_named(tried, _):
+    """The server fails once it has told the front's words, and before the pipes are open."""
+    program = Path(tried.work) / "program"
+    program.write_text("#!/bin/sh\nprintf '1\\0--port\\0000\\0\\0'\nsleep 0.5\nexit 3\n")
+    program.chmod(0o700)
+    words = ["/usr/bin/python3", "-B", "-W", "ignore", "-c", INSTEAD, ROOT / "bin/farserve", program]
+    ran = subprocess.run(words, stdin=subprocess.DEVNULL, capture_output=True, text=True, timeout=PATIENCE)
+    assert (ran.returncode, ran.stdout, ran.stderr) == (1, "", "farserve: the server has ended with status 3\n"), ran
+    assert not os.listdir(tried.runtime), "the folder of the pipes is left"
+
+
+def started(*words):
+    words = [ROOT / "bin/farserve", *map(str, words)]
+    return subprocess.run(words, stdin=subprocess.DEVNULL, capture_output=True, text=True, timeout=PATIENCE)
+
+
+def faults_at_the_start(tried, _):
+    with socket.create_server(("127.0.0.1", 0)) as taken:
+        port = taken.getsockname()[1]
+        ran = started("--memory", "64m", "--port", port)
+        assert ran.returncode == 1 and f"127.0.0.1:{port}: Address already in use" in ran.stderr and not ran.stdout, ran
+    with tempfile.NamedTemporaryFile() as empty:
+        wrong = {
+            ("--memory", "12q"): "--memory", ("--memory", ""): "--memory", ("--memory", "1m"): "--memory 1m", (): "--memory",
+            ("--memory", "64m", "--port", "65536"): "--port", ("--memory", "64m", "--port", "x"): "--port",
+            ("--memory", "64m", "--threads", "0"): "--threads", ("--memory", "64m", "--threads", "65"): "--threads",
+            ("--memory", "64m", "--buckets", "0"): "--buckets", ("--memory", "64m", "--value-limit", "9m"): "--value-limit 9m",
+            ("--memory", "64m", "--bind", "here"): "--bind here", ("--memory", "64m", "--bind", "0.0.0.0"): "--password-file",
+            ("--memory", "64m", "--bind", "::"): "--password-file", ("--memory", "64m", "--timeout", "-1"): "--timeout",
+            ("--memory", "64m", "--far", "/none/such"): "--far /none/such", ("--memory", "64m", "--more"): "--more",
+            ("--memory", "64m", "--password-file", "/none"): "--password-file /none", ("--memory", "64m", "word"): "word",
+            ("--memory", "64m", "--password-file", empty.name): f"--password-file {empty.name}",
+            ("--memory", "64m", "--unix", "x" * 200): "--unix", ("--memory", "64m", "--policy", "other"): "--policy",
+        }
+        for words, named in wrong.items():
+            ran = started(*words)
+            assert ran.returncode == 2 and named in ran.stderr and not ran.stdout, (words, ran)
+    ran = started("--help")
+    assert ran.returncode == 0 and "Usage: farserve" in ran.stdout and "--memory <SIZE>" in ran.stdout and not ran.stderr.count("error")
+    ran = started("--version")
+    assert ran.returncode == 0 and ran.stdout.startswith("build: "), ran
+    assert not os.listdir(tried.runtime), "the folder of the pipes is left"
+
+
+def all_addresses_are_served(tried, _):
+    path, password = Path(tried.work) / "socket", Path(tried.work) / "password"
+    password.write_text("secret")
+    with tried.start("--unix", path) as server:
+        assert server.places[1] == str(path) and stat.S_IMODE(path.stat().st_mode) == 0o600
+        with Client(str(path)) as client:
+            assert client.ask("SET", "k", "1") == OK
+        assert server.client().value("GET", "k") == b"1"
+    assert not path.exists()
+    with tried.start("--bind", "0.0.0.0", "--password-file", password) as server:
+        client = server.client(("127.0.0.1", server.port()))
+        assert client.ask("GET", "k").startswith(b"-NOAUTH") and client.ask("AUTH", "secret") == OK
+    with tried.start("--threads", "1") as server, tried.start("--threads", "7") as other:
+        assert server.client().ask("SET", "k", "1") == OK and other.client().ask("GET", "k") == b"$-1\r\n"
+
+
+def info_tells_what_the_system_does(tried, _):
+    with tried.start(memory="48m") as server:
+        client = fill(server, 3000, lambda number: b"%030000d" % number, 10)
+        told = dict(line.split(":", 1) for line in client.value("INFO").decode().split("\r\n") if ":" in line)
+        assert int(told["maxmemory"]) == MEMORY, told
+        # Of 90 MB some lie in memory, and the others in the folder.
+        assert 10e6 < int(told["used_memory"]) < MEMORY and told["db0"].startswith("keys=3000,"), told
+        assert client.value("INFO", "far").startswith(b"# Far\r\n")
+
+
+TRIALS = [small_values_stay_within_memory, large_values_stay_within_memory, what_has_no_room_is_refused,
+          a_full_disk_harms_nothing, a_signal_ends_it, who_dies_is_named, who_dies_early_is_named, faults_at_the_start,
+          all_addresses_are_served, info_tells_what_the_system_does]
