@@ -5,6 +5,7 @@
 #![tactic(auto)]
 
 mod blobs;
+mod commanding;
 mod devices;
 mod evicting;
 mod lanes;
@@ -23,6 +24,7 @@ fn main(rt: HostRuntime) -> io::Result<()> {
     objects::tell_all(&rt)?;
     blobs::tell_all(&rt)?;
     protocol::tell_all(&rt)?;
+    commanding::tell_all(&rt)?;
     devices::tell_all(&rt)?;
     machine::tell_all(&rt)?;
     rows::tell_all(&rt)?;

@@ -1,6 +1,8 @@
 //! The calls of `resp`.
 
-use crate::trials::{Answer, Outcome, Tried, answer, is_appended, is_nine, nine, tell, tried};
+use crate::trials::{
+    Answer, Outcome, Tried, answer, appends, is_appended, is_nine, nine, tell, tried,
+};
 use far_object::Memory;
 use resp::{
     Limits, Parsed, Span, parse, push_count, push_failure, push_no_array, push_nothing,
@@ -36,17 +38,6 @@ fn read(alloc: Global, bytes: &[u8], one: usize, two: usize) -> Outcome {
         ),
         true
     )
-}
-
-/// What became of a call that appends a token behind the byte 9.
-macro_rules! appends {
-    ($alloc:expr, $out:ident => $call:expr, $front:expr, $back:expr) => {{
-        let mut $out = nine($alloc)?;
-        Ok(tried!(
-            answer!($call.map_err(|_| Memory), () => is_appended(&$out, $front, $back)),
-            is_nine(&$out)
-        ))
-    }};
 }
 
 fn simple(alloc: Global) -> Tried {

@@ -107,7 +107,19 @@ macro_rules! tried {
     };
 }
 
+/// What became of a call that appends these two behind the byte 9.
+macro_rules! appends {
+    ($alloc:expr, $out:ident => $call:expr, $front:expr, $back:expr) => {{
+        let mut $out = nine($alloc)?;
+        Ok(tried!(
+            answer!($call.map_err(|_| Memory), () => is_appended(&$out, $front, $back)),
+            is_nine(&$out)
+        ))
+    }};
+}
+
 pub(crate) use answer;
+pub(crate) use appends;
 pub(crate) use tried;
 
 /// Prints what became of the call of this name.

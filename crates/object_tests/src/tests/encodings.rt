@@ -118,10 +118,10 @@ fn blobs_in_their_order(rt: HostRuntime) {
 #[test]
 fn the_longest_blob(rt: HostRuntime) {
     let bytes = made(&rt, vec![in rt.alloc(); 200u8; MOST_BYTES + 1]);
-    let (most, _) = bytes.split_at(MOST_BYTES);
+    let most = made(&rt, vec![in rt.alloc(); 200u8; MOST_BYTES]);
     let refused = Blob::new(rt.alloc(), bytes.as_slice()).err();
     equal(&rt, refused, Some(BlobFault::TooLong));
-    let longest = made(&rt, Blob::new(rt.alloc(), most));
+    let longest = made(&rt, Blob::new(rt.alloc(), most.as_slice()));
     equal(&rt, longest.len(), MOST_BYTES + 4);
     let mut front = list(&rt, rt.alloc(), &[1, 0, 0, 0]);
     made(&rt, front.extend_from_slice(&bytes));
