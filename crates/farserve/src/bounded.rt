@@ -1,17 +1,16 @@
 //! A disk whose slots take no more than so many bytes.
 ghost use Rattle.std.specs.Prelude.{◌≡◌, ◌<◌};
 
-use file_device::{Disk, DiskFault, Slot, Step};
+use file_device::{CLASSES, Disk, DiskFault, Slot, Step};
 use std::io::ErrorKind;
 
-/// How many classes of slots a disk has.
-const CLASSES: usize = 21;
+/// What tells how many bytes its slots take. Nothing is claimed of it.
+pub trait Measured {
+    fn used(&self) -> u64;
+}
 
-/// Bytes of a slot of class 0; of each further class they are twice as many.
-const SMALLEST: u64 = 64;
-
-/// A disk that refuses a slot with which those of all classes would take more than `most` bytes. A slot that was written once takes its
-/// bytes until its class is cleared, as in a file.
+/// A disk that refuses a slot with which those of all classes would take more than `most` bytes, and tells how many they take. A slot
+/// that was written once takes its bytes until its class is cleared, as in a file.
 #[derive(Drop)]
 pub struct BoundedDisk<K: Disk> {
     disk: K,
@@ -22,6 +21,7 @@ pub struct BoundedDisk<K: Disk> {
 }
 
 impl<K: Disk> BoundedDisk<K> {
+    /// Over a disk that keeps nothing.
     pub fn new(disk: K, most: u64) -> Self {
         BoundedDisk {
             disk,
@@ -41,15 +41,19 @@ impl<K: Disk> BoundedDisk<K> {
             return true;
         }
         let more = u64::from(slot.number - end).saturating_add(1);
-        let used = self
-            .used
-            .saturating_add(more.saturating_mul(SMALLEST << slot.class));
+        let used = self.used.saturating_add(more.saturating_mul(slot.bytes()));
         if used > self.most {
             return false;
         }
         self.used = used;
         self.ends[slot.class as usize] = slot.number.saturating_add(1);
         true
+    }
+}
+
+impl<K: Disk> Measured for BoundedDisk<K> {
+    fn used(&self) -> u64 {
+        self.used
     }
 }
 
@@ -71,7 +75,8 @@ impl<K: Disk> Disk for BoundedDisk<K> {
 
     fn clear(&mut self, class: u8) -> Result<(), DiskFault> {
         self.disk.clear(class)?;
-        let taken = u64::from(self.ends[class as usize]).saturating_mul(SMALLEST << class);
+        let each = Slot { class, number: 0 }.bytes();
+        let taken = u64::from(self.ends[class as usize]).saturating_mul(each);
         self.used = self.used.saturating_sub(taken);
         self.ends[class as usize] = 0;
         Ok(())

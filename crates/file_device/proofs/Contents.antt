@@ -1,10 +1,11 @@
 -- What an index holds as a finite map, and how that changes with it.
-use Rattle.std.proofs.Common.{◌≡◌, ℕ, nat_eq, Bool, true, false, cond, List, [], ◌∷◌, map, Option, Some, None, refl, sym, ap, ◌∙◌}
+use Rattle.std.proofs.Common.{◌≡◌, ℕ, ◌+◌, add-one, nat_eq, Bool, true, false, cond, List, [], ◌∷◌, length, map, Option, Some, None, refl, sym, ap, ◌∙◌}
 use Rattle.std.specs.Option.{option_map, is_some}
 use Rattle.std.specs.Ordering.{nat_cmp, eq_by_cmp}
 use Rattle.std.specs.Cmp.{nat_cmp_total, eq_by_cmp_equiv, unsigned_tied}
-use Rattle.std.specs.Map.{lookup}
-use Rattle.std.specs.FinMap.{find, get, contains_key, insert, remove, get-from_entries, get-insert, get-remove, same_map, nat_cmp-IsAntisymmetric}
+use Rattle.std.specs.List.{IsDistinct, AllByRecursion}
+use Rattle.std.specs.Map.{lookup, keys_of}
+use Rattle.std.specs.FinMap.{find, get, contains_key, insert, remove, len, len-empty, len-insert, get-from_entries, get-insert, get-remove, same_map, nat_cmp-IsAntisymmetric}
 use Rattle.std.proofs.lemmas.Map.Made.{lookup-map_values}
 use Rattle.file_device.specs.declared.place.Place.{Place}
 use Rattle.file_device.specs.Places.{bytes_at, place_of, contents_of, ChangesAt}
@@ -57,3 +58,17 @@ contains_key-contents_of entries id = ap is_some (get-contents_of entries id) �
 -- the bytes at an id, by its place
 pub get-at_place : (entries : List (ℕ × Place)) (id : ℕ) (place : Place) → Some place ≡ place_of entries id → get (contents_of entries) id ≡ Some (bytes_at place)
 get-at_place entries id place found = get-contents_of entries id ∙ ap bytes_of (sym found)
+
+-- a key that no entry has
+no_place : (id : ℕ) (entries : List (ℕ × Place)) → AllByRecursion (λ other. nat_eq id other ≡ false) (keys_of entries) → is_some (place_of entries id) ≡ false
+no_place id [] others = refl
+no_place id (e ∷ entries) others = ap (λ b. is_some (cond b (Some e.1) (place_of entries id))) others.0 ∙ no_place id entries others.1
+
+-- an index with each id once has an entry for each object
+pub len-contents_of : (entries : List (ℕ × Place)) → IsDistinct nat_eq (keys_of entries) → len (contents_of entries) ≡ length entries
+unfolding IsDistinct
+len-contents_of [] unique = len-empty nat_cmp (List ℕ)
+len-contents_of (e ∷ entries) unique =
+    len-insert nat_cmp_total (contents_of entries) e.0 (bytes_at e.1)
+    ∙ ap (λ b. cond b (len (contents_of entries)) (len (contents_of entries) + 1)) (contains_key-contents_of entries e.0 ∙ no_place e.0 entries unique.0)
+    ∙ (ap (λ n. n + 1) (len-contents_of entries unique.1) ∙ add-one (length entries))

@@ -1,9 +1,10 @@
 //! Which object lies where.
 ghost use Rattle.std.specs.Prelude.{◌≡◌, ◌<◌, [], Some, None, OnOk, OnErr, IfOk, IfSome, is_some};
 ghost use Rattle.std.specs.Bool.{OnTrue};
+ghost use Rattle.std.specs.FinMap.{len};
 ghost use Rattle.std.specs.Option.{option_copied};
 ghost use Rattle.file_device.specs.Owners.{owner_in};
-ghost use Rattle.file_device.specs.Places.{place_of, slot_of, AreOwned, ChangesAt, IsFree, IsUnused};
+ghost use Rattle.file_device.specs.Places.{contents_of, place_of, slot_of, AreOwned, ChangesAt, IsFree, IsUnused};
 
 use crate::Slot;
 use crate::owners::Owners;
@@ -29,6 +30,13 @@ impl Catalog {
             index: HashMap::new(alloc),
             owners: Owners::new(alloc),
         }
+    }
+
+    /// How many objects there are.
+    pub(crate) fn len(&self) -> usize
+        ensures { result ≡ len (contents_of self.now.index.entries) }
+    {
+        self.index.len()
     }
 
     /// Where the object lies, if there is one.

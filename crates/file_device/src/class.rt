@@ -2,11 +2,11 @@
 ghost use Rattle.std.specs.Prelude.{◌≡◌, ◌≤◌, ◌*◌, ◌^◌};
 ghost use Rattle.file_device.specs.Classes.{class_of};
 
-/// How many classes there are.
-pub(crate) const CLASSES: usize = 21;
+/// How many classes of slots a disk has.
+pub const CLASSES: usize = 21;
 
 /// The bytes of a slot of class 0.
-const SMALLEST: u32 = 64;
+pub(crate) const SMALLEST: u32 = 64;
 
 /// The most bytes of an object: those of a slot of the last class.
 pub(crate) const LONGEST: usize = 1 << 26;

@@ -1,7 +1,7 @@
 //! A device over a disk.
 ghost use Rattle.std.specs.Prelude.{◌≡◌, ◌≢◌, ◌<◌, ℕ, Some, IsOk, IsSome, IfOk, IfSome, OnErr};
 ghost use Rattle.std.specs.Bool.{OnTrue};
-ghost use Rattle.std.specs.FinMap.{empty, get};
+ghost use Rattle.std.specs.FinMap.{empty, get, len};
 ghost use Rattle.far_device.specs.Calls.{Constructs, Writes, Reads, Removes, count_after};
 ghost use Rattle.file_device.specs.Digests.{GivesAlike};
 ghost use Rattle.file_device.specs.Owners.{owner_in};
@@ -31,7 +31,7 @@ pub struct FileDevice<K: Disk> {
 }
 
 impl<K: Disk> FileDevice<K> {
-    ghost use Rattle.file_device.specs.Devices.{state_in, slot_in};
+    ghost use Rattle.file_device.specs.Devices.{contents_in, state_in, slot_in};
 
     /// An empty device on the disk, whose digests are under these keys. Who opens the device draws
     /// them, and nobody who can write to the disk may know them.
@@ -55,6 +55,13 @@ impl<K: Disk> FileDevice<K> {
     /// Why the last call that answered `Failed` did so, and none before there was one.
     pub fn last_failure(&self) -> Option<Failure> {
         self.failures.last
+    }
+
+    /// How many objects it keeps.
+    pub fn len(&self) -> usize
+        ensures { result ≡ len (contents_in self.now) }
+    {
+        self.catalog.len()
     }
 
     /// The slot in which the object of the id lies, if there is one. No other id's object lies there.

@@ -18,6 +18,7 @@ mod place;
 mod scratch;
 mod slot;
 
+pub use class::CLASSES;
 pub use device::FileDevice;
 pub use disk::Disk;
 pub use fault::{DiskFault, Failure, Step};

@@ -1,4 +1,7 @@
 //! A place of a disk for one object.
+ghost use Rattle.std.specs.Prelude.{◌≡◌, ◌<◌, ◌*◌, ◌^◌};
+
+use crate::class::SMALLEST;
 
 /// A slot of a disk. The classes are 0 to 20, and a slot of class c has 64 << c bytes, so 64 B to
 /// 64 MiB. Within a class the slots are numbered from 0.
@@ -6,4 +9,14 @@
 pub struct Slot {
     pub class: u8,
     pub number: u32,
+}
+
+impl Slot {
+    /// How many bytes it has.
+    pub fn bytes(self) -> u64
+        requires { self.class < 21 }
+        ensures { result ≡ 64 * 2 ^ self.class }
+    {
+        u64::from(SMALLEST) << self.class
+    }
 }

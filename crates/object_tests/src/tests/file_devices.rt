@@ -6,7 +6,7 @@ use super::devices::{
 };
 use super::file_disks::{Flaw, FlawedDisk};
 use far_device::{Device, DeviceFault, FaultyDevice, LyingDevice};
-use file_device::{DiskFault, Failure, FileDevice, FileDisk, MemoryDisk, Step};
+use file_device::{CLASSES, DiskFault, Failure, FileDevice, FileDisk, MemoryDisk, Slot, Step};
 use std::alloc::Global;
 use std::hash::RandomState;
 use std::io::ErrorKind;
@@ -190,6 +190,43 @@ fn each_length_has_its_class(rt: HostRuntime) {
     equal(&rt, device.write(1, &longer), Err(DeviceFault::Failed));
     equal(&rt, device.last_failure(), Some(Failure::TooLong));
     equal(&rt, device.failures(), 1);
+}
+
+#[test]
+fn slots_have_their_bytes(rt: HostRuntime) {
+    let first = Slot {
+        class: 0,
+        number: 5,
+    };
+    let last = Slot {
+        class: 20,
+        number: 0,
+    };
+    equal(&rt, CLASSES, 21);
+    equal(&rt, first.bytes(), 64);
+    equal(&rt, last.bytes(), 1 << 26);
+}
+
+#[test]
+fn objects_are_counted(rt: HostRuntime) {
+    let mut device = in_memory(&rt, rt.alloc());
+    let rows = [
+        (Call::Write(7, [1, 2].as_slice()), 1),
+        (Call::Write(8, [3].as_slice()), 2),
+        (Call::Write(7, [4].as_slice()), 2),
+        (Call::Remove(9), 2),
+        (Call::Remove(7), 1),
+        (Call::Construct, 0),
+    ];
+    equal(&rt, device.len(), 0);
+    for (call, count) in rows {
+        match call {
+            Call::Write(id, bytes) => equal(&rt, device.write(id, bytes), Ok(())),
+            Call::Remove(id) => holds(&rt, device.remove(id).is_ok()),
+            _ => equal(&rt, device.construct(), Ok(())),
+        }
+        equal(&rt, device.len(), count);
+    }
 }
 
 /// Fills the device with objects of so many bytes, and answers how long its files are.
