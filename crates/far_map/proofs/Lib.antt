@@ -6,3 +6,4 @@ pub mod Turning
 pub mod Again
 pub mod Removals
 pub mod Visits
+pub mod Several

@@ -113,6 +113,10 @@ module _ {V : Type 0} (ev : V → List ℕ) (l : Limits) (limit : ℕ) where
   done_later : (old mid new : View V) (o : Call V) (answer : Option V) → Goes old mid → IsDone ev l limit mid new o answer → IsDone ev l limit old new o answer
   done_later old mid new o answer goes h = record { front = h.front; made = made_from old mid h.front o answer goes h.made; goes = h.goes }
 
+  pub answers_from : (old mid new : View V) (o : Call V) (r : Result (Option V) Refusal) → Goes old mid → AnswersBy ev l limit mid new o r → AnswersBy ev l limit old new o r
+  answers_from old mid new o (Ok answer) goes h = done_later old mid new o answer goes h
+  answers_from old mid new o (Err why) goes h = refused_from old mid new o why goes h
+
   -- it was read where it lies
   pub read_near : (old new : View V) (k : List ℕ) (answer : Option V) → IsFinished enc_text ev l old (op.Get k) answer new → IsDone ev l limit old new (op.Get k) answer
   read_near old new k answer h = record { front = new; made = get_made old new k answer h; goes = goes_self new }

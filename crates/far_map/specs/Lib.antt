@@ -11,3 +11,4 @@ pub mod Removals
 pub mod Visits
 pub mod Ends
 pub mod Runs
+pub mod Many

@@ -21,6 +21,7 @@ mod evicting;
 mod fault;
 mod holding;
 mod keeping;
+mod many;
 mod map;
 mod opening;
 mod placing;

@@ -11,6 +11,7 @@ use crate::values::Value;
 use far_device::Device;
 use hash_table::Refusal as TableRefusal;
 use std::sync::Wait;
+use std::thread::yield_now;
 use swapper::QueueNaming;
 use version_words::Naming;
 
@@ -31,12 +32,16 @@ fn empty_frame<V: Value, J: Naming, B: QueueNaming, D: Device, R: Wait>(
         Err(TableRefusal::Memory) => Err(Refusal::Memory),
         Err(TableRefusal::Device) => Err(Refusal::Device),
         Err(TableRefusal::NamesSpent) => Err(Refusal::NamesSpent),
-        _ => Ok(()),
+        Ok(true) => Ok(()),
+        _ => {
+            yield_now();
+            Ok(())
+        }
     }
 }
 
-/// Makes room after a refusal: a frame where none was free, and spares go where too many wait. Every other refusal is the
-/// call's.
+/// Makes room after a refusal: a frame where none was free, and spares go where too many wait. Where none was made, those who hold
+/// it, and may wait for this thread's processor, go first. Every other refusal is the call's.
 pub(crate) fn make_room<V: Value, J: Naming, B: QueueNaming, D: Device, R: Wait>(
     rt: &R,
     map: &FarMap<V, J, B, D>,
@@ -51,7 +56,9 @@ pub(crate) fn make_room<V: Value, J: Naming, B: QueueNaming, D: Device, R: Wait>
         TableRefusal::NoFrame => empty_frame(rt, map, seated),
         TableRefusal::LimboFull => {
             map.settle(rt, seated);
-            map.collect(rt);
+            if !map.collect(rt) {
+                yield_now();
+            }
             Ok(())
         }
         _ => Err(said(refusal)),

@@ -4,6 +4,7 @@
 mod evicting;
 mod frames;
 mod lanes;
+mod many;
 mod mixed;
 mod plain;
 mod table;
@@ -22,6 +23,7 @@ const USAGE: &str = "usage: farbench words ROUNDS
        farbench lanes ROUNDS
        farbench table BUCKETS ROUNDS
        farbench evicting FRAMES
+       farbench many KEYS ROUNDS
        farbench plain BUCKETS <FILE
        farbench mixed VALUE BUCKETS FRAMES [DIR]";
 
@@ -53,6 +55,7 @@ where
         ("lanes", None, None) => lanes::measure(rt, count),
         ("table", Some(rounds), None) => table::measure(rt, count, rounds),
         ("evicting", None, None) => evicting::measure(rt, count),
+        ("many", Some(rounds), None) => many::measure(rt, host, count, rounds),
         ("plain", None, None) => plain::run(rt, count),
         ("mixed", Some(buckets), Some(frames)) => {
             let folder = folder.as_ref().map(|name| name.as_str());

@@ -288,6 +288,13 @@ impl<K: FarObject, V: FarObject, J: Naming> Frames<K, V, J> {
         self.vacant.count().min(self.count())
     }
 
+    /// Begins to load the frame, for a call that is about to read it. Nothing is claimed of it.
+    pub fn prefetch(&self, frame: u32) {
+        if let Some(slot) = self.slots.get(frame as usize) {
+            let _ = slot.load();
+        }
+    }
+
     /// Says that the frame was read. Nothing is claimed of it.
     pub fn touch(&self, frame: u32) {
         if (frame as usize) < self.slots.len() {

@@ -4,6 +4,7 @@ mod blobs;
 mod bounded;
 mod crowded;
 mod holds;
+mod many;
 mod moves;
 mod numbers;
 mod planets;
