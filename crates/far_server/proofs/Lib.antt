@@ -1,8 +1,9 @@
+mod Going
 mod Trying
 mod Pushed
 mod Held
-mod Removing
 mod Several
+mod Swept
 mod Placing
 mod Executing
 mod Passing

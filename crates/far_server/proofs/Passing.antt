@@ -1,5 +1,5 @@
 -- Who may ask.
-use Rattle.std.proofs.Common.{◌≡◌, ℕ, true, false, List, Option, Some, None}
+use Rattle.std.proofs.Common.{◌≡◌, ℕ, true, List, Option, Some, None}
 use Rattle.std.proofs.lemmas.Bool.{false≢true}
 use Rattle.commands.specs.declared.command.Command.{Command}
 use Rattle.commands.specs.Commands.{Spells}

@@ -1,5 +1,5 @@
 -- Connections at the places of their numbers.
-use Rattle.std.proofs.Common.{◌≡◌, ◌≢◌, ◌<◌, ℕ, Bool, Option, None, List, length, map, slice_index_or, slice_set, sym, ap, ◌∙◌, arith}
+use Rattle.std.proofs.Common.{◌≡◌, ◌≢◌, ◌<◌, ℕ, Bool, Option, None, List, length, map, slice_index_or, slice_set, ap, ◌∙◌, arith}
 use Rattle.std.proofs.lemmas.List.{map-set, get_or-set_same, get_or-set_other, length-map}
 use Rattle.far_server.specs.declared.connection.Connection.{Connection}
 use Rattle.far_server.specs.declared.queue.Queue.{Queue}

@@ -1,5 +1,5 @@
 -- Commands on several keys: one key more.
-use Rattle.std.proofs.Common.{◌≡◌, ℕ, Bool, MatchBool, List, [], ◌∷◌, ◌++◌, refl, sym, ap, subst, ◌∙◌}
+use Rattle.std.proofs.Common.{◌≡◌, ℕ, Bool, MatchBool, List, [], ◌∷◌, ◌++◌, refl, sym, ap, subst}
 use Rattle.table_core.specs.declared.limits.Limits.{Limits}
 use Rattle.resp.specs.Replies.{Token, token}
 use Rattle.key_commands.specs.declared.asked.KeyCommand.{KeyCommand}

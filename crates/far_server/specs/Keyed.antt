@@ -1,5 +1,5 @@
 -- What a command on one key does with its session, and what it replies.
-use Rattle.std.specs.Prelude.{◌≡◌, ◌≢◌, ◌⊎◌, ℕ, zero, suc, Bool, true, false, List, ◌++◌, Option, Some, None, Result, Ok, Err}
+use Rattle.std.specs.Prelude.{◌≡◌, ◌≢◌, ◌⊎◌, ℕ, Bool, true, false, List, Option, Some, None, Result, Ok, Err}
 use Rattle.table_core.specs.declared.limits.Limits.{Limits}
 use Rattle.table_core.specs.declared.operation.Operation.TheVariants as op
 use Rattle.table_core.specs.Maps.{key_of}
@@ -11,6 +11,7 @@ use Rattle.key_commands.specs.declared.asked.Effect.TheVariants as effects
 use Rattle.key_commands.specs.Doing.{Does}
 use Rattle.far_map.specs.declared.refusal.Refusal.{Refusal}
 use Rattle.far_server.specs.Sessions.{Session, Call, Called}
+use Rattle.far_server.specs.Steps.{Steps}
 use Rattle.far_server.specs.Refusing.{text_of, overtaken, no_room}
 
 -- a call on this key that was answered so leaves the map as it was
@@ -32,14 +33,9 @@ module _ (l : Limits) (k : List ℕ) where
   abbrev pub IsIdle : Session → Session → Type 0
   IsIdle old new = MakesIdleCall old new ⊎ Goes old.pass new.pass
 
-  -- so many steps, which left the map as it was
-  abbrev pub AreIdle : ℕ → Session → Session → Type 0
-  AreIdle zero old new = old ≡ new
-  AreIdle (suc n) old new = (mid : Session) × AreIdle n old mid × IsIdle mid new
-
-  -- some
+  -- some steps, which left the map as it was
   abbrev pub Idles : Session → Session → Type 0
-  Idles old new = (n : ℕ) × AreIdle n old new
+  Idles old new = Steps IsIdle old new
 
   -- the change of a value that was found, which is still there: none, or one call
   abbrev pub Changes : Effect → Option (List ℕ) → List ℕ → Session → Session → Type 0

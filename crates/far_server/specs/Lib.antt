@@ -1,8 +1,10 @@
 pub mod Sessions
+pub mod Steps
 pub mod Refusing
 pub mod Keyed
 pub mod Many
 pub mod Flushes
+pub mod Sweeps
 pub mod Queues
 pub mod Logins
 pub mod Runs

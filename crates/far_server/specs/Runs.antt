@@ -1,12 +1,10 @@
 -- What a request does with its session, and what it replies.
-use Rattle.std.specs.Prelude.{◌≡◌, ◌⊎◌, ℕ, List, [], ◌∷◌, ◌++◌, MatchOption}
-use denote.Ref.{Bor}
+use Rattle.std.specs.Prelude.{◌≡◌, ◌⊎◌, ℕ, List, [], ◌∷◌, MatchOption}
 use Rattle.table_core.specs.declared.limits.Limits.{Limits}
 use Rattle.version_words.specs.Views.{Goes}
 use Rattle.resp.specs.Replies.{Token, Failure}
 use Rattle.commands.specs.Arguments.{listed}
 use Rattle.commands.specs.Commands.{Spells}
-use Rattle.commands.specs.declared.arguments.Arguments.{Arguments}
 use Rattle.commands.specs.declared.command.Command.{Command}
 use Rattle.commands.specs.declared.command.Command.TheVariants as command
 use Rattle.commands.specs.declared.name.OfKeys.{OfKeys}

@@ -1,5 +1,5 @@
 -- What a lane does, from the bytes that it reads to those that it writes.
-use Rattle.std.specs.Prelude.{◌≡◌, ℕ, List, Option}
+use Rattle.std.specs.Prelude.{◌≡◌, ℕ, ◌<◌, ◌≤◌, List, Option, IfOk}
 use Rattle.std.specs.Io.KnownBytes.{Consumes, Appends}
 use Rattle.table_core.specs.declared.limits.Limits.{Limits}
 use Rattle.resp.specs.declared.limits.Limits.{Limits as LimitsOfRequests}
@@ -8,6 +8,10 @@ use Rattle.lanes.specs.Served.{Served}
 use Rattle.lanes.specs.Frames.{frames_bytes}
 use Rattle.far_server.specs.Sessions.{Session}
 use Rattle.far_server.specs.Services.{Lane, IsNew, Acts}
+use Rattle.far_server.specs.Sweeps.{Sweeps}
+use Rattle.far_server.specs.declared.settings.ServerSettings.{ServerSettings}
+use Rattle.far_server.specs.declared.lane.WorkerEnd.{WorkerEnd}
+use Rattle.far_server.specs.declared.lane.WorkerEnd.TheVariants as worker_end
 
 module _ {In Out : Type 0} (remaining : In → Option (List ℕ)) (contents : Out → Option (List ℕ)) (Opens : In → Out → Type 0) where
   -- From the reader and the writer that were opened for it a lane took frames, and sent frames: on each connection the replies to the
@@ -26,3 +30,9 @@ module _ {In Out : Type 0} (remaining : In → Option (List ℕ)) (contents : Ou
     pub begun : first.session ≡ old
     pub ended : last.session ≡ new
     pub served : Served (Acts l password most) limits first last came sent
+
+  -- A worker of a server did its work: a lane served, or behind all lanes the sweep took keys out.
+  abbrev pub IsWork : Limits → ServerSettings → ℕ → Session → Session → WorkerEnd In Out → Type 0
+  IsWork l settings worker old new (worker_end.Lane served) =
+      (worker < settings.lanes) × IfOk served (λ parts. Serves l settings.password settings.longest_value settings.requests old new parts.0 parts.1)
+  IsWork l settings worker old new worker_end.Sweep = (settings.lanes ≤ worker) × Sweeps l settings.options.evicts old new

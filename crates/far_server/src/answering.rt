@@ -16,7 +16,7 @@ use crate::queue::Queue;
 use crate::running::run;
 use crate::settings::ServerSettings;
 use crate::single::{push_one_failure, push_one_fault, push_one_simple};
-use commands::{Arguments, Command, Fault, OfNothing, ServerCommand, read};
+use commands::{Arguments, Command, Fault, Name, OfNothing, ServerCommand, Special, read};
 use far_blob::Blob;
 use far_map::Calls;
 use lanes::Next;
@@ -36,18 +36,20 @@ const SPOILT: &[u8] = b"EXECABORT Transaction discarded because of previous erro
 const FULL_QUEUE: &[u8] = b"ERR too many bytes wait for EXEC";
 
 /// Whether EXEC is to run none of the requests behind a MULTI of which one has this fault: it has a wrong name, or a wrong count of
-/// arguments. Of other faults EXEC replies.
-fn spoils(fault: &Fault<'_>) -> bool {
-    matches!(
-        fault,
+/// arguments. Of other faults EXEC replies, and of counts of PING and MSET that these commands themselves refuse.
+fn spoils(fault: &Fault<'_>, arguments: usize) -> bool {
+    match fault {
+        Fault::Count(Name::Special(Special::Ping)) => false,
+        Fault::Count(Name::Special(Special::MSet)) => arguments < 3,
         Fault::Unknown(_)
-            | Fault::Refused(_)
-            | Fault::Keys
-            | Fault::Subcommand(_, _)
-            | Fault::Count(_)
-            | Fault::SubcommandCount(_)
-            | Fault::SlowLogCount(_)
-    )
+        | Fault::Refused(_)
+        | Fault::Keys
+        | Fault::Subcommand(_, _)
+        | Fault::Count(_)
+        | Fault::SubcommandCount(_)
+        | Fault::SlowLogCount(_) => true,
+        _ => false,
+    }
 }
 
 /// Has a request wait for EXEC, unless its fault is one that EXEC has no reply for.
@@ -62,7 +64,7 @@ fn wait(
     ensures { OnOk result ((rs : List Token) × (reply.new.items ≡ reply.old.items ++ flat_map token rs) × IsHeld (waiting queue.old) (waiting queue.new) (listed request.entry) rs) }
 {
     if let Err(fault) = asked {
-        if spoils(&fault) {
+        if spoils(&fault, request.spans.len()) {
             queue.spoil();
             return push_one_fault(reply, fault);
         }

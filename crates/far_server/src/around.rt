@@ -1,9 +1,13 @@
 //! What the connections of a lane share.
 
+use crate::deadlines::has_deadline;
 use crate::settings::ServerSettings;
-use crate::tally::{Tallies, Tally};
+use crate::tally::{Tallies, Tally, count};
+use crate::usage::FarUsage;
+use far_map::Traffic;
 use std::alloc::Global;
 use std::rt::Clock;
+use std::thread::Parker;
 use std::time::{Duration, SystemTime, UNIX_EPOCH};
 
 /// What all lanes share, and which lane it is.
@@ -14,6 +18,8 @@ pub(crate) struct Around<'a, C, R> {
     pub(crate) alloc: Global,
     pub(crate) settings: &'a ServerSettings,
     pub(crate) tallies: &'a Tallies,
+    pub(crate) usage: &'a FarUsage,
+    /// Its number; that of the sweep is behind those of all lanes.
     pub(crate) lane: u32,
     /// When the server was started.
     pub(crate) started: u64,
@@ -26,7 +32,7 @@ impl<C, R> Around<'_, C, R> {
     }
 }
 
-/// What a lane uses again and again.
+/// What a worker uses again and again.
 #[derive(Drop)]
 pub(crate) struct Desk {
     /// Where a new value is made.
@@ -36,6 +42,39 @@ pub(crate) struct Desk {
     pub(crate) told: Tally,
     /// Bytes that objects in frames may have.
     pub(crate) most_in_frames: u64,
+    /// Whether the sweep makes room, so that it is worth waiting for.
+    pub(crate) is_swept: bool,
+    /// Where it sleeps while it waits. Nobody wakes it.
+    pub(crate) bed: Parker,
+}
+
+impl Desk {
+    pub(crate) fn new(alloc: Global, settings: &ServerSettings) -> Desk {
+        let tally = Tally::default();
+        Desk {
+            stored: Vec::new(alloc),
+            tally,
+            told: tally,
+            most_in_frames: settings.map.bytes,
+            is_swept: settings.options.evicts,
+            bed: Parker::new(),
+        }
+    }
+
+    /// Counts a key that was set to what is stored here, and had none before or some.
+    pub(crate) fn count_set(&mut self, was_none: bool) {
+        self.tally.count_set(was_none);
+        if has_deadline(self.stored.as_slice()) {
+            count(&mut self.tally.dated);
+        }
+    }
+
+    /// Tells what was counted, and what the session has read and moved.
+    pub(crate) fn tell<C, R>(&mut self, around: &Around<'_, C, R>, traffic: &Traffic) {
+        self.tally.see(traffic);
+        around.tallies.tell(around.lane, &self.told, &self.tally);
+        self.told = self.tally;
+    }
 }
 
 /// The milliseconds since 1970. 0 where the clock can't be read.

@@ -13,6 +13,7 @@ ghost use Rattle.table_core.specs.Lent.{lent_value};
 ghost use Rattle.far_server.specs.Keyed.{IsSettled, IsTried, IsEnded, IsKeyed};
 
 use crate::around::Desk;
+use crate::deadlines::is_over;
 use crate::refusing::{NO_ROOM, OVERTAKEN, text_of};
 use crate::room::{has_room, may_grow};
 use crate::tally::{Tally, count};
@@ -82,7 +83,9 @@ fn put_over<S: Calls<Blob>, R: Wait>(
     match me.put_if(rt, key, found, &value) {
         Ok(before) => {
             let is_done = are_same(before.as_ref(), found);
-            desk.tally.count_set(is_done, found.is_none());
+            if is_done {
+                desk.count_set(found.is_none());
+            }
             Ok(is_done)
         }
         Err(why) => Err(why),
@@ -109,7 +112,7 @@ fn take_out<S: Calls<Blob>, R: Wait>(
 }
 
 /// Makes the change of a value that was found, where it is still there: whether it was.
-fn settle<S: Calls<Blob>, R: Wait>(
+fn change<S: Calls<Blob>, R: Wait>(
     rt: &R,
     alloc: Global,
     me: &mut S,
@@ -125,6 +128,25 @@ fn settle<S: Calls<Blob>, R: Wait>(
         (Effect::Removes, Some(found)) => take_out(rt, me, key, found, desk),
         _ => Ok(true),
     }
+}
+
+/// The same, of a value that may be expired, which is counted once it is gone.
+fn settle<S: Calls<Blob>, R: Wait>(
+    rt: &R,
+    alloc: Global,
+    me: &mut S,
+    key: &Text,
+    found: Option<&Blob>,
+    is_expired: bool,
+    effect: Effect,
+    desk: &mut Desk,
+) -> Result<bool, Refusal>
+    ensures { IsSettled S.limits key.now (lent_value found.entry) effect desk.old.stored.items (S.shown me.old) (S.shown me.new) result }
+{
+    let settled = change(rt, alloc, me, key, found, effect, desk);
+    desk.tally
+        .count_expired(is_expired && matches!(settled, Ok(true)));
+    settled
 }
 
 /// Whether both are none, or the same bytes.
@@ -156,6 +178,14 @@ fn count_found(tally: &mut Tally, command: KeyCommand<'_>, is_found: bool) {
     }
 }
 
+/// Whether a value was found that is expired at this time.
+fn has_expired(found: &Option<Blob>, now: u64) -> bool {
+    match found {
+        Some(value) => is_over(value, now),
+        None => false,
+    }
+}
+
 /// One try, whose reply is pushed: whether it is done. Else anything may be pushed.
 fn try_once<S: Calls<Blob>, R: Wait>(
     rt: &R,
@@ -172,9 +202,14 @@ fn try_once<S: Calls<Blob>, R: Wait>(
         Ok(found) => found,
         Err(why) => return Err(why),
     };
-    count_found(&mut desk.tally, asking.command, found.is_some());
+    let is_expired = has_expired(&found, asking.now);
+    count_found(
+        &mut desk.tally,
+        asking.command,
+        found.is_some() && !is_expired,
+    );
     match apply_to(asking, found.as_ref(), &mut desk.stored, reply) {
-        Ok(effect) => settle(rt, alloc, me, key, found.as_ref(), effect, desk),
+        Ok(effect) => settle(rt, alloc, me, key, found.as_ref(), is_expired, effect, desk),
         Err(why) => Err(why),
     }
 }
@@ -205,7 +240,7 @@ fn set_blindly<S: Calls<Blob>, R: Wait>(
     };
     match me.put(rt, key, &value) {
         Ok(before) => {
-            desk.tally.count_set(true, before.is_none());
+            desk.count_set(before.is_none());
             Ok(true)
         }
         Err(why) => Err(why),
@@ -305,7 +340,7 @@ fn answer_in_room<S: Calls<Blob>, R: Wait>(
     ensures done { OnOk result ((r : Token) × (reply.new.items ≡ reply.old.items ++ token r) × IsKeyed S.limits key.now asking.entry.command asking.entry.now asking.entry.most (S.shown me.old) (S.shown me.new) r) }
     ensures kept { OnErr result (reply.new.items ≡ reply.old.items) }
 {
-    if has_room(rt, me, desk.most_in_frames) {
+    if has_room(rt, me, desk) {
         return answer_now(rt, alloc, me, key, asking, desk, reply);
     }
     count(&mut desk.tally.refused_memory);

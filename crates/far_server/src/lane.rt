@@ -1,4 +1,4 @@
-//! What each lane of a server does.
+//! What each worker of a server does: it is a lane, or behind all lanes the sweep.
 ghost use Rattle.std.specs.Prelude.{◌≡◌, List, IfOk, OnOk};
 ghost use Rattle.std.specs.Io.KnownBytes.{Consumes, Appends};
 ghost use Rattle.lanes.specs.Lanes.{Frame};
@@ -11,7 +11,9 @@ use crate::around::Around;
 use crate::pipes::{OpenFault, Pipes};
 use crate::server::{Kept, Server};
 use crate::settings::ServerSettings;
+use crate::sweeping::sweep;
 use crate::tally::Tallies;
+use crate::usage::FarUsage;
 use far_blob::Blob;
 use far_map::{Calls, Work};
 use lanes::{LaneFault, serve_over};
@@ -33,11 +35,21 @@ pub enum LaneEnd {
     Lane(LaneFault),
 }
 
+/// What a worker of a server gives back.
+#[derive(Drop)]
+pub enum WorkerEnd<I: Drop, O: Drop> {
+    /// A lane: its reader and writer, where it served to their end.
+    Lane(Result<(I, O), LaneEnd>),
+    /// The sweep, which is the last worker.
+    Sweep,
+}
+
 /// The lanes of a server, and what they share.
 #[derive(Drop)]
 pub(crate) struct Lanes<'a, P, C> {
     pub(crate) settings: &'a ServerSettings,
     pub(crate) tallies: &'a Tallies,
+    pub(crate) usage: &'a FarUsage,
     pub(crate) pipes: &'a P,
     pub(crate) clock: &'a C,
     pub(crate) started: u64,
@@ -91,13 +103,12 @@ where
     P::Input: Send,
     P::Output: Send,
 {
-    ghost use Rattle.std.specs.Prelude.{IfOk};
-    ghost use Rattle.far_server.specs.Serving.{Serves};
+    ghost use Rattle.far_server.specs.Serving.{IsWork};
 
-    type Out = Result<(P::Input, P::Output), LaneEnd>;
+    type Out = WorkerEnd<P::Input, P::Output>;
 
-    // On each connection the replies to its requests, by the calls of the lane's session and no others.
-    ghost done = { λ lanes worker l begun ended out. IfOk out (λ parts. Serves P.Input.remaining P.Output.contents (P.opens lanes.pipes.now worker) l lanes.settings.now.password lanes.settings.now.longest_value lanes.settings.now.requests begun ended parts.0 parts.1) };
+    // On each connection the replies to its requests, by the calls of the lane's session and no others; and what the sweep may do.
+    ghost done = { λ lanes worker l begun ended end. IsWork P.Input.remaining P.Output.contents (P.opens lanes.pipes.now worker) l lanes.settings.now worker begun ended end };
 
     fn work<S: Calls<Blob>, R: Wait>(
         &self,
@@ -105,16 +116,23 @@ where
         alloc: Global,
         worker: u32,
         me: &mut S,
-    ) -> Result<(P::Input, P::Output), LaneEnd> {
+    ) -> WorkerEnd<P::Input, P::Output> {
         let around = Around {
             rt,
             clock: self.clock,
             alloc,
             settings: self.settings,
             tallies: self.tallies,
+            usage: self.usage,
             lane: worker,
             started: self.started,
         };
-        serve(&around, me, self.pipes)
+        if worker < self.settings.lanes {
+            let served = serve(&around, me, self.pipes);
+            self.tallies.end_lane();
+            return WorkerEnd::Lane(served);
+        }
+        sweep(&around, me);
+        WorkerEnd::Sweep
     }
 }

@@ -4,6 +4,7 @@
 mod answering;
 mod around;
 mod connection;
+mod deadlines;
 mod keyed;
 mod lane;
 mod login;
@@ -17,15 +18,19 @@ mod running;
 mod server;
 mod settings;
 mod single;
+mod sweeping;
 mod tally;
 mod telling;
 mod top;
+mod usage;
 mod visiting;
 
-pub use lane::LaneEnd;
+pub use lane::{LaneEnd, WorkerEnd};
+pub use lanes::{FrameFault, LaneFault};
 pub use pipes::{OpenFault, Pipes};
 pub use settings::ServerSettings;
 pub use top::run_server;
+pub use usage::FarUsage;
 
 #[cfg(test)]
 mod tests;

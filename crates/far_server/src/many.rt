@@ -1,15 +1,19 @@
 //! Commands on several keys: one after another, each by calls of its own.
-ghost use Rattle.std.specs.Prelude.{◌≡◌, ◌<◌, ◌^◌, ◌++◌, ◌∷◌, ℕ, List, length, MatchBool, MatchOption, IfSome, IsTrue, OnOk};
+ghost use Rattle.std.specs.Prelude.{◌≡◌, ◌<◌, ◌^◌, ◌++◌, ◌∷◌, ℕ, List, length, MatchBool, MatchOption, IfSome, IsTrue, OnOk, OnErr};
 ghost use Rattle.std.specs.List.{flat_map};
 ghost use Rattle.resp.specs.Replies.{Token, token};
 ghost use Rattle.commands.specs.Arguments.{listed};
+ghost use Rattle.version_words.specs.Views.{Goes};
+ghost use Rattle.far_server.specs.Keyed.{IsKeyed};
 ghost use Rattle.far_server.specs.Many.{one, none, ok, counted, IsCountedEach, IsListedEach, IsSetEach};
 
 use crate::around::Desk;
 use crate::keyed::{Asking, answer_key};
 use commands::{Arguments, Change, Lifetime, Where};
 use far_blob::Blob;
-use far_map::Calls;
+use far_map::{Calls, text};
+use far_object::Text;
+use hash_table::MOST_PREFETCHED;
 use key_commands::KeyCommand;
 use resp::{push_count, push_number, push_simple};
 use std::alloc::{AllocError, Global};
@@ -60,6 +64,63 @@ fn counted(is_one: bool, count: u64) -> u64
     }
 }
 
+/// The next keys, each so many arguments behind the one before: as many as a prefetch takes, and memory is there for.
+fn next_keys(alloc: Global, rest: Arguments<'_>, step: usize) -> Vec<Text> {
+    let mut keys = Vec::new(alloc);
+    let mut at: usize = 0;
+    for _ in 0..MOST_PREFETCHED {
+        let Some(key) = rest.get(at) else {
+            break;
+        };
+        let Ok(key) = text(alloc, key) else {
+            break;
+        };
+        if keys.push(key).is_err() {
+            break;
+        }
+        at = at.saturating_add(step);
+    }
+    keys
+}
+
+/// Of a command with so many arguments for keys, each key so many behind the one before, and the others left: begins to load what is
+/// about to be read of the next ones, where that is due.
+fn look_ahead<S: Calls<Blob>>(
+    alloc: Global,
+    me: &mut S,
+    all: usize,
+    step: usize,
+    rest: Arguments<'_>,
+)
+    ensures { Goes (S.shown me.old).pass (S.shown me.new).pass }
+{
+    let left = rest.len();
+    let is_due = left == all || left % MOST_PREFETCHED.saturating_mul(step).max(1) == 0;
+    if is_due && left > step {
+        me.prefetch(next_keys(alloc, rest, step).as_slice());
+    }
+}
+
+/// Carries a command out on a key, the first of those that are left, and pushes its reply, as `answer_key` does.
+fn answer_next<S: Calls<Blob>, R: Wait>(
+    rt: &R,
+    alloc: Global,
+    me: &mut S,
+    key: &[u8],
+    all: usize,
+    step: usize,
+    rest: Arguments<'_>,
+    asking: Asking<'_>,
+    desk: &mut Desk,
+    reply: &mut Vec<u8>,
+) -> Result<(), AllocError>
+    ensures done { OnOk result ((r : Token) × (reply.new.items ≡ reply.old.items ++ token r) × IsKeyed S.limits key.now asking.entry.command asking.entry.now asking.entry.most (S.shown me.old) (S.shown me.new) r) }
+    ensures kept { OnErr result (reply.new.items ≡ reply.old.items) }
+{
+    look_ahead(alloc, me, all, step, rest);
+    answer_key(rt, alloc, me, key, asking, desk, reply)
+}
+
 /// Carries a command out on each key, and replies how many replied 1. Where one replies an error, that is the reply, and the keys
 /// behind it are left.
 pub(crate) fn count_keys<S: Calls<Blob>, R: Wait>(
@@ -77,7 +138,7 @@ pub(crate) fn count_keys<S: Calls<Blob>, R: Wait>(
     let mut count: u64 = 0;
     let mut rest = keys;
     while let Some((key, behind)) = rest.split_first() {
-        match answer_key(rt, alloc, me, key, asking, desk, reply) {
+        match answer_next(rt, alloc, me, key, keys.len(), 1, rest, asking, desk, reply) {
             Ok(()) => {}
             Err(refused) => return Err(refused),
         }
@@ -109,7 +170,7 @@ pub(crate) fn get_keys<S: Calls<Blob>, R: Wait>(
     }
     let mut rest = keys;
     while let Some((key, behind)) = rest.split_first() {
-        match answer_key(rt, alloc, me, key, asking, desk, reply) {
+        match answer_next(rt, alloc, me, key, keys.len(), 1, rest, asking, desk, reply) {
             Ok(()) => {}
             Err(refused) => return Err(refused),
         }
@@ -155,7 +216,18 @@ pub(crate) fn set_pairs<S: Calls<Blob>, R: Wait>(
             change: PLAIN,
         };
         let asking = Asking { command, now, most };
-        match answer_key(rt, alloc, me, key, asking, desk, reply) {
+        match answer_next(
+            rt,
+            alloc,
+            me,
+            key,
+            pairs.len(),
+            2,
+            rest,
+            asking,
+            desk,
+            reply,
+        ) {
             Ok(()) => {}
             Err(refused) => return Err(refused),
         }

@@ -4,7 +4,7 @@ ghost use Rattle.std.specs.Prelude.{◌≡◌, []};
 use crate::around::{Around, Desk};
 use crate::connection::Connection;
 use crate::places::{answer_at, forget, make_places};
-use crate::tally::{Tally, count};
+use crate::tally::count;
 use commands::{Arguments, Span};
 use far_blob::Blob;
 use far_map::Calls;
@@ -49,18 +49,12 @@ impl<'a, S: Calls<Blob>, C: Clock, R: Wait> Server<'a, S, C, R, Kept> {
         ensures around { result.around.now ≡ around.now }
         ensures connections { result.kept.connections.items ≡ [] }
     {
-        let tally = Tally::default();
         Server {
             me,
             around,
             kept: Kept {
                 connections: Vec::new(around.alloc),
-                desk: Desk {
-                    stored: Vec::new(around.alloc),
-                    tally,
-                    told: tally,
-                    most_in_frames: around.settings.map.bytes,
-                },
+                desk: Desk::new(around.alloc, around.settings),
             },
         }
     }
@@ -72,12 +66,7 @@ impl<'a, S: Calls<Blob>, C: Clock, R: Wait> Server<'a, S, C, R, Kept> {
         ensures around { self.new.around.now ≡ self.old.around.now }
         ensures connections { self.new.kept.connections.items ≡ self.old.kept.connections.items }
     {
-        self.kept.desk.tally.see(&self.me.traffic());
-        let now = self.kept.desk.tally;
-        self.around
-            .tallies
-            .tell(self.around.lane, &self.kept.desk.told, &now);
-        self.kept.desk.told = now;
+        self.kept.desk.tell(self.around, &self.me.traffic());
     }
 }
 

@@ -9,6 +9,8 @@ use server_commands::Options;
 pub struct ServerSettings {
     /// The map.
     pub map: Settings,
+    /// Whether its devices keep anything. Else all stays in frames.
+    pub is_far: bool,
     /// Threads that answer, each with a pipe of requests and one of replies.
     pub lanes: u32,
     /// What a request may have.
@@ -21,6 +23,6 @@ pub struct ServerSettings {
     pub far_limit: u64,
     /// The SHA-256 digest of the password, and none where none is asked for.
     pub password: Option<[u8; 32]>,
-    /// What CONFIG GET answers.
+    /// What CONFIG GET answers; where it says that keys are evicted, they are.
     pub options: Options,
 }

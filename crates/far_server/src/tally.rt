@@ -2,7 +2,7 @@
 
 use far_map::{Refusal, Traffic};
 use std::alloc::{AllocError, Global};
-use std::sync::atomic::{AtomicU64, Ordering};
+use std::sync::atomic::{AtomicU32, AtomicU64, Ordering};
 
 /// What a lane has counted since the start.
 #[derive(Clone, Copy, Debug, Default, PartialEq, Eq)]
@@ -17,7 +17,12 @@ pub(crate) struct Tally {
     /// Commands that found a value to read, and those that found none.
     pub(crate) hits: u64,
     pub(crate) misses: u64,
+    /// Values that were expired when they were met, and taken out or replaced.
     pub(crate) expired: u64,
+    /// Keys that were taken out to make room.
+    pub(crate) evicted: u64,
+    /// Values with a deadline that were set.
+    pub(crate) dated: u64,
     /// Calls of the map, and moves, that drew a name.
     pub(crate) names: u64,
     pub(crate) local_reads: u64,
@@ -31,7 +36,7 @@ pub(crate) struct Tally {
 }
 
 /// How many numbers a tally has.
-const NUMBERS: usize = 17;
+const NUMBERS: usize = 19;
 
 /// One more.
 pub(crate) fn count(number: &mut u64) {
@@ -48,12 +53,10 @@ impl Tally {
         self.device_failures = traffic.device_failures;
     }
 
-    /// Counts a key that was set, where it had none.
-    pub(crate) fn count_set(&mut self, is_done: bool, was_none: bool) {
-        if is_done {
-            count(&mut self.names);
-        }
-        if is_done && was_none {
+    /// Counts a key that was set, and had none before or some.
+    pub(crate) fn count_set(&mut self, was_none: bool) {
+        count(&mut self.names);
+        if was_none {
             count(&mut self.gained);
         }
     }
@@ -64,6 +67,19 @@ impl Tally {
             count(&mut self.names);
             count(&mut self.lost);
         }
+    }
+
+    /// Counts an expired value, where it is gone.
+    pub(crate) fn count_expired(&mut self, is_gone: bool) {
+        if is_gone {
+            count(&mut self.expired);
+        }
+    }
+
+    /// Counts keys that were taken out to make room, where so many had lost their value before.
+    pub(crate) fn count_evictions(&mut self, lost: u64) {
+        let evicted = self.lost.wrapping_sub(lost);
+        self.evicted = self.evicted.wrapping_add(evicted);
     }
 
     /// Counts a command that the map refused.
@@ -88,6 +104,8 @@ impl Tally {
             self.hits,
             self.misses,
             self.expired,
+            self.evicted,
+            self.dated,
             self.names,
             self.local_reads,
             self.far_reads,
@@ -110,40 +128,58 @@ impl Tally {
             hits: numbers[5],
             misses: numbers[6],
             expired: numbers[7],
-            names: numbers[8],
-            local_reads: numbers[9],
-            far_reads: numbers[10],
-            swap_ins: numbers[11],
-            swap_outs: numbers[12],
-            device_failures: numbers[13],
-            refused_memory: numbers[14],
-            refused_full: numbers[15],
-            refused_device: numbers[16],
+            evicted: numbers[8],
+            dated: numbers[9],
+            names: numbers[10],
+            local_reads: numbers[11],
+            far_reads: numbers[12],
+            swap_ins: numbers[13],
+            swap_outs: numbers[14],
+            device_failures: numbers[15],
+            refused_memory: numbers[16],
+            refused_full: numbers[17],
+            refused_device: numbers[18],
         }
     }
 }
 
-/// What each lane last told. A lane writes its own numbers alone, so that none waits for another.
+/// What each lane, and the sweep behind them, last told. Each writes its own numbers alone, so that none waits for another.
 #[derive(Drop)]
 pub(crate) struct Tallies {
     told: Vec<AtomicU64>,
     /// How many connections have got a number.
     ids: AtomicU64,
+    /// How many lanes have not ended.
+    serving: AtomicU32,
 }
 
 /// How far the numbers of a lane are from those of the next one: whole lines of the cache.
 const STRIDE: usize = 32;
 
 impl Tallies {
+    /// For so many lanes, and the sweep.
     pub(crate) fn new(alloc: Global, lanes: u32) -> Result<Tallies, AllocError> {
         let mut told = Vec::new(alloc);
-        for _ in 0..lanes {
+        for _ in 0..=lanes {
             for _ in 0..STRIDE {
                 told.push(AtomicU64::new(0))?;
             }
         }
-        let ids = AtomicU64::new(0);
-        Ok(Tallies { told, ids })
+        Ok(Tallies {
+            told,
+            ids: AtomicU64::new(0),
+            serving: AtomicU32::new(lanes),
+        })
+    }
+
+    /// A lane has ended.
+    pub(crate) fn end_lane(&self) {
+        self.serving.fetch_sub(1, Ordering::SeqCst);
+    }
+
+    /// Whether a lane has not ended.
+    pub(crate) fn is_serving(&self) -> bool {
+        self.serving.load(Ordering::SeqCst) > 0
     }
 
     /// A number that no connection has got, from 1 on.
@@ -164,7 +200,7 @@ impl Tallies {
         }
     }
 
-    /// The sum over all lanes.
+    /// The sum over all that told.
     pub(crate) fn sum(&self) -> Tally {
         let mut numbers = [0u64; NUMBERS];
         for (place, told) in self.told.iter().enumerate() {

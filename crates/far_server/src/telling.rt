@@ -45,15 +45,22 @@ fn facts<S: Calls<Blob>, C, R>(around: &Around<'_, C, R>, me: &S, now: u64) -> F
         hits: sum.hits,
         misses: sum.misses,
         expired: sum.expired,
-        evicted: 0,
+        evicted: sum.evicted,
         local_hits: sum.local_reads,
         swap_outs: sum.swap_outs,
         swap_ins: sum.swap_ins,
         read_throughs: sum.far_reads.saturating_sub(sum.swap_ins),
-        device_failures: sum.device_failures,
+        // Where there is no device each of its refusals is a failure.
+        device_failures: if settings.is_far {
+            sum.device_failures
+        } else {
+            0
+        },
         refused_memory: sum.refused_memory,
         refused_full: sum.refused_full,
         refused_device: sum.refused_device,
+        far_objects: around.usage.objects(),
+        far_bytes: around.usage.bytes(),
         far_limit: settings.far_limit,
         names_left: settings.map.names.saturating_sub(sum.names),
     }

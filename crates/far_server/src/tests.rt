@@ -3,3 +3,4 @@
 mod asking;
 mod ends;
 mod pipes;
+mod sweeping;

@@ -6,9 +6,10 @@ ghost use Rattle.version_words.specs.Views.{Goes};
 ghost use Rattle.far_server.specs.Flushes.{Flushes};
 
 use crate::around::Desk;
+use crate::deadlines::is_over;
 use crate::refusing::text_of;
 use crate::single::{push_one_failure, push_one_nothing, push_one_simple, push_one_string};
-use commands::{Scan, is_expired, matches, read_stored};
+use commands::{Scan, matches};
 use far_blob::Blob;
 use far_map::{Calls, Refusal};
 use far_object::Text;
@@ -21,7 +22,7 @@ use std::sync::Wait;
 const BUCKETS_A_KEY: u64 = 10;
 
 /// The keys of a bucket, without those whose value is expired at this time; 0 for all.
-fn keys_in<S: Calls<Blob>, R: Wait>(
+pub(crate) fn keys_in<S: Calls<Blob>, R: Wait>(
     rt: &R,
     alloc: Global,
     me: &mut S,
@@ -34,11 +35,7 @@ fn keys_in<S: Calls<Blob>, R: Wait>(
     let mut keys = Vec::new(alloc);
     let mut is_short = false;
     let mut visit = |key: Text, value: Blob| {
-        let is_over = match read_stored(value.as_bytes()) {
-            Some((deadline, _)) => is_expired(deadline, now),
-            None => false,
-        };
-        if !is_over && keys.push(key).is_err() {
+        if !is_over(&value, now) && keys.push(key).is_err() {
             is_short = true;
         }
     };
@@ -224,7 +221,7 @@ pub(crate) fn answer_random_key<S: Calls<Blob>, R: Wait>(
 }
 
 /// Takes all keys out that the bucket had when it was visited.
-fn empty_bucket<S: Calls<Blob>, R: Wait>(
+pub(crate) fn empty_bucket<S: Calls<Blob>, R: Wait>(
     rt: &R,
     alloc: Global,
     me: &mut S,

@@ -31,6 +31,8 @@ pub struct Asked<'a> {
     pub folders: Vec<&'a str>,
     /// The most bytes in them.
     pub far_limit: u64,
+    /// Whether keys are taken out where all is full.
+    pub evicts: bool,
     pub buckets: Option<u32>,
     pub value_limit: u32,
     pub threads: u32,
@@ -77,7 +79,7 @@ fn with_sizes<'a>(alloc: Global, command: Command<'a>) -> Result<Command<'a>, Er
         alloc,
         "policy",
         "NAME",
-        "What happens where all is full; allkeys is not there yet [noeviction]",
+        "What happens where all is full: what needs room is refused, or with allkeys other keys are taken out [noeviction]",
     );
     let command = command
         .arg(memory.required(true))?
@@ -100,7 +102,7 @@ fn with_sizes<'a>(alloc: Global, command: Command<'a>) -> Result<Command<'a>, Er
             alloc,
             "far-limit",
             "SIZE",
-            "The most bytes of scratch files; beyond it what has no room is refused [any]",
+            "The most bytes of scratch files; beyond it --policy says what happens [any]",
         ))?
         .arg(policy.value_parser(POLICIES.as_slice()))?;
     Ok(command)
@@ -169,18 +171,9 @@ fn size<'a>(option: &'static str, text: &'a str, least: u64, most: u64) -> Resul
     }
 }
 
-/// Refuses what is not there yet.
-fn refuse_later<'a>(matches: &ArgMatches<'a>) -> Result<(), Fault<'a>> {
-    if matches.get_str("policy").unwrap_or("noeviction") != "noeviction" {
-        return Err(Fault::Later("policy allkeys"));
-    }
-    Ok(())
-}
-
 impl<'a> Asked<'a> {
     /// What these say, with what is asked for where nothing is said. The fault names the first option with a bad value.
     pub fn of(alloc: Global, matches: &ArgMatches<'a>) -> Result<Asked<'a>, Fault<'a>> {
-        refuse_later(matches)?;
         let memory_text = matches.get_str("memory").unwrap_or("");
         let value_text = matches.get_str("value-limit").unwrap_or("1m");
         let Some(pipes) = matches.get_str("pipes") else {
@@ -203,6 +196,7 @@ impl<'a> Asked<'a> {
             memory_text,
             folders,
             far_limit,
+            evicts: matches.get_str("policy").unwrap_or("noeviction") == "allkeys",
             buckets: matches.get_one::<u32>("buckets"),
             value_limit: value_limit.min(MOST_VALUE) as u32,
             threads: matches.get_one::<u32>("threads").unwrap_or(4),

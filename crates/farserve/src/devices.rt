@@ -1,7 +1,9 @@
 //! The devices that a server is opened over.
 
 use crate::bounded::BoundedDisk;
+use crate::counted::CountedDevice;
 use crate::fault::Fault;
+use far_server::FarUsage;
 use file_device::{DiskFault, FileDevice, FileDisk, MemoryDisk};
 use std::alloc::AllocError;
 use std::fs::File;
@@ -13,28 +15,30 @@ use std::rt::Files;
 const DEVICES: u32 = 4;
 
 /// A device in a folder, of the lane of this number.
-fn open<R>(
+fn open<'a, R>(
     rt: R,
     folder: &str,
     lane: u32,
     most: u64,
-) -> Result<FileDevice<BoundedDisk<FileDisk<R>>>, DiskFault>
+    usage: &'a FarUsage,
+) -> Result<CountedDevice<'a, BoundedDisk<FileDisk<R>>>, DiskFault>
 where
     R: Files<File = File> + AllocGlobal + RandomSource + Copy + Drop,
 {
     let Ok(keys) = RandomState::new(&rt) else {
         return Err(DiskFault::Memory);
     };
-    let disk = FileDisk::open(rt, folder, lane)?;
-    Ok(FileDevice::new(rt.alloc(), BoundedDisk::new(disk, most), keys))
+    let disk = BoundedDisk::new(FileDisk::open(rt, folder, lane)?, most);
+    Ok(CountedDevice::new(FileDevice::new(rt.alloc(), disk, keys), usage))
 }
 
 /// Devices in these folders in turn, in which at most so many bytes are kept together.
-pub fn open_far<'a, R>(
+pub fn open_far<'a, 'b, R>(
     rt: R,
     folders: &[&'a str],
     most: u64,
-) -> Result<Vec<FileDevice<BoundedDisk<FileDisk<R>>>>, Fault<'a>>
+    usage: &'b FarUsage,
+) -> Result<Vec<CountedDevice<'b, BoundedDisk<FileDisk<R>>>>, Fault<'a>>
 where
     R: Files<File = File> + AllocGlobal + RandomSource + Copy + Drop,
 {
@@ -47,7 +51,7 @@ where
         if folder.is_empty() {
             return Err(Fault::Folder(folder));
         }
-        match open(rt, folder, lane, most / u64::from(count)) {
+        match open(rt, folder, lane, most / u64::from(count), usage) {
             Ok(device) => {
                 if devices.push(device).is_err() {
                     return Err(Fault::Memory);
@@ -61,7 +65,10 @@ where
 }
 
 /// A device that keeps nothing, so that all stays in frames.
-pub fn open_none<R>(rt: &R) -> Result<Vec<FileDevice<BoundedDisk<MemoryDisk>>>, AllocError>
+pub fn open_none<'a, R>(
+    rt: &R,
+    usage: &'a FarUsage,
+) -> Result<Vec<CountedDevice<'a, BoundedDisk<MemoryDisk>>>, AllocError>
 where
     R: AllocGlobal + RandomSource,
 {
@@ -69,7 +76,8 @@ where
         return Err(AllocError);
     };
     let disk = BoundedDisk::new(MemoryDisk::new(rt.alloc()), 0);
+    let device = CountedDevice::new(FileDevice::new(rt.alloc(), disk, keys), usage);
     let mut devices = Vec::new(rt.alloc());
-    devices.push(FileDevice::new(rt.alloc(), disk, keys))?;
+    devices.push(device)?;
     Ok(devices)
 }

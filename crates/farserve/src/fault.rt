@@ -18,8 +18,6 @@ pub enum Fault<'a> {
     Unix(&'a str),
     /// The text of `--memory`, too little for the buckets and threads.
     Little(&'a str),
-    /// An option that is not there yet.
-    Later(&'static str),
     /// There are no pipes to a front.
     Pipes,
     /// The file of the password can't be read.
@@ -69,7 +67,6 @@ impl Display for Fault<'_> {
                     "--memory {text}: too little for so many buckets and threads"
                 )
             }
-            Fault::Later(option) => write!(f, "--{option}: not there yet"),
             Fault::Pipes => f.write_str("it has no front; bin/farserve starts both"),
             Fault::Unread(path, fault) => write!(f, "--password-file {path}: {fault}"),
             Fault::Empty(path) => write!(f, "--password-file {path}: its first line is empty"),

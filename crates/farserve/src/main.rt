@@ -6,6 +6,7 @@
 
 mod asked;
 mod bounded;
+mod counted;
 mod devices;
 mod fault;
 mod password;
@@ -18,7 +19,7 @@ use asked::{Asked, command};
 use devices::{open_far, open_none};
 use far_device::Device;
 use far_map::Settings;
-use far_server::{ServerSettings, run_server};
+use far_server::{FarUsage, ServerSettings, WorkerEnd, run_server};
 use fault::Fault;
 use pipes::NamedPipes;
 use resp::Limits;
@@ -65,6 +66,7 @@ fn settings(asked: &Asked<'_>, sizes: Sizes, password: Option<[u8; 32]>) -> Serv
     };
     ServerSettings {
         map,
+        is_far: !asked.folders.is_empty(),
         lanes: asked.threads,
         requests,
         longest_value: value,
@@ -73,7 +75,7 @@ fn settings(asked: &Asked<'_>, sizes: Sizes, password: Option<[u8; 32]>) -> Serv
         password,
         options: Options {
             most_memory: asked.memory,
-            evicts: false,
+            evicts: asked.evicts,
             most_clients: u64::from(CLIENTS),
             timeout: u64::from(asked.timeout),
             longest_value: u64::from(value),
@@ -125,6 +127,7 @@ fn serve_over<'a, D, R>(
     asked: &Asked<'a>,
     settings: ServerSettings,
     devices: Vec<D>,
+    usage: &FarUsage,
 ) -> Result<(), Fault<'a>>
 where
     D: Device + Send,
@@ -137,12 +140,12 @@ where
         rt: host,
         folder: asked.pipes,
     };
-    let ends = match run_server(rt, rt.alloc(), settings, devices, &pipes, &host) {
+    let ends = match run_server(rt, rt.alloc(), settings, devices, usage, &pipes, &host) {
         Ok(ends) => ends,
         Err(fault) => return Err(Fault::Run(fault)),
     };
     for end in ends {
-        if let Err(fault) = end {
+        if let WorkerEnd::Lane(Err(fault)) = end {
             return Err(Fault::Lane(fault));
         }
     }
@@ -164,16 +167,17 @@ where
         None => None,
     };
     let settings = settings(asked, sizes, password);
+    let usage = FarUsage::new();
     if !is_far {
-        let Ok(devices) = open_none(&host) else {
+        let Ok(devices) = open_none(&host, &usage) else {
             return Err(Fault::Memory);
         };
         let _ = tell_log(rt, asked, sizes);
-        return serve_over(rt, host, asked, settings, devices);
+        return serve_over(rt, host, asked, settings, devices, &usage);
     }
-    let devices = open_far(host, folders, asked.far_limit)?;
+    let devices = open_far(host, folders, asked.far_limit, &usage)?;
     let _ = tell_log(rt, asked, sizes);
-    serve_over(rt, host, asked, settings, devices)
+    serve_over(rt, host, asked, settings, devices, &usage)
 }
 
 /// Does what these words ask for, and gives the status: 0, 1 where the system refused something, 2 where they are no such words.

@@ -7,7 +7,7 @@ ghost use Rattle.std.specs.Prelude.{◌≤◌, ◌+◌, ◌*◌, IfSome};
 /// Bytes of the program without a map: its code, its stacks, what is read ahead.
 const PROGRAM: u64 = 4 << 20;
 
-/// Bytes of a lane: its buffers, and what malloc keeps for its thread.
+/// Bytes of a lane, and of the sweep: its buffers, and what malloc keeps for its thread.
 const LANE: u64 = 1 << 20;
 
 /// Bytes of a bucket, whatever it holds: its word and frame.
@@ -49,7 +49,7 @@ pub fn divide(memory: u64, buckets: Option<u32>, lanes: u32, is_far: bool) -> Op
 {
     let each = each_of(is_far);
     let buckets = buckets.unwrap_or(buckets_for(memory, each));
-    let taken = PROGRAM + LANE * u64::from(lanes) + each * u64::from(buckets);
+    let taken = PROGRAM + LANE * (u64::from(lanes) + 1) + each * u64::from(buckets);
     let bytes = memory.checked_sub(taken)? / 5 * 4;
     if bytes < LEAST {
         return None;

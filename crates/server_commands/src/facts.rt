@@ -25,6 +25,10 @@ pub struct Facts {
     pub frames: u32,
     /// Bytes that objects in frames may have.
     pub most_in_frames: u64,
+    /// Objects that lie on devices.
+    pub far_objects: u64,
+    /// Bytes of the room that devices have taken for objects.
+    pub far_bytes: u64,
     /// Bytes that objects on devices may have; 0 for any number.
     pub far_limit: u64,
     /// Keys that have a value, as they were last counted.

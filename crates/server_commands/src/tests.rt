@@ -71,6 +71,8 @@ fn facts() -> Facts {
         buckets: 65_536,
         frames: 65_536,
         most_in_frames: 134_217_728,
+        far_objects: 13,
+        far_bytes: 1_703_936,
         far_limit: 0,
         keys: 1000,
         hits: 70,

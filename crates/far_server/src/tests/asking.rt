@@ -32,9 +32,9 @@ fn on_all_keys(rt: HostRuntime) {
 #[test]
 fn behind_a_multi(rt: HostRuntime) {
     let asked =
-        b"EXEC\r\nDISCARD\r\nMULTI\r\nMULTI\r\nSET a 1\r\nINCR a\r\nEXEC\r\nMULTI\r\nNONE\r\nEXEC\r\nMULTI\r\nSET a 5\r\nDISCARD\r\nGET a\r\n";
+        b"EXEC\r\nDISCARD\r\nMULTI\r\nMULTI\r\nSET a 1\r\nINCR a\r\nEXEC\r\nMULTI\r\nNONE\r\nEXEC\r\nMULTI\r\nSET a 5\r\nDISCARD\r\nGET a\r\nMULTI\r\nPING x y\r\nMSET a 1 b\r\nMSET a\r\nDISCARD\r\nMULTI\r\nPING x y\r\nEXEC\r\n";
     let want =
-        b"-ERR EXEC without MULTI\r\n-ERR DISCARD without MULTI\r\n+OK\r\n-ERR MULTI calls can not be nested\r\n+QUEUED\r\n+QUEUED\r\n*2\r\n+OK\r\n:2\r\n+OK\r\n-ERR unknown command 'NONE', with args beginning with: \r\n-EXECABORT Transaction discarded because of previous errors.\r\n+OK\r\n+QUEUED\r\n+OK\r\n$1\r\n2\r\n";
+        b"-ERR EXEC without MULTI\r\n-ERR DISCARD without MULTI\r\n+OK\r\n-ERR MULTI calls can not be nested\r\n+QUEUED\r\n+QUEUED\r\n*2\r\n+OK\r\n:2\r\n+OK\r\n-ERR unknown command 'NONE', with args beginning with: \r\n-EXECABORT Transaction discarded because of previous errors.\r\n+OK\r\n+QUEUED\r\n+OK\r\n$1\r\n2\r\n+OK\r\n+QUEUED\r\n+QUEUED\r\n-ERR wrong number of arguments for 'mset' command\r\n+OK\r\n+OK\r\n+QUEUED\r\n*1\r\n-ERR wrong number of arguments for 'ping' command\r\n";
     replies(&rt, rt.alloc(), settings(1), asked, want);
 }
 
@@ -45,6 +45,13 @@ fn on_a_connection(rt: HostRuntime) {
     let want =
         b"+PONG\r\n$1\r\nx\r\n$1\r\ny\r\n+OK\r\n:1\r\n$-1\r\n+OK\r\n$2\r\nme\r\n:0\r\n*0\r\n+RESET\r\n$-1\r\n*2\r\n$10\r\nmaxclients\r\n$2\r\n10\r\n+OK\r\n";
     replies(&rt, rt.alloc(), settings(1), asked, want);
+}
+
+#[test]
+fn for_what_lies_far(rt: HostRuntime) {
+    let want =
+        b"$299\r\n# Far\r\nbuckets:16\r\nframes:16\r\nmost_in_frames:18446744073709551615\r\nbytes_in_frames:0\r\nfar_objects:5\r\nfar_bytes:4160\r\nfar_limit:0\r\nlocal_hits:0\r\nhit_rate:0.000\r\nswap_outs:0\r\nswap_ins:0\r\nread_throughs:0\r\ndevice_failures:0\r\nrefused_memory:0\r\nrefused_full:0\r\nrefused_device:0\r\nnames_left:1099511627775\r\n\r\n";
+    replies(&rt, rt.alloc(), settings(1), b"INFO far\r\n", want);
 }
 
 #[test]

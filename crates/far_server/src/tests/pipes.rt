@@ -1,5 +1,5 @@
 //! Pipes in memory, and what a lane answers through them.
-use crate::{LaneEnd, OpenFault, Pipes, ServerSettings, run_server};
+use crate::{FarUsage, LaneEnd, OpenFault, Pipes, ServerSettings, WorkerEnd, run_server};
 use far_device::FakeDevice;
 use far_map::Settings;
 use resp::Limits;
@@ -35,6 +35,7 @@ impl<'a> Pipes for Given<'a> {
 pub fn settings(lanes: u32) -> ServerSettings {
     ServerSettings {
         map: Settings::new(16, 16, 1 << 20),
+        is_far: true,
         lanes,
         requests: Limits {
             arguments: 64,
@@ -96,6 +97,18 @@ fn data_of(rt: &impl Abort, alloc: Global, frames: &[u8]) -> Vec<u8> {
     data
 }
 
+/// What two devices told: 5 objects in 4,160 bytes.
+fn usage() -> FarUsage {
+    let usage = FarUsage::new();
+    usage.tell_objects(0, 7);
+    usage.tell_objects(0, 1);
+    usage.tell_objects(7, 4);
+    usage.tell_bytes(0, 4096);
+    usage.tell_bytes(0, 128);
+    usage.tell_bytes(128, 64);
+    usage
+}
+
 /// How the lanes of a server end.
 pub fn ends<R: Threads + Wait + Sync + Clock + Abort>(
     rt: &R,
@@ -105,12 +118,14 @@ pub fn ends<R: Threads + Wait + Sync + Clock + Abort>(
 ) -> Vec<Result<Vec<u8>, LaneEnd>> {
     let devices = Vec::from_array(alloc, [FakeDevice::new(alloc)]).expect(rt, "devices");
     let pipes = Given { lanes };
-    let ended = run_server(rt, alloc, settings, devices, &pipes, rt).expect(rt, "a run");
+    let usage = usage();
+    let ended = run_server(rt, alloc, settings, devices, &usage, &pipes, rt).expect(rt, "a run");
     let mut said = Vec::new(alloc);
     for end in ended {
         let end = match end {
-            Ok((_, output)) => Ok(data_of(rt, alloc, output.as_slice())),
-            Err(end) => Err(end),
+            WorkerEnd::Lane(Ok((_, output))) => Ok(data_of(rt, alloc, output.as_slice())),
+            WorkerEnd::Lane(Err(end)) => Err(end),
+            WorkerEnd::Sweep => continue,
         };
         said.push(end).expect(rt, "an end");
     }

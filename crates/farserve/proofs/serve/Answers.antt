@@ -1,11 +1,11 @@
 use denote.Param.Send.{sendable}
 use Rattle.std.proofs.Crossing as vecs
 use Rattle.std.proofs.MapsCrossing as maps
-use Rattle.file_device.proofs.Sent.{device_send}
+use Rattle.farserve.proofs.Sent.{counted_send}
 use Rattle.farserve.proofs.serve.Goals as goal
 
 pub serve_over-requires-send-D : goal.serve_over-requires-send-D
-serve_over-requires-send-D g c κs within = search (sendable, vecs.crosses, maps.crosses, device_send) depth 40 fits 100000
+serve_over-requires-send-D g c κs within = search (sendable, vecs.crosses, maps.crosses, counted_send) depth 40 fits 100000
 
 pub serve_over-requires-2-send-D : goal.serve_over-requires-2-send-D
-serve_over-requires-2-send-D g c κs within = search (sendable, vecs.crosses, maps.crosses, device_send) depth 40 fits 100000
+serve_over-requires-2-send-D g c κs within = search (sendable, vecs.crosses, maps.crosses, counted_send) depth 40 fits 100000

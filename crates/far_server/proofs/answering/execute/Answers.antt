@@ -1,12 +1,10 @@
-use Rattle.std.proofs.Common.{◌≡◌, ◌≤◌, ◌+◌, suc, ℕ, List, [], ◌∷◌, ◌++◌, length, take, map, slice_index_or, refl, sym, ap, subst, ◌∙◌, arith}
-use Rattle.std.specs.List.{flat_map}
+use Rattle.std.proofs.Common.{◌≡◌, ◌≤◌, suc, ℕ, List, ◌∷◌, ◌++◌, length, take, refl, sym, ap, subst, ◌∙◌, arith}
 use Rattle.std.proofs.lemmas.List.{length-map, take_all}
-use Rattle.resp.specs.Replies.{Token, Count, token}
-use Rattle.commands.specs.Arguments.{listed}
+use Rattle.resp.specs.Replies.{Count}
 use Rattle.far_server.specs.Queues.{held, waiting}
 use Rattle.far_server.specs.Answers.{AreRun}
 use Rattle.far_server.specs.Runs.{IsRequest}
-use Rattle.far_server.proofs.Pushed.{single, more_tokens}
+use Rattle.far_server.proofs.Pushed.{more_tokens}
 use Rattle.far_server.proofs.Executing.{run_more, next_held}
 use Rattle.far_server.proofs.answering.execute.Goals as goal
 

@@ -1,21 +1,22 @@
-use Rattle.std.proofs.Common.{◌≡◌, ℕ, List, [], Option, None, Ok, Err, IsTrue, refl, sym, ◌∙◌, subst, inl, inr}
+use Rattle.std.proofs.Common.{ℕ, List, [], None, Ok, IsTrue, refl, ◌∙◌, subst, inl, inr}
 use Rattle.resp.specs.Replies.{token}
 use Rattle.table_core.specs.declared.operation.Operation.TheVariants as op
 use Rattle.key_commands.specs.declared.asked.Effect.{Effect}
 use Rattle.key_commands.specs.declared.asked.Effect.TheVariants as effects
 use Rattle.key_commands.specs.Doing.{Does}
 use Rattle.far_server.specs.Sessions.{Called}
-use Rattle.far_server.proofs.Trying.{no_call}
+use Rattle.far_server.specs.Keyed.{IsIdle}
+use Rattle.far_server.proofs.Going.{no_step}
 use Rattle.far_server.proofs.Pushed.{none}
 use Rattle.far_server.proofs.keyed.set_blindly.Goals as goal
 
 pub returns-in-Err : goal.returns-in-Err
-returns-in-Err g c = ([], none c.args.reply.now.items c.apply_to.new.reply.items c.in-Err.ensures.kept, (g.S.Calls.shown c.args.me.now, no_call g.S.Calls.limits c.args.key.now (g.S.Calls.shown c.args.me.now), inr refl))
+returns-in-Err g c = ([], none c.args.reply.now.items c.apply_to.new.reply.items c.in-Err.ensures.kept, (g.S.Calls.shown c.args.me.now, no_step (IsIdle g.S.Calls.limits c.args.key.now) (g.S.Calls.shown c.args.me.now), inr refl))
 
 pub returns-in-Err-from_bytes : goal.returns-in-Err-from_bytes
 returns-in-Err-from_bytes g c =
     let d = c.in-Ok-Sets.ensures.done in
-    (token d.0, d.1, (g.S.Calls.shown c.args.me.now, no_call g.S.Calls.limits c.args.key.now (g.S.Calls.shown c.args.me.now), inr refl))
+    (token d.0, d.1, (g.S.Calls.shown c.args.me.now, no_step (IsIdle g.S.Calls.limits c.args.key.now) (g.S.Calls.shown c.args.me.now), inr refl))
 
 pub returns-in-Ok-put : goal.returns-in-Ok-put
 returns-in-Ok-put g c =
@@ -42,7 +43,7 @@ returns g c =
       d.1,
       (
         g.S.Calls.shown c.args.me.now,
-        no_call g.S.Calls.limits c.args.key.now (g.S.Calls.shown c.args.me.now),
+        no_step (IsIdle g.S.Calls.limits c.args.key.now) (g.S.Calls.shown c.args.me.now),
         inl (op.Put c.args.key.now _, refl, record { answers = c.in-Err-put.ensures.answers; counts = c.in-Err-put.ensures.counts }),
       ),
     )

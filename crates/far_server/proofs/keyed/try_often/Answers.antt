@@ -1,6 +1,6 @@
 use Rattle.std.proofs.Common.{◌≡◌, ℕ, Bool, false, List, ◌++◌, Ok, ap, subst, ◌∙◌}
-use Rattle.far_server.specs.Keyed.{IsTried}
-use Rattle.far_server.proofs.Trying.{both}
+use Rattle.far_server.specs.Keyed.{IsIdle, IsTried}
+use Rattle.far_server.proofs.Going.{both}
 use Rattle.far_server.proofs.Pushed.{cut}
 use Rattle.far_server.proofs.keyed.try_often.Goals as goal
 
@@ -14,7 +14,7 @@ returns-in-Err-try_once g c =
       e.1 ∙ ap (λ (l : List ℕ). l ++ e.0) cleared,
       (
         e.2.0,
-        both g.S.Calls.limits c.args.key.now (g.S.Calls.shown c.args.me.now) (g.S.Calls.shown c.loop.me) e.2.0 inv.2 e.2.1,
+        both (IsIdle g.S.Calls.limits c.args.key.now) (g.S.Calls.shown c.args.me.now) (g.S.Calls.shown c.loop.me) e.2.0 inv.2 e.2.1,
         e.2.2,
       ),
     )
@@ -29,5 +29,5 @@ loop-preserved g c =
     let idles : T false = subst T c.in-Ok-false-try_once.field-0-test e.2 in (
       (e.0, e.1 ∙ ap (λ (l : List ℕ). l ++ e.0) cleared),
       inv.1,
-      both g.S.Calls.limits c.args.key.now (g.S.Calls.shown c.args.me.now) (g.S.Calls.shown c.loop.me) (g.S.Calls.shown c.try_once.new.me) inv.2 idles,
+      both (IsIdle g.S.Calls.limits c.args.key.now) (g.S.Calls.shown c.args.me.now) (g.S.Calls.shown c.loop.me) (g.S.Calls.shown c.try_once.new.me) inv.2 idles,
     )

@@ -1,10 +1,11 @@
-use Rattle.std.proofs.Common.{◌≡◌, ℕ, List, [], Option, Ok, refl, sym, ◌∙◌, subst, inl, inr}
+use Rattle.std.proofs.Common.{◌≡◌, ℕ, List, [], Option, refl, subst, inl, inr}
 use Rattle.resp.specs.Replies.{token}
 use Rattle.table_core.specs.declared.operation.Operation.TheVariants as op
 use Rattle.table_core.specs.Lent.{lent_value}
 use Rattle.key_commands.specs.Doing.{Does}
-use Rattle.far_server.specs.Keyed.{IsSettled}
-use Rattle.far_server.proofs.Trying.{no_call, one_get, tried}
+use Rattle.far_server.specs.Keyed.{IsIdle, IsSettled}
+use Rattle.far_server.proofs.Trying.{one_get, tried}
+use Rattle.far_server.proofs.Going.{no_step}
 use Rattle.far_server.proofs.Pushed.{none}
 use Rattle.far_server.proofs.keyed.try_once.Goals as goal
 
@@ -14,7 +15,7 @@ returns-in-Err g c = (
   none c.args.reply.now.items c.args.reply.now.items refl,
   (
     g.S.Calls.shown c.args.me.now,
-    no_call g.S.Calls.limits c.args.key.now (g.S.Calls.shown c.args.me.now),
+    no_step (IsIdle g.S.Calls.limits c.args.key.now) (g.S.Calls.shown c.args.me.now),
     inl (op.Get c.args.key.now, refl, record { answers = c.in-Err.ensures.answers; counts = c.in-Err.ensures.counts }),
   ),
 )

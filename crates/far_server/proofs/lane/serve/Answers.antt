@@ -1,8 +1,7 @@
-use Rattle.std.proofs.Common.{◌≡◌, ℕ, List, [], Option, refl, sym, ap, subst, ◌∙◌}
-use Rattle.std.specs.Io.KnownBytes.{Consumes, Appends}
+use Rattle.std.proofs.Common.{◌≡◌, List, sym, ap, subst, ◌∙◌}
 use Rattle.lanes.specs.Served.{Served}
 use Rattle.far_server.specs.declared.around.Around.{Around}
-use Rattle.far_server.specs.Services.{Lane, lane_of, Acts}
+use Rattle.far_server.specs.Services.{lane_of, Acts}
 use Rattle.far_server.proofs.lane.serve.Goals as goal
 
 pub returns-in-Ok-serve_frames : goal.returns-in-Ok-serve_frames

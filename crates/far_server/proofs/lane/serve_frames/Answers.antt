@@ -1,4 +1,4 @@
-use Rattle.std.proofs.Common.{◌≡◌, ℕ, List, Option, sym, subst, ◌∙◌, refl}
+use Rattle.std.proofs.Common.{◌≡◌, subst, refl}
 use Rattle.lanes.specs.Calls.{Call}
 use Rattle.far_server.specs.declared.around.Around.{Around}
 use Rattle.far_server.specs.declared.server.Server.{Server}

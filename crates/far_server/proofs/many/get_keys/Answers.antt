@@ -1,6 +1,6 @@
-use Rattle.std.proofs.Common.{◌≡◌, ℕ, List, [], ◌∷◌, ◌++◌, length, sym, refl, ap, subst, ◌∙◌}
+use Rattle.std.proofs.Common.{◌≡◌, ℕ, List, [], ◌∷◌, ◌++◌, length, sym, refl, subst}
 use Rattle.std.specs.List.{flat_map}
-use Rattle.resp.specs.Replies.{Token, Count, token}
+use Rattle.resp.specs.Replies.{Count, token}
 use Rattle.commands.specs.Arguments.{listed}
 use Rattle.far_server.specs.Many.{AreListed}
 use Rattle.far_server.proofs.Pushed.{single, one_token, next_done, all_done}
@@ -15,13 +15,13 @@ loop-key-init g c =
 pub loop-key-preserved : goal.loop-key-preserved
 loop-key-preserved g c =
     let inv = c.loop-key.invariant in
-    let d = c.in-Ok-answer_key.ensures.done in (
+    let d = c.in-Ok-answer_next.ensures.done in (
       inv.0 ++ d.0 ∷ [],
-      one_token c.args.reply.now.items (Count (length (listed c.args.keys)) ∷ inv.0) d.0 c.loop-key.reply.items c.answer_key.new.reply.items inv.1 d.1,
+      one_token c.args.reply.now.items (Count (length (listed c.args.keys)) ∷ inv.0) d.0 c.loop-key.reply.items c.answer_next.new.reply.items inv.1 d.1,
       (
         inv.2.0 ++ c.in-Some.key.now ∷ [],
         next_done (listed c.args.keys) inv.2.0 (listed c.loop-key.rest) (listed c.in-Some.behind) (c.in-Some.key.now ∷ []) inv.2.1 c.in-Some.ensures,
-        listed_more g.S.Calls.limits c.args.asking.now c.args.asking.most c.args.asking.command inv.2.0 c.in-Some.key.now inv.0 (g.S.Calls.shown c.args.me.now) (g.S.Calls.shown c.loop-key.me) (g.S.Calls.shown c.answer_key.new.me) d.0 inv.2.2 d.2,
+        listed_more g.S.Calls.limits c.args.asking.now c.args.asking.most c.args.asking.command inv.2.0 c.in-Some.key.now inv.0 (g.S.Calls.shown c.args.me.now) (g.S.Calls.shown c.loop-key.me) (g.S.Calls.shown c.answer_next.new.me) d.0 inv.2.2 d.2,
       ),
     )
 

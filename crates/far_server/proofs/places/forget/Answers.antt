@@ -1,4 +1,4 @@
-use Rattle.std.proofs.Common.{◌≡◌, ◌<◌, ℕ, length, arith, ◌∙◌}
+use Rattle.std.proofs.Common.{◌<◌, length, arith, ◌∙◌}
 use Rattle.far_server.specs.Answers.{new_known}
 use Rattle.far_server.proofs.Placing.{set_here, set_there, is_new}
 use Rattle.far_server.proofs.places.forget.Goals as goal

@@ -1,5 +1,5 @@
-use Rattle.std.proofs.Common.{◌≡◌, List, [], ◌∷◌}
-use Rattle.resp.specs.Replies.{Token, Number}
+use Rattle.std.proofs.Common.{[], ◌∷◌}
+use Rattle.resp.specs.Replies.{Number}
 use Rattle.far_server.proofs.Pushed.{on_ok, single}
 use Rattle.far_server.proofs.single.push_one_number.Goals as goal
 

@@ -1,5 +1,5 @@
-use Rattle.std.proofs.Common.{◌≡◌, List, [], ◌∷◌}
-use Rattle.resp.specs.Replies.{Token, String}
+use Rattle.std.proofs.Common.{[], ◌∷◌}
+use Rattle.resp.specs.Replies.{String}
 use Rattle.far_server.proofs.Pushed.{on_ok, single}
 use Rattle.far_server.proofs.single.push_one_string.Goals as goal
 

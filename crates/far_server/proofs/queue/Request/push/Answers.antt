@@ -1,4 +1,4 @@
-use Rattle.std.proofs.Common.{◌≡◌, ℕ, List, [], ◌∷◌, ◌++◌, length, sym, ap, subst, ◌∙◌}
+use Rattle.std.proofs.Common.{◌≡◌, ℕ, List, [], ◌∷◌, ◌++◌, length, sym, subst}
 use Rattle.resp.specs.declared.place.Span.{Span}
 use Rattle.resp.specs.Parsing.{arguments_in, AreWithin}
 use Rattle.far_server.proofs.Held.{one_held, one_within}

@@ -1,0 +1,352 @@
+//! The sweep of a server: it takes expired values out that nobody meets, and other keys where they may be evicted and all is full.
+//!
+//! # A worker of its own
+//!
+//! It reads buckets that nobody asked for, from disk too, so no lane does it; and the evictor moves objects and never changes a
+//! value. So it is a session like the others, whose calls are removals and gets.
+//!
+//! # Only what pays
+//!
+//! Nothing tells where the expired values lie, so a round looks at each bucket, a few at a time. Where a round has met no value with a
+//! deadline, and none was set since it began, there is none to wait for, and no further round begins until one is set.
+ghost use Rattle.std.specs.Prelude.{◌<◌, Bool, true};
+ghost use Rattle.version_words.specs.Views.{Goes};
+ghost use Rattle.far_server.specs.Sweeps.{IsSweeping, Sweeps};
+
+use crate::around::{Around, Desk, milliseconds};
+use crate::deadlines::{has_deadline, is_over};
+use crate::visiting::{empty_bucket, keys_in};
+use far_blob::Blob;
+use far_map::{Calls, Refusal};
+use far_object::Text;
+use hash_table::BucketState;
+use std::alloc::Global;
+use std::rt::Clock;
+use std::sync::Wait;
+use std::time::Duration;
+
+/// How many buckets are looked at between two naps for expired values, and how many of them may be read from a device.
+const BUCKETS: u32 = 256;
+
+const DEVICE_READS: u64 = 8;
+
+/// How many milliseconds a nap has: so some hundredths of a processor go round 4,000,000 buckets in memory in some 80 seconds.
+const NAP: u64 = 5;
+
+/// How many buckets are looked at for one that lies on a device, before one in memory is taken.
+const LOOKS: u32 = 64;
+
+/// Where the sweep has come to.
+#[derive(Drop)]
+pub(crate) struct Hand {
+    /// The next bucket whose expired values are looked for.
+    pub(crate) next: u32,
+    /// How many values with a deadline had been set when the round began.
+    dated: u64,
+    /// Whether the round has met one that may expire yet.
+    pub(crate) has_met: bool,
+    /// The next bucket that may be evicted, and how many before it had nothing to evict.
+    next_victim: u32,
+    fruitless: u32,
+}
+
+impl Hand {
+    /// One that waits for the first value with a deadline.
+    pub(crate) fn new(buckets: u32) -> Hand {
+        Hand {
+            next: buckets,
+            dated: 0,
+            has_met: false,
+            next_victim: 0,
+            fruitless: 0,
+        }
+    }
+}
+
+/// The pairs of a bucket whose values have a deadline.
+fn dated_in<S: Calls<Blob>, R: Wait>(
+    rt: &R,
+    alloc: Global,
+    me: &mut S,
+    bucket: u32,
+) -> Result<Vec<(Text, Blob)>, Refusal>
+    requires { bucket < S.limits.buckets }
+    ensures { Goes (S.shown me.old).pass (S.shown me.new).pass }
+{
+    let mut dated = Vec::new(alloc);
+    let mut is_short = false;
+    let mut visit = |key: Text, value: Blob| {
+        if has_deadline(value.as_bytes()) && dated.push((key, value)).is_err() {
+            is_short = true;
+        }
+    };
+    match me.for_each_in(rt, bucket, &mut visit) {
+        Ok(()) => {}
+        Err(why) => return Err(why),
+    }
+    if is_short {
+        return Err(Refusal::Memory);
+    }
+    Ok(dated)
+}
+
+/// Takes a value out that is expired at this time, where it is still there: whether it is gone.
+pub(crate) fn expire<S: Calls<Blob>, R: Wait>(
+    rt: &R,
+    me: &mut S,
+    key: &Text,
+    value: &Blob,
+    now: u64,
+    desk: &mut Desk,
+) -> Result<bool, Refusal>
+    ensures { (evicts : Bool) → Sweeps S.limits evicts (S.shown me.old) (S.shown me.new) }
+{
+    if !is_over(value, now) {
+        return Ok(false);
+    }
+    match me.remove_if(rt, key, value) {
+        Ok(removal) => {
+            desk.tally.count_removal(removal.removed);
+            desk.tally.count_expired(removal.removed);
+            Ok(removal.removed)
+        }
+        Err(why) => Err(why),
+    }
+}
+
+/// Takes the expired values of a bucket out: whether it has others with a deadline.
+pub(crate) fn expire_in<S: Calls<Blob>, R: Wait>(
+    rt: &R,
+    alloc: Global,
+    me: &mut S,
+    bucket: u32,
+    now: u64,
+    desk: &mut Desk,
+) -> Result<bool, Refusal>
+    requires { bucket < S.limits.buckets }
+    ensures { (evicts : Bool) → Sweeps S.limits evicts (S.shown me.old) (S.shown me.new) }
+{
+    let dated = match dated_in(rt, alloc, me, bucket) {
+        Ok(dated) => dated,
+        Err(why) => return Err(why),
+    };
+    let mut has_others = false;
+    for (key, value) in &dated {
+        match expire(rt, me, key, value, now, desk) {
+            Ok(is_gone) => has_others |= !is_gone,
+            Err(why) => return Err(why),
+        }
+    }
+    Ok(has_others)
+}
+
+/// Looks for expired values in the next buckets. What can't be read is looked at again in the next round.
+fn expire_some<S: Calls<Blob>, C: Clock, R: Wait>(
+    around: &Around<'_, C, R>,
+    me: &mut S,
+    hand: &mut Hand,
+    desk: &mut Desk,
+)
+    ensures { (evicts : Bool) → Sweeps S.limits evicts (S.shown me.old) (S.shown me.new) }
+{
+    let (rt, alloc, now) = (around.rt, around.alloc, milliseconds(around.clock));
+    let read = me.traffic().far_reads;
+    for _ in 0..BUCKETS {
+        if hand.next >= me.buckets() || me.traffic().far_reads.wrapping_sub(read) >= DEVICE_READS {
+            return;
+        }
+        let looked = expire_in(rt, alloc, me, hand.next, now, desk);
+        hand.has_met |= looked.unwrap_or(true);
+        hand.next = hand.next.saturating_add(1);
+    }
+}
+
+/// Whether there are buckets to look at for expired values: a round is not at its end, or another one begins.
+pub(crate) fn is_due(hand: &mut Hand, buckets: u32, dated: u64) -> bool {
+    if hand.next < buckets {
+        return true;
+    }
+    if !hand.has_met && hand.dated == dated {
+        return false;
+    }
+    hand.next = 0;
+    hand.dated = dated;
+    hand.has_met = false;
+    true
+}
+
+/// Whether a bucket lies on a device that has this key.
+fn is_on_device<S: Calls<Blob>>(me: &mut S, keys: &[Text]) -> bool
+    ensures { Goes (S.shown me.old).pass (S.shown me.new).pass }
+{
+    match keys.first() {
+        Some(key) => matches!(me.where_is(key), BucketState::Far(_)),
+        None => false,
+    }
+}
+
+/// Takes all keys of a bucket out: whether that was not refused.
+fn evict_keys<S: Calls<Blob>, R: Wait>(
+    rt: &R,
+    alloc: Global,
+    me: &mut S,
+    bucket: u32,
+    desk: &mut Desk,
+) -> bool
+    requires { bucket < S.limits.buckets }
+    ensures { Sweeps S.limits true (S.shown me.old) (S.shown me.new) }
+{
+    let before = desk.tally.lost;
+    let is_empty = empty_bucket(rt, alloc, me, bucket, desk).is_ok();
+    desk.tally.count_evictions(before);
+    is_empty
+}
+
+/// Takes all keys of the first of the next buckets out that has some, of one on a device as far as there are such: whether that was done,
+/// or there are buckets that were not looked at.
+fn evict_bucket<S: Calls<Blob>, C: Clock, R: Wait>(
+    around: &Around<'_, C, R>,
+    me: &mut S,
+    hand: &mut Hand,
+    desk: &mut Desk,
+) -> bool
+    ensures { Sweeps S.limits true (S.shown me.old) (S.shown me.new) }
+{
+    let (rt, alloc) = (around.rt, around.alloc);
+    let buckets = me.buckets();
+    for look in 1..=LOOKS {
+        let bucket = if hand.next_victim < buckets {
+            hand.next_victim
+        } else {
+            0
+        };
+        hand.next_victim = bucket.saturating_add(1);
+        if bucket >= buckets {
+            return false;
+        }
+        let Ok(keys) = keys_in(rt, alloc, me, bucket, 0) else {
+            return false;
+        };
+        let is_victim = is_on_device(me, &keys) || !around.settings.is_far || look == LOOKS;
+        if is_victim && !keys.is_empty() {
+            hand.fruitless = 0;
+            return evict_keys(rt, alloc, me, bucket, desk);
+        }
+        hand.fruitless = hand.fruitless.saturating_add(1);
+    }
+    hand.fruitless < buckets
+}
+
+/// Whether there is room in frames.
+#[derive(Clone, Copy)]
+enum Room {
+    Enough,
+    /// Some was made by an object that was swapped out, and more may be wanted.
+    Made,
+    /// No device takes what lies there beyond the bound.
+    Wanting,
+}
+
+/// Looks whether more lies in frames than may. Where no device keeps anything the evictor is not to try in vain, so the bound is lower.
+fn look_for_room<S: Calls<Blob>, C: Clock, R: Wait>(
+    around: &Around<'_, C, R>,
+    me: &mut S,
+    most: u64,
+) -> Room
+    ensures { Goes (S.shown me.old).pass (S.shown me.new).pass }
+{
+    let is_far = around.settings.is_far;
+    let bound = if is_far { most } else { most - most / 16 };
+    if me.bytes_in_frames() <= bound {
+        return Room::Enough;
+    }
+    if !is_far {
+        return Room::Wanting;
+    }
+    match me.evict(around.rt) {
+        Ok(true) => Room::Made,
+        Ok(false) => Room::Enough,
+        Err(_) => Room::Wanting,
+    }
+}
+
+/// Makes room where more lies in frames than may: whether there is more to do. Keys go only where no device takes an object.
+pub(crate) fn make_room<S: Calls<Blob>, C: Clock, R: Wait>(
+    around: &Around<'_, C, R>,
+    me: &mut S,
+    hand: &mut Hand,
+    desk: &mut Desk,
+) -> bool
+    ensures { Sweeps S.limits true (S.shown me.old) (S.shown me.new) }
+{
+    match look_for_room(around, me, desk.most_in_frames) {
+        Room::Enough => false,
+        Room::Made => true,
+        Room::Wanting => evict_bucket(around, me, hand, desk),
+    }
+}
+
+/// Looks for expired values where some may be.
+fn expire_next<S: Calls<Blob>, C: Clock, R: Wait>(
+    around: &Around<'_, C, R>,
+    me: &mut S,
+    hand: &mut Hand,
+    desk: &mut Desk,
+)
+    ensures { (evicts : Bool) → Sweeps S.limits evicts (S.shown me.old) (S.shown me.new) }
+{
+    let dated = around.tallies.sum().dated;
+    if is_due(hand, me.buckets(), dated) {
+        expire_some(around, me, hand, desk);
+    }
+}
+
+/// One turn where keys may be evicted: whether another one is to follow at once.
+fn turn_with_room<S: Calls<Blob>, C: Clock, R: Wait>(
+    around: &Around<'_, C, R>,
+    me: &mut S,
+    hand: &mut Hand,
+    desk: &mut Desk,
+) -> bool
+    ensures { Sweeps S.limits true (S.shown me.old) (S.shown me.new) }
+{
+    if make_room(around, me, hand, desk) {
+        return true;
+    }
+    expire_next(around, me, hand, desk);
+    false
+}
+
+/// One turn: whether another one is to follow at once.
+fn turn<S: Calls<Blob>, C: Clock, R: Wait>(
+    around: &Around<'_, C, R>,
+    me: &mut S,
+    hand: &mut Hand,
+    desk: &mut Desk,
+) -> bool
+    ensures { Sweeps S.limits around.now.settings.now.options.evicts (S.shown me.old) (S.shown me.new) }
+{
+    if around.settings.options.evicts {
+        return turn_with_room(around, me, hand, desk);
+    }
+    expire_next(around, me, hand, desk);
+    false
+}
+
+/// Sweeps until all lanes have ended.
+pub(crate) fn sweep<S: Calls<Blob>, C: Clock, R: Wait>(around: &Around<'_, C, R>, me: &mut S)
+    ensures { Sweeps S.limits around.now.settings.now.options.evicts (S.shown me.old) (S.shown me.new) }
+{
+    let mut desk = Desk::new(around.alloc, around.settings);
+    let mut hand = Hand::new(me.buckets());
+    for _ in around.rt.forever() {
+        if !around.tallies.is_serving() {
+            break;
+        }
+        let goes_on = turn(around, me, &mut hand, &mut desk);
+        desk.tell(around, &me.traffic());
+        if !goes_on {
+            desk.bed.park_timeout(around.rt, Duration::from_millis(NAP));
+        }
+    }
+}

@@ -1,0 +1,48 @@
+//! What lies on the devices, as they tell it, for INFO. No contract claims anything of it.
+
+use std::sync::atomic::{AtomicU64, Ordering};
+
+/// How many objects lie on all devices of a server, and how many bytes their slots take. Each device tells by how much its own numbers
+/// changed, so both are sums over all devices.
+#[derive(Drop)]
+pub struct FarUsage {
+    objects: AtomicU64,
+    bytes: AtomicU64,
+}
+
+/// Adds by how much a number of a device changed. The sum wraps on the way, and is right once all have told.
+fn tell(sum: &AtomicU64, before: u64, after: u64) {
+    if before != after {
+        sum.fetch_add(after.wrapping_sub(before), Ordering::SeqCst);
+    }
+}
+
+impl FarUsage {
+    /// Of devices that are empty.
+    pub fn new() -> Self {
+        FarUsage {
+            objects: AtomicU64::new(0),
+            bytes: AtomicU64::new(0),
+        }
+    }
+
+    /// A device tells that it keeps so many objects now, and how many it kept when it last told.
+    pub fn tell_objects(&self, before: u64, after: u64) {
+        tell(&self.objects, before, after);
+    }
+
+    /// A device tells that its slots take so many bytes now, and how many they took when it last told.
+    pub fn tell_bytes(&self, before: u64, after: u64) {
+        tell(&self.bytes, before, after);
+    }
+
+    /// How many objects lie on devices.
+    pub fn objects(&self) -> u64 {
+        self.objects.load(Ordering::SeqCst)
+    }
+
+    /// How many bytes the slots on devices take, also those in which no object lies any more.
+    pub fn bytes(&self) -> u64 {
+        self.bytes.load(Ordering::SeqCst)
+    }
+}

@@ -1,0 +1,81 @@
+//! A device that tells how many objects it keeps, and how many bytes their slots take.
+ghost use Rattle.std.specs.Prelude.{◌≡◌};
+
+use crate::bounded::Measured;
+use far_device::{Device, DeviceFault};
+use far_server::FarUsage;
+use file_device::{Disk, FileDevice};
+
+/// A device that passes each call on, and tells by how much its objects and their bytes changed.
+#[derive(Drop)]
+pub struct CountedDevice<'a, K: Disk> {
+    inner: FileDevice<K>,
+    usage: &'a FarUsage,
+}
+
+/// What a device keeps.
+#[derive(Clone, Copy)]
+struct Kept {
+    objects: u64,
+    bytes: u64,
+}
+
+impl<'a, K: Disk + Measured> CountedDevice<'a, K> {
+    /// Over an empty device, of which nobody has told yet.
+    pub fn new(inner: FileDevice<K>, usage: &'a FarUsage) -> Self
+        ensures { result.inner ≡ inner }
+    {
+        CountedDevice { inner, usage }
+    }
+
+    fn kept(&self) -> Kept {
+        Kept {
+            objects: self.inner.len() as u64,
+            bytes: self.inner.disk().used(),
+        }
+    }
+
+    /// Tells what changed since it kept this.
+    fn tell(&self, before: Kept) {
+        let now = self.kept();
+        self.usage.tell_objects(before.objects, now.objects);
+        self.usage.tell_bytes(before.bytes, now.bytes);
+    }
+}
+
+impl<K: Disk + Measured> Device for CountedDevice<'_, K> {
+    ghost use Rattle.file_device.specs.Devices.{state_in};
+
+    ghost state = { λ device. state_in device.inner };
+
+    ghost HONEST = { K.HONEST };
+
+    fn construct(&mut self) -> Result<(), DeviceFault> {
+        let before = self.kept();
+        let result = self.inner.construct();
+        self.tell(before);
+        result
+    }
+
+    fn write(&mut self, id: u64, bytes: &[u8]) -> Result<(), DeviceFault> {
+        let before = self.kept();
+        let result = self.inner.write(id, bytes);
+        self.tell(before);
+        result
+    }
+
+    fn read(&mut self, id: u64, out: &mut Vec<u8>) -> Result<bool, DeviceFault> {
+        self.inner.read(id, out)
+    }
+
+    fn remove(&mut self, id: u64) -> Result<bool, DeviceFault> {
+        let before = self.kept();
+        let result = self.inner.remove(id);
+        self.tell(before);
+        result
+    }
+
+    fn failures(&self) -> u64 {
+        self.inner.failures()
+    }
+}
