@@ -46,6 +46,8 @@ const FACTS: Facts = Facts {
     buckets: 9,
     frames: 10,
     most_in_frames: 11,
+    far_objects: 26,
+    far_bytes: 27,
     far_limit: 0,
     keys: 12,
     hits: 13,

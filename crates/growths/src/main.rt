@@ -8,13 +8,14 @@ mod blobs;
 mod commanding;
 mod devices;
 mod evicting;
-mod lanes;
 mod machine;
 mod maps;
 mod objects;
 mod protocol;
 mod recycling;
 mod rows;
+mod serving;
+mod stores;
 mod tables;
 mod trials;
 
@@ -28,9 +29,10 @@ fn main(rt: HostRuntime) -> io::Result<()> {
     devices::tell_all(&rt)?;
     machine::tell_all(&rt)?;
     rows::tell_all(&rt)?;
-    lanes::tell_all(&rt)?;
+    stores::tell_all(&rt)?;
     tables::tell_all(&rt)?;
     recycling::tell_all(&rt)?;
     evicting::tell_all(&rt)?;
-    maps::tell_all(&rt)
+    maps::tell_all(&rt)?;
+    serving::tell_all(&rt)
 }

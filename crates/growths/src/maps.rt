@@ -17,9 +17,15 @@ use worker::{Call, Deed, Putting, Trial, is_pair};
 
 /// Each call of a session, and where the pair lies before it. `with` and `contains` read a copy of what lies on a device where
 /// they are refused a growth as they fetch it, so that this passes unseen.
-const CALLS: [(&str, Call, Place); 23] = [
+const CALLS: [(&str, Call, Place); 25] = [
     ("get, a frame", Call::Deed(Deed::Get), Place::Frame),
     ("get, the device", Call::Deed(Deed::Get), Place::Device),
+    ("get_many, a frame", Call::Deed(Deed::GetMany), Place::Frame),
+    (
+        "get_many, the device",
+        Call::Deed(Deed::GetMany),
+        Place::Device,
+    ),
     ("with, a frame", Call::With, Place::Frame),
     ("with, the device", Call::With, Place::Device),
     ("contains, a frame", Call::Contains, Place::Frame),

@@ -5,6 +5,7 @@ use crate::trials::{Answer, Outcome, Tried, answer, is_text, is_value, text, tri
 use far_map::{BucketState, Calls, Refusal, Updated, Work};
 use far_object::{Memory, Text};
 use std::alloc::Global;
+use std::slice::from_ref;
 use std::sync::Wait;
 
 /// The key of the pair.
@@ -20,6 +21,7 @@ const NEW: &[u8] = b"after";
 #[derive(Clone, Copy)]
 pub enum Deed {
     Get,
+    GetMany,
     Put,
     PutIf,
     Remove,
@@ -31,7 +33,7 @@ impl Deed {
     /// The key's value afterwards.
     fn leaves(self) -> Option<&'static [u8]> {
         match self {
-            Deed::Get => Some(OLD),
+            Deed::Get | Deed::GetMany => Some(OLD),
             Deed::Remove | Deed::RemoveIf => None,
             Deed::Put | Deed::PutIf | Deed::Update => Some(NEW),
         }
@@ -135,6 +137,10 @@ fn found<S: Calls<Text>, R: Wait>(
     let (key, old, new) = (&it.key, &it.old, &it.new);
     match deed {
         Deed::Get => me.get(rt, key),
+        Deed::GetMany => match me.get_many(rt, from_ref(key)) {
+            Ok(mut found) => Ok(found.pop().flatten()),
+            Err(refusal) => Err(refusal),
+        },
         Deed::Put => me.put(rt, key, new),
         Deed::PutIf => me.put_if(rt, key, Some(old), new),
         Deed::Remove => me.remove(rt, key),

@@ -1,6 +1,6 @@
 use Rattle.std.specs.Prelude.{false}
 use Rattle.version_words.specs.Rows.{limits_of}
-use Rattle.growths.proofs.lanes.made.Given as goal
+use Rattle.growths.proofs.stores.made.Given as goal
 
 -- the row that was just opened
 abbrev pub ghosts-on_row : goal.ghosts-on_row
