@@ -4,7 +4,7 @@
 # Runs redis-benchmark's SET and GET of 64 bytes on 100,000 keys against bin/farserve and redis-server in turn, ROUNDS times, 5 if
 # not given: by one connection, by 50, and by 50 with pipelines of 16. It prints a markdown table of the medians: thousands of
 # calls a second, their ratio within a round, and the milliseconds of p50, p99 and p99.9; and resident memory after the last round.
-# All data is in memory. --quick tries it in a minute.
+# docs/server.svg shows the calls. All data is in memory. --quick tries it in a minute, and draws into a file that it names.
 #
 # It needs redis-server, redis-benchmark, redis-cli and rustc. farserve has four threads, one that keeps frames free, and the
 # front's; redis-server has one.
@@ -12,12 +12,15 @@ set -euo pipefail
 
 bench=$(cd "$(dirname "$(readlink -f "${BASH_SOURCE[0]}")")" && pwd)
 rounds=5 calls=400000 single=50000
+picture=$bench/../docs/server.svg
 
 say() { printf 'server.sh: %s\n' "$*" >&2; }
 
 if [ "${1:-}" = --quick ]; then
     shift
     rounds=1 calls=40000 single=5000
+    picture=$(mktemp --suffix=.svg)
+    say "the picture is $picture"
 fi
 rounds=${1:-$rounds}
 
@@ -61,7 +64,7 @@ for round in $(seq "$rounds"); do
     done
     say "round $round of $rounds is done, load $(cut -d ' ' -f 1 /proc/loadavg)"
 done
-/usr/bin/python3 -B "$bench/server.py" tell "$work/results"
+/usr/bin/python3 -B "$bench/server.py" tell "$work/results" "$picture"
 for port in "$own" "$theirs"; do
     redis-cli -p "$port" info memory | grep -E '^used_memory(_rss)?:' | tr -d '\r' | sed "s/^/port $port: /" >&2
 done

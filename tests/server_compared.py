@@ -95,6 +95,7 @@ ASKED = [
     (4, lambda: (b"INCRBYFLOAT", b"float", random.choice(STEPS))),
     (5, lambda: (b"MGET", *keys(6))),
     (4, lambda: (b"MSET", *(it for pair in ((key(), value()) for _ in range(random.randrange(1, 4))) for it in pair))),
+    (1, lambda: (b"MSET", *[value()] * random.randrange(5))),
     (6, lambda: (random.choice(list(SLACK)), key())),
     (8, words_of_expiry),
     (3, lambda: (b"PERSIST", key())),
@@ -116,8 +117,7 @@ ASKED = [
 def queued():
     """A transaction: mostly what is asked anyway, and now and then one that is refused, is nested or is given up."""
     inner = [command() for _ in range(random.randrange(5))]
-    # Of a PING with two words Redis finds at EXEC that it takes one at most, and the server as it is queued.
-    inner = [it for it in inner if it[0].upper() not in (b"DBSIZE", *SLACK) and (it[0] != b"PING" or len(it) < 3)]
+    inner = [it for it in inner if it[0].upper() not in (b"DBSIZE", *SLACK)]
     if random.random() < 0.1:
         inner.append((b"MULTI",))
     return [(b"MULTI",), *inner, random.choice([(b"EXEC",), (b"EXEC",), (b"DISCARD",)])]

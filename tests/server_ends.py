@@ -9,7 +9,7 @@ import tempfile
 import time
 from pathlib import Path
 
-from server_parts import MEBIBYTE, OK, PATIENCE, PONG, ROOT, Client, bulk, children, request, until
+from server_parts import MEBIBYTE, NONE, OK, PATIENCE, PONG, ROOT, Client, bulk, children, request, until
 
 MEMORY = 48 * MEBIBYTE
 # Resident memory may pass what was asked for by so much.
@@ -74,6 +74,36 @@ def what_has_no_room_is_refused(tried, _):
         limited = is_full_alone(server, 32 * MEBIBYTE)
         assert 0 < server.scratch_peak <= 8 * MEBIBYTE, server.scratch_peak
     return f"{alone} in memory, {limited} with 8 MiB of disk"
+
+
+def makes_room(server, memory):
+    """Other keys go where values beyond what there is room for are set; what is found is what was set."""
+    client = server.client()
+    values = {f"evicted{at}": b"%05d" % at * 1000 for at in range(20000)}
+    names = list(values)
+    for at in range(0, len(names), 20):
+        told = client.ask_all([("SET", it, values[it]) for it in names[at:at + 20]])
+        assert told == [OK] * 20, told
+    peak = server.peak()
+    assert peak < memory * SLACK, f"{peak / MEBIBYTE:.1f} MiB were resident"
+    found = {it: told for it, told in zip(names, client.ask_all([("GET", it) for it in names])) if told != NONE}
+    assert len(found) > 500 and all(told == bulk(values[it]) for it, told in found.items()), f"{len(found)} are found, or one is not what was set"
+
+    def is_counted():
+        return int(client.info("stats")["evicted_keys"]) == len(names) - client.number("DBSIZE")
+    # What is read comes into memory, and others may go for it.
+    until(is_counted, "counts that tell the same")
+    return len(found)
+
+
+def keys_are_evicted_where_they_may_be(tried, _):
+    with tried.start("--policy", "allkeys", memory="32m", far=None) as server:
+        alone = makes_room(server, 32 * MEBIBYTE)
+    with tried.start("--policy", "allkeys", "--far-limit", "24m", memory="32m") as server:
+        limited = makes_room(server, 32 * MEBIBYTE)
+        assert 0 < server.scratch() <= 24 * MEBIBYTE
+        assert server.client().strings("CONFIG", "GET", "maxmemory-policy") == [b"maxmemory-policy", b"allkeys-random"]
+    return f"{alone} of 20000 held in memory, {limited} with 24 MiB of disk"
 
 
 @contextlib.contextmanager
@@ -207,13 +237,36 @@ def all_addresses_are_served(tried, _):
 def info_tells_what_the_system_does(tried, _):
     with tried.start(memory="48m") as server:
         client = fill(server, 3000, lambda number: b"%030000d" % number, 10)
-        told = dict(line.split(":", 1) for line in client.value("INFO").decode().split("\r\n") if ":" in line)
+        told = client.info()
         assert int(told["maxmemory"]) == MEMORY, told
         # Of 90 MB some lie in memory, and the others in the folder.
         assert 10e6 < int(told["used_memory"]) < MEMORY and told["db0"].startswith("keys=3000,"), told
         assert client.value("INFO", "far").startswith(b"# Far\r\n")
 
 
-TRIALS = [small_values_stay_within_memory, large_values_stay_within_memory, what_has_no_room_is_refused,
+def info_tells_what_lies_on_disk(tried, _):
+    """The bytes of slots are those of the files, but for the room behind the last object of each file."""
+    def far(client):
+        told = client.info()
+        return int(told["far_objects"]), int(told["far_bytes"])
+
+    with tried.start(memory="48m") as server:
+        client = server.client()
+        assert far(client) == (0, 0)
+        fill(server, 2000, lambda number: b"%060000d" % number, 10)
+        files, (objects, room) = server.scratch(), far(client)
+        assert 0 < objects <= 2000 and files > 70e6 and files <= room <= 2 * 2000 * 60_000, (objects, files, room)
+        assert client.ask("FLUSHALL") == OK
+        # What the calls before left is let go by later ones.
+        until(lambda: client.ask("SET", "k", "1") == OK and far(client)[0] <= 1, "the end of the objects")
+        until(lambda: far(client)[1] <= MEBIBYTE >= server.scratch(), "the end of the files' bytes")
+    with tried.start(memory="32m", far=None) as server:
+        client = server.client()
+        told = client.ask_all([("SET", f"key{at}", b"%030000d" % at) for at in range(2000)])
+        assert any(it.startswith(b"-OOM ") for it in told) and far(client) == (0, 0), far(client)
+    return f"{objects} objects in {room / MEBIBYTE:.1f} MiB, of files of {files / MEBIBYTE:.1f} MiB"
+
+
+TRIALS = [small_values_stay_within_memory, large_values_stay_within_memory, what_has_no_room_is_refused, keys_are_evicted_where_they_may_be,
           a_full_disk_harms_nothing, a_signal_ends_it, who_dies_is_named, who_dies_early_is_named, faults_at_the_start,
-          all_addresses_are_served, info_tells_what_the_system_does]
+          all_addresses_are_served, info_tells_what_the_system_does, info_tells_what_lies_on_disk]

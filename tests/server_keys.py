@@ -4,7 +4,7 @@ import threading
 import time
 
 import histories
-from server_parts import NONE, OK, PATIENCE, bulk, request
+from server_parts import NONE, OK, PATIENCE, bulk, request, until
 
 CLIENTS = 4
 
@@ -136,6 +136,19 @@ def values_expire(tried, _):
     assert client.ask("EXPIRE", "extended", -1) == b":1\r\n" and client.ask("GET", "extended") == NONE
 
 
+def what_expires_goes_though_nobody_meets_it(tried, _):
+    with tried.start() as server:
+        client = server.client()
+        client.ask_all([("SET", f"stays{at}", "value") for at in range(100)] + [("SET", f"later{at}", "value", "EX", 1000) for at in range(100)])
+        client.ask_all([("SET", f"brief{at}", "value", "PX", 300) for at in range(500)])
+        assert client.number("DBSIZE") > 200
+        until(lambda: client.number("DBSIZE") == 200, "the end of what is expired")
+        assert client.info("stats")["expired_keys"] == "500"
+        # A further round begins with the next value that has a deadline.
+        assert client.ask("SET", "brief", "value", "PX", 50) == OK
+        until(lambda: client.number("DBSIZE") == 200, "the end of one more")
+
+
 def scan_all(client, *options):
     """The keys that SCAN gives from 0 to 0."""
     cursor, found = b"0", []
@@ -181,4 +194,4 @@ def scan_gives_every_key_that_stays(tried, _):
 
 
 TRIALS = [one_order_explains_several_clients, no_increment_is_lost, appends_and_float_sums_are_kept, values_expire,
-          scan_gives_every_key_that_stays]
+          what_expires_goes_though_nobody_meets_it, scan_gives_every_key_that_stays]

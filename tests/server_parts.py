@@ -94,6 +94,10 @@ class Client:
         assert told[:1] == b"$", (arguments, told[:80])
         return None if told == NONE else told[told.index(b"\n") + 1:-2]
 
+    def info(self, *sections):
+        """What INFO tells, by its names."""
+        return dict(line.split(":", 1) for line in self.value("INFO", *sections).decode().split("\r\n") if ":" in line)
+
     def strings(self, *arguments):
         """The strings of the reply, an array that has only strings and such arrays."""
         self.send(request(*arguments))
