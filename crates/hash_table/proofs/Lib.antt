@@ -9,3 +9,4 @@ pub mod Meeting
 pub mod Settings
 pub mod Ends
 pub mod Takers
+pub mod Rounds

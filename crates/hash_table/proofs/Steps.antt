@@ -20,7 +20,7 @@ use Rattle.version_words.proofs.Fronts.{prefix_trans, lawful_before, seen_kept}
 use Rattle.frame_cache.specs.Fills.{WasFilled}
 use Rattle.lane_store.specs.Stores.{WasStored}
 use Rattle.hash_table.specs.Calls.{AtMostOneMore, IsTooLong}
-use Rattle.hash_table.specs.Changes.{Sets, SetsIn, IsTooLongFor, Leaves, Fits}
+use Rattle.hash_table.specs.Changes.{SetsIn, IsTooLongFor, Leaves, Fits}
 use Rattle.hash_table.specs.Stages.{IsUndrawn, IsUnreadFar}
 use Rattle.hash_table.specs.Steps.{IsInFrame, IsOnDevice, Lies, GaveOneUp, MayGiveUp, GaveUp, IsOfFrame, IsOfDevice, LeavesSpares, FetchLeavesSpares, SwapLeavesSpares, IsInstalled, IsMovedOver}
 use Rattle.hash_table.proofs.Refused.{map_at, sets_in}

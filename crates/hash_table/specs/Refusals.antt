@@ -9,13 +9,6 @@ passes_by refusal.Moved = true
 passes_by refusal.Missed = true
 passes_by _ = false
 
--- a swap-in lacks a frame, a name, or room for a spare
-abbrev pub lacks_room : Refusal → Bool
-lacks_room refusal.NoFrame = true
-lacks_room refusal.NamesSpent = true
-lacks_room refusal.LimboFull = true
-lacks_room _ = false
-
 -- of one try of a get from a frame
 abbrev pub OfLocalGet : Refusal → Type 0
 OfLocalGet refusal.Memory = ⊤

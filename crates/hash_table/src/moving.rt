@@ -86,7 +86,7 @@ impl<K: FarObject, V: FarObject, J: Naming, D: Device> FarTable<K, V, J, D> {
                 caller.limbo.count(Counted::SwapIn(length));
                 Ok(true)
             }
-            Err(refusal) => Err(refusal),
+            Err((refusal, _)) => Err(refusal),
         }
     }
 

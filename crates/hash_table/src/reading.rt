@@ -1,14 +1,15 @@
 //! Gets.
-ghost use Rattle.std.specs.Prelude.{◌≡◌, ◌≢◌, ◌<◌, IsTrue, IfOk, IfErr};
+ghost use Rattle.std.specs.Prelude.{◌≡◌, ◌≢◌, ◌<◌, true, IsTrue, IfOk, IfErr, length};
 ghost use mathlib.Core.List.{IsPrefix};
 ghost use Rattle.far_object.specs.Buckets.{bucket};
 ghost use Rattle.table_core.specs.declared.operation.Operation.TheVariants.{Get};
-ghost use Rattle.table_core.specs.BucketWords.{name_of};
+ghost use Rattle.table_core.specs.BucketWords.{name_of, place_of, far_place};
 ghost use Rattle.table_core.specs.Maps.{value_at};
 ghost use Rattle.table_core.specs.Logs.{contents, word};
 ghost use Rattle.table_core.specs.Lawful.{IsLawful};
-ghost use Rattle.version_words.specs.Views.{Goes, WasSeen};
-ghost use Rattle.hash_table.specs.Calls.{IsFinished, IsRefused};
+ghost use Rattle.version_words.specs.Views.{Goes, WasSeen, has_object};
+ghost use Rattle.hash_table.specs.declared.refusal.Refusal.TheVariants.{Memory};
+ghost use Rattle.hash_table.specs.Calls.{IsFinished, IsRefused, most_spares};
 ghost use Rattle.hash_table.specs.Refusals.{OfLocalGet, OfFarGet, OfGet};
 ghost use Rattle.hash_table.specs.Rounds.{IsRound};
 ghost use Rattle.hash_table.specs.Stages.{IsUnread, IsUnreadFar};
@@ -20,10 +21,10 @@ use crate::stages::seen::{Place, split};
 use crate::table::FarTable;
 use crate::traffic::Counted;
 use far_device::Device;
-use far_object::FarObject;
+use far_object::{FarObject, Object};
 use std::alloc::Global;
 use std::sync::Wait;
-use version_words::{Moved, Naming, Pass, Probe, empty_holds, seen_answers};
+use version_words::{Change, Moved, Naming, Pass, Probe, empty_holds, seen_answers, seen_stay};
 
 impl<K: FarObject, V: FarObject, J: Naming, D: Device> FarTable<K, V, J, D> {
     // Finds the word still there, and so enters a get that this answers.
@@ -192,7 +193,83 @@ impl<K: FarObject, V: FarObject, J: Naming, D: Device> FarTable<K, V, J, D> {
         }
     }
 
-    // One round of a get of a far bucket: it is fetched, and where a swap-in lacks room it is read through.
+    // A round that answers a get from what was read of the device, where the object stays.
+    fn answer_from(
+        &self,
+        alloc: Global,
+        pass: &mut Pass<K, V, J>,
+        b: u32,
+        old: u64,
+        key: &K,
+        object: &Object<K, V>,
+    ) -> Result<Round<V>, Refusal>
+        requires bucket { (b < J.limits.buckets) × (bucket K.enc J.limits.buckets key.now ≡ b) }
+        requires lawful { IsLawful K.enc V.enc J.limits pass.old.front }
+        requires seen { WasSeen K.enc J.limits.buckets pass.old.front b old }
+        requires object { IsTrue J.limits.honest → object.now ≡ contents pass.old.front (name_of old) }
+        ensures lawful { IsLawful K.enc V.enc J.limits pass.new.front }
+        ensures round { IfOk result (λ r. IsRound K.enc V.enc J.limits pass.old (Get key.now) r pass.new) }
+        ensures goes { IfErr result (λ _. Goes pass.old pass.new) }
+        ensures why { IfErr result (λ e. e ≡ Memory) }
+    {
+        let Ok(found) = object.value(alloc, key) else {
+            return Err(Refusal::Memory);
+        };
+        match self.answer(pass, b, old, key, found) {
+            Ok(answer) => Ok(Round::Finished(answer)),
+            Err(Moved) => Ok(Round::Again),
+        }
+    }
+
+    // A round that brings what was read of the device into a frame, for the next round. Where that lacks a frame or a name, what was
+    // read is the answer.
+    fn bring_in(
+        &self,
+        alloc: Global,
+        caller: &mut Caller<K, V, J>,
+        b: u32,
+        old: u64,
+        key: &K,
+        object: Object<K, V>,
+    ) -> Result<Round<V>, Refusal>
+        requires bucket { (b < J.limits.buckets) × (bucket K.enc J.limits.buckets key.now ≡ b) }
+        requires lawful { IsLawful K.enc V.enc J.limits caller.old.pass.front }
+        requires seen { WasSeen K.enc J.limits.buckets caller.old.pass.front b old }
+        requires far { (has_object old ≡ true) × (place_of old ≡ far_place) }
+        requires object { IsTrue J.limits.honest → object ≡ contents caller.old.pass.front (name_of old) }
+        requires room { length caller.old.limbo < most_spares }
+        ensures lawful { IsLawful K.enc V.enc J.limits caller.new.pass.front }
+        ensures limbo { IsPrefix caller.old.limbo caller.new.limbo }
+        ensures round { IfOk result (λ r. IsRound K.enc V.enc J.limits caller.old.pass (Get key.now) r caller.new.pass) }
+        ensures goes { IfErr result (λ _. Goes caller.old.pass caller.new.pass) }
+        ensures why { IfErr result (λ e. e ≡ Memory) }
+    {
+        seen_stay::<K, V>();
+        let length = object.as_bytes().len();
+        match self.publish_local(
+            &mut caller.pass,
+            &mut caller.limbo,
+            b,
+            old,
+            object,
+            &Change::Move,
+        ) {
+            Ok(()) => {
+                caller.limbo.count(Counted::SwapIn(length));
+                Ok(Round::Again)
+            }
+            Err((_, None)) => Ok(Round::Again),
+            Err((_, Some(object))) => {
+                match self.answer_from(alloc, &mut caller.pass, b, old, key, &object) {
+                    Ok(round) => Ok(round),
+                    Err(refusal) => Err(refusal),
+                }
+            }
+        }
+    }
+
+    // One round of a get of a far bucket, which reads the device once: the object is brought into a frame, for the next round. Where
+    // that lacks a frame, a name or room for a spare, what was read is the answer.
     fn get_far<R: Wait>(
         &self,
         rt: &R,
@@ -207,28 +284,38 @@ impl<K: FarObject, V: FarObject, J: Naming, D: Device> FarTable<K, V, J, D> {
         ensures refused { IfErr result (λ e. IsRefused K.enc V.enc J.limits (bucket K.enc J.limits.buckets key.now) caller.old.pass caller.new.pass e) }
         ensures only { IfErr result (λ e. OfGet e) }
     {
-        match self.fetch(rt, alloc, caller, key) {
-            Ok(_) => Ok(Round::Again),
+        let b = self.bucket(key);
+        let word = self.words.look(&mut caller.pass, b);
+        match split(word) {
+            Place::Nothing => return Ok(Round::Again),
+            Place::Frame(_) => return Ok(Round::Again),
+            Place::Device => {}
+        }
+        let object = match self.read_device(rt, alloc, &caller.pass, b, word) {
+            Ok(object) => object,
             Err(refusal) => {
-                if !refusal.lacks_room() {
-                    return match after(refusal) {
-                        Ok(round) => Ok(round),
-                        Err(refusal) => Err(refusal),
-                    };
-                }
-                match self.read_through(rt, alloc, caller, key) {
-                    Ok(answer) => Ok(Round::Finished(answer)),
-                    Err(refusal) => match after(refusal) {
-                        Ok(round) => Ok(round),
-                        Err(refusal) => Err(refusal),
-                    },
-                }
+                caller.limbo.count(Counted::Refused(refusal));
+                return match after(refusal) {
+                    Ok(round) => Ok(round),
+                    Err(refusal) => Err(refusal),
+                };
             }
+        };
+        caller.limbo.count(Counted::FarRead);
+        if caller.limbo.is_full() || !self.may_reserve(&caller.limbo) {
+            return match self.answer_from(alloc, &mut caller.pass, b, word, key, &object) {
+                Ok(round) => Ok(round),
+                Err(refusal) => Err(refusal),
+            };
+        }
+        match self.bring_in(alloc, caller, b, word, key, object) {
+            Ok(round) => Ok(round),
+            Err(refusal) => Err(refusal),
         }
     }
 
-    /// One round of a get: a get goes on by these until one is finished. A far bucket is fetched, so that the next round finds it
-    /// in its frame; where a swap-in lacks a frame, a name or room for a spare it is read through.
+    /// One round of a get: a get goes on by these until one is finished. A far bucket's object is read once and brought into a
+    /// frame, where the next round finds it; without a frame, a name or room for a spare for that, what was read is the answer.
     ///
     /// `Again` where another round may finish it. It is refused as `get` is. Spares come as `fetch` leaves them.
     pub fn get_round<R: Wait>(
@@ -258,8 +345,8 @@ impl<K: FarObject, V: FarObject, J: Naming, D: Device> FarTable<K, V, J, D> {
         }
     }
 
-    /// A get that goes on until it is done. A far bucket is fetched; where no frame, no name or no room for a spare is left
-    /// for that, it is read through.
+    /// A get that goes on until it is done. A far bucket's object is brought into a frame; without a frame, a name or room for a
+    /// spare for that, what was read is the answer.
     ///
     /// `Memory` comes where a growth is refused, `Device` where the device fails, `Damaged` where what it gives is no object
     /// of this bucket and name. A refused get has made no call. Swap-ins leave their spares, whatever is answered.

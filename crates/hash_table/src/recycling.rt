@@ -83,6 +83,11 @@ impl<K: FarObject, V: FarObject, J: Naming, D: Device> FarTable<K, V, J, D> {
         caller.buffers = Buffers::new();
     }
 
+    /// Whether a frame is likely to be had, by few loads: a hint, of which nothing is claimed.
+    pub(crate) fn may_reserve(&self, limbo: &Limbo<K, V, J>) -> bool {
+        limbo.owns_frame() || self.frames.has_free()
+    }
+
     /// A free frame: the one that the caller owns, or else one behind the last that it had, or else any. `NoFrame` comes as
     /// `Refusal::NoFrame` says.
     pub(crate) fn reserve(

@@ -1,6 +1,6 @@
 //! Why a call of the table is refused.
 ghost use Rattle.std.specs.Prelude.{◌≡◌};
-ghost use Rattle.hash_table.specs.Refusals.{passes_by, lacks_room};
+ghost use Rattle.hash_table.specs.Refusals.{passes_by};
 
 use thiserror::Error;
 
@@ -49,18 +49,6 @@ impl Refusal {
         match self {
             Refusal::Moved => true,
             Refusal::Missed => true,
-            _ => false,
-        }
-    }
-
-    // Whether a swap-in lacks a frame, a name, or room for a spare: a get can do without.
-    pub(crate) fn lacks_room(self) -> bool
-        ensures { result ≡ lacks_room self }
-    {
-        match self {
-            Refusal::NoFrame => true,
-            Refusal::NamesSpent => true,
-            Refusal::LimboFull => true,
             _ => false,
         }
     }

@@ -1,5 +1,5 @@
 //! A new object gets a name and a place, and is installed over the word that was seen.
-ghost use Rattle.std.specs.Prelude.{◌≡◌, ◌<◌, ℕ, [], ◌++◌, IsTrue, IfOk, IfErr, length, option_to_list};
+ghost use Rattle.std.specs.Prelude.{◌≡◌, ◌<◌, ℕ, [], ◌++◌, IsTrue, IfOk, IfErr, IfSome, length, option_to_list};
 ghost use Rattle.table_core.specs.BucketWords.{name_of, place_of, empty_place};
 ghost use Rattle.table_core.specs.Logs.{contents, word};
 ghost use Rattle.table_core.specs.Lawful.{IsLawful};
@@ -54,7 +54,7 @@ impl<K: FarObject, V: FarObject, J: Naming, D: Device> FarTable<K, V, J, D> {
         }
     }
 
-    /// Puts the object into a frame under a new name, and installs it.
+    /// Puts the object into a frame under a new name, and installs it. Where that lacks a frame or a name the object comes back.
     pub(crate) fn publish_local(
         &self,
         pass: &mut Pass<K, V, J>,
@@ -63,7 +63,7 @@ impl<K: FarObject, V: FarObject, J: Naming, D: Device> FarTable<K, V, J, D> {
         old: u64,
         object: Object<K, V>,
         change: &Change<'_, K, V>,
-    ) -> Result<(), Refusal>
+    ) -> Result<(), (Refusal, Option<Object<K, V>>)>
         requires bucket { (b < J.limits.buckets) × IsOfBucket K.enc J.limits.buckets b (operation_of change.now) }
         requires lawful { IsLawful K.enc V.enc J.limits pass.old.front }
         requires seen { WasSeen K.enc J.limits.buckets pass.old.front b old }
@@ -73,22 +73,23 @@ impl<K: FarObject, V: FarObject, J: Naming, D: Device> FarTable<K, V, J, D> {
         ensures lawful { IsLawful K.enc V.enc J.limits pass.new.front }
         ensures limbo { AtMostOneMore limbo.old limbo.new }
         ensures left { IfOk result (λ _. limbo.new ≡ limbo.old ++ option_to_list (spare_of b old pass.new.front)) }
-        ensures given_up { IfErr result (λ e. FetchLeavesSpares (IsOfFrame self.now.frames b) pass.new.front limbo.old limbo.new e) }
+        ensures given_up { IfErr result (λ e. FetchLeavesSpares (IsOfFrame self.now.frames b) pass.new.front limbo.old limbo.new e.0) }
         ensures made { IfOk result (λ _. MakesCall (operation_of change.now) pass.old pass.new) }
         ensures follows { IfOk result (λ _. (w : ℕ) × IsInFrame self.now.frames b w × Follows K.enc J.limits.buckets pass.old.front b old (installing pass.old.number b w (operation_of change.now)) pass.new.front) }
         ensures goes { IfErr result (λ _. Goes pass.old pass.new) }
-        ensures untouched { IfErr result (λ e. IsUntouched pass.old pass.new e) }
-        ensures why { IfErr result (λ e. IsUnpublished K.enc J.limits b old pass.old pass.new e) }
+        ensures untouched { IfErr result (λ e. IsUntouched pass.old pass.new e.0) }
+        ensures why { IfErr result (λ e. IsUnpublished K.enc J.limits b old pass.old pass.new e.0) }
+        ensures kept { IfErr result (λ e. IfSome e.1 (λ o. o ≡ object)) }
     {
         let Ok(reserved) = self.reserve(limbo) else {
             let _front = pass.mark();
-            return Err(Refusal::NoFrame);
+            return Err((Refusal::NoFrame, Some(object)));
         };
         let name = match self.draw(pass, b, old, &object, change) {
             Ok(name) => name,
             Err(refusal) => {
                 self.cancel(limbo, reserved);
-                return Err(refusal);
+                return Err((refusal, Some(object)));
             }
         };
         let frame = reserved.frame();
@@ -100,7 +101,7 @@ impl<K: FarObject, V: FarObject, J: Naming, D: Device> FarTable<K, V, J, D> {
             }
             Err((Moved, name)) => {
                 limbo.keep(Some(name.give_up(frame)));
-                Err(Refusal::Moved)
+                Err((Refusal::Moved, None))
             }
         }
     }

@@ -105,7 +105,7 @@ impl<K: FarObject, V: FarObject, J: Naming, D: Device> FarTable<K, V, J, D> {
                 limbo.count(Counted::Replaced(replaced, length));
                 Ok(answer)
             }
-            Err(refusal) => Err(refusal),
+            Err((refusal, _)) => Err(refusal),
         }
     }
 }

@@ -247,7 +247,7 @@ fn each_call_fails(rt: HostRuntime) {
         ("put a 1\nput e 2\nput i 3\ndel e\nget a\nget e\nget i\n", 0),
         (
             "put a 1\nput b 2\nput c 3\nput d 4\nget a\nget b\nput a 5\ndel c\nget d\n",
-            13,
+            11,
         ),
     ];
     for (file, calls) in rows {

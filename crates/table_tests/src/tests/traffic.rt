@@ -3,7 +3,7 @@
 use super::failing::failing;
 use super::scene::{Scene, played, plays};
 use super::script::{Said, Step};
-use super::users::settings;
+use super::users::{few, settings};
 use hash_table::{ReclaimFault, Refusal};
 
 /// The keys a and e are in one bucket, and b is in another.
@@ -53,13 +53,25 @@ const MOVES: &[(Step, Said)] = &[
     (Step::Traffic, Said::Counted(3, 3, 1, 2, 0, 0)),
 ];
 
-/// A read that changes nothing finds no frame for its swap-in, and the device is read twice.
+/// A read that changes nothing finds no frame for its swap-in, and the device is read once all the same.
 const NO_FRAME: &[(Step, Said)] = &[
     (Step::Put(b'a', 1), Said::Nothing),
     (Step::Put(b'b', 2), Said::Nothing),
     (Step::SwapOut(0), Said::Is(true)),
     (Step::Get(b'a'), Said::Value(1)),
+    (Step::Traffic, Said::Counted(2, 1, 0, 1, 0, 10)),
+    (Step::Get(b'e'), Said::Nothing),
     (Step::Traffic, Said::Counted(2, 2, 0, 1, 0, 10)),
+];
+
+/// The last name was drawn for the swap-out: what a get reads stays on the device.
+const NO_NAME: &[(Step, Said)] = &[
+    (Step::Put(b'a', 1), Said::Nothing),
+    (Step::SwapOut(0), Said::Is(true)),
+    (Step::Get(b'a'), Said::Value(1)),
+    (Step::Traffic, Said::Counted(1, 1, 0, 1, 0, 0)),
+    (Step::Get(b'a'), Said::Value(1)),
+    (Step::Traffic, Said::Counted(1, 2, 0, 1, 0, 0)),
 ];
 
 /// Another caller's object is replaced, and its bytes are taken off here.
@@ -76,6 +88,7 @@ fn reads_moves_and_bytes_are_counted(rt: HostRuntime) {
     for script in [READS, MOVES, NO_FRAME, OTHERS] {
         played(&rt, settings(), script);
     }
+    played(&rt, few(2, 4_096, 2), NO_NAME);
 }
 
 const FAILED_WRITE: &[(Step, Said)] = &[

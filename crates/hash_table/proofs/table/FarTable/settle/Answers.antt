@@ -1,5 +1,5 @@
 use Rattle.version_words.specs.Views.{operation_of, probed}
-use Rattle.std.proofs.Common.{◌≡◌, ◌∙◌, List, length, Option, Some, inl, inr, refl, arith, ap, subst}
+use Rattle.std.proofs.Common.{◌≡◌, ◌∙◌, List, length, Option, Some, inl, inr, arith, ap, subst}
 use Rattle.table_core.specs.Lent.{lent}
 use Rattle.hash_table.specs.Changes.{MayMake}
 use Rattle.hash_table.proofs.Fronts.{installed_finished, left_finished}
