@@ -29,7 +29,10 @@ WITHOUT_GROWTH = {
 } | {
     # One write has the room of the one before.
     f"FileDevice::open, then {call}"
-    for call in ("write, a known id", "write, a new id", "remove", "construct")
+    for call in (
+        "write, a known id", "write, a new id", "write_labelled, a known id", "write_labelled, a new id", "remove",
+        "construct",
+    )
 }
 # The calls that do without some growths that they are refused: they read a copy of a pair that they can't fetch; or a server whose
 # threads are not started, or that looks less far ahead.

@@ -21,9 +21,9 @@ use std::rt::Clock;
 use std::sync::Wait;
 use std::thread::Threads;
 
-/// Serves until each lane's requests are at their end, by a thread for each lane, beside one that sweeps and one that keeps frames
-/// free, over a map that is gone then. INFO tells what the devices tell `usage`. It answers how each lane ended, and behind them the sweep. The faults are those of
-/// `far_map::run_apart`.
+/// Serves until each lane's requests are at their end, by a thread for each lane, beside one that sweeps and one that keeps
+/// frames free, over a map that is gone then. INFO tells what the devices tell `usage`. It answers how each lane ended, and
+/// behind them the sweep. The faults are those of `far_map::run_apart`.
 pub fn run_server<D, P, C, R>(
     rt: &R,
     alloc: Global,
@@ -40,7 +40,8 @@ where
     P::Output: Send,
     C: Clock + Sync,
     R: Threads + Wait + Sync,
-    // On each connection of each lane the replies to its requests, and all calls are those of one history; the sweep's are removals and gets.
+    // On each connection of each lane the replies to its requests, and all calls are those of one history; the sweep's are
+    // removals and gets.
     ensures served { IfOk result (λ ends. IsRunApart enc_blob (λ worker l begun ended end. IsWork P.Input.remaining P.Output.contents (P.opens pipes.now worker) l settings worker begun ended end) (limits_of (sizes_of (config_of settings.map (vec_len devices))) D.HONEST) settings.map.limit (settings.lanes + 1) ends.items) }
     ensures within { IfOk result (λ _. first_bad settings.map (vec_len devices) ≡ None) }
 {

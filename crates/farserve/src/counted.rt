@@ -44,11 +44,13 @@ impl<'a, K: Disk + Measured> CountedDevice<'a, K> {
 }
 
 impl<K: Disk + Measured> Device for CountedDevice<'_, K> {
-    ghost use Rattle.file_device.specs.Devices.{state_in};
+    ghost use Rattle.file_device.specs.Devices.{labels_in, state_in};
 
     ghost state = { λ device. state_in device.inner };
 
     ghost HONEST = { K.HONEST };
+
+    ghost labels = { λ device. labels_in device.inner };
 
     fn construct(&mut self) -> Result<(), DeviceFault> {
         let before = self.kept();
@@ -73,6 +75,17 @@ impl<K: Disk + Measured> Device for CountedDevice<'_, K> {
         let result = self.inner.remove(id);
         self.tell(before);
         result
+    }
+
+    fn write_labelled(&mut self, id: u64, label: u32, bytes: &[u8]) -> Result<bool, DeviceFault> {
+        let before = self.kept();
+        let result = self.inner.write_labelled(id, label, bytes);
+        self.tell(before);
+        result
+    }
+
+    fn read_labelled(&mut self, id: u64, out: &mut Vec<u8>) -> Result<Option<u32>, DeviceFault> {
+        self.inner.read_labelled(id, out)
     }
 
     fn failures(&self) -> u64 {

@@ -13,8 +13,8 @@ const LANE: u64 = 1 << 20;
 /// Bytes of a bucket, whatever it holds: its word and frame.
 const BUCKET: u64 = 75;
 
-/// Bytes of an object on a device: where it lies, and its receipt. There may be one for each bucket.
-const FAR: u64 = 95;
+/// Bytes of an object on a device: where it lies, and its bucket as its label. There may be one for each bucket.
+const FAR: u64 = 65;
 
 /// The least bytes that objects in frames have.
 const LEAST: u64 = 1 << 20;

@@ -11,7 +11,7 @@ use Rattle.file_device.specs.declared.place.Place.{Place}
 use Rattle.file_device.specs.Places.{bytes_at, place_of, contents_of, ChangesAt}
 
 -- the bytes of a place, if there is one
-abbrev bytes_of : Option Place → Option (List ℕ)
+abbrev pub bytes_of : Option Place → Option (List ℕ)
 bytes_of = option_map (λ place. bytes_at place)
 
 find-lookup : (entries : List (ℕ × List ℕ)) (id : ℕ) → find nat_cmp id entries ≡ lookup (nat_eq id) entries

@@ -1,45 +1,51 @@
 -- What a read that found the same length and digest gives.
-use Rattle.std.proofs.Common.{◌≡◌, ◌-◌, ◌++◌, ℕ, Bool, true, IsTrue, List, length, take, drop, Option, Some, Ok, sym, ap, ◌∙◌, refl, subst, arith, length-append, take_all}
-use Rattle.std.proofs.Math.Seq.{drop-append_seam}
-use Rattle.std.specs.Option.{is_some, IfSome}
+use Rattle.std.proofs.Common.{◌≡◌, ◌++◌, ℕ, Bool, true, IsTrue, List, take, Option, Some, Ok, sym, ap, ◌∙◌, subst}
+use Rattle.std.specs.Option.{is_some, option_and_then, IfSome}
 use Rattle.std.specs.FinMap.{get}
 use Rattle.std.specs.declared.random_state.RandomState.{RandomState}
-use Rattle.far_device.specs.Calls.{Reads, Appends}
+use Rattle.far_device.specs.Calls.{Reads, ReadsLabelled, Appends}
 use Rattle.file_device.specs.declared.place.Place.{Place}
 use Rattle.file_device.specs.declared.slot.Slot.{Slot}
-use Rattle.file_device.specs.Digests.{digest_under, GivesAlike}
-use Rattle.file_device.specs.Places.{place_of, slot_of, bytes_at, contents_of, state_of, IsSound, AreKept}
+use Rattle.file_device.specs.Digests.{GivesAs, GivesAlike}
+use Rattle.file_device.specs.Places.{place_of, slot_of, bytes_at, contents_of, labels_of, state_of, IsSound, AreKept}
 use Rattle.file_device.proofs.Contents.{contains_key-contents_of, get-at_place}
 
-pub reads_there : (honest : Bool) (kept : Slot → List ℕ) (keys : RandomState) (entries : List (ℕ × Place)) (failures id : ℕ) (place : Place) (before after : List ℕ) → AreKept honest kept keys entries → Some place ≡ place_of entries id → Appends before after → (IsTrue honest → after ≡ before ++ take place.len (kept (slot_of place))) → Reads honest (state_of entries failures) (state_of entries failures) id before after (Ok true)
-reads_there honest kept keys entries failures id place before after are found appends honestly = record {
+-- what an honest disk gives of an object is what was written
+gives_written : (honest : Bool) (kept : Slot → List ℕ) (keys : RandomState) (entries : List (ℕ × Place)) (id : ℕ) (place : Place) (before after : List ℕ) → AreKept honest kept keys entries → Some place ≡ place_of entries id → (IsTrue honest → after ≡ before ++ take place.len (kept (slot_of place))) → IsTrue honest → IfSome (get (contents_of entries) id) (λ bytes. after ≡ before ++ bytes)
+gives_written honest kept keys entries id place before after are found honestly h =
+    let keeps = (are id place (sym found)).0 h in
+    let P : Option (List ℕ) → Type 0 = λ o. IfSome o (λ bytes. after ≡ before ++ bytes) in
+    subst P (sym (get-at_place entries id place found)) (honestly h ∙ ap (λ (l : List ℕ). before ++ l) keeps)
+
+pub reads_there : (honest : Bool) (kept : Slot → List ℕ) (keys : RandomState) (entries now : List (ℕ × Place)) (failures count id : ℕ) (place : Place) (before after : List ℕ) → AreKept honest kept keys entries → Some place ≡ place_of entries id → Appends before after → (IsTrue honest → after ≡ before ++ take place.len (kept (slot_of place))) → now ≡ entries → count ≡ failures → Reads honest (state_of entries failures) (state_of now count) id before after (Ok true)
+reads_there honest kept keys entries now failures count id place before after are found appends honestly same counts = record {
   found = ap is_some found ∙ sym (contains_key-contents_of entries id);
   appended = appends;
-  honest = λ h.
-      let keeps = (are id place (sym found)).0 h in
-      let P : Option (List ℕ) → Type 0 = λ o. IfSome o (λ bytes. after ≡ before ++ bytes) in
-      subst P (sym (get-at_place entries id place found)) (honestly h ∙ ap (λ (l : List ℕ). before ++ l) keeps);
+  honest = gives_written honest kept keys entries id place before after are found honestly;
   absent = tt;
   fault = tt;
-  kept = refl;
-  counted = refl;
+  kept = ap contents_of same;
+  counted = counts;
 }
 
-given_behind : (before given : List ℕ) → take (length (before ++ given) - length before) (drop (length before) (before ++ given)) ≡ given
-given_behind before given =
-    ap (take (length (before ++ given) - length before)) (drop-append_seam before given)
-    ∙ take_all (length (before ++ given) - length before) given (omega (arith, length-append before given))
+pub reads_labelled : (honest : Bool) (kept : Slot → List ℕ) (keys : RandomState) (entries now : List (ℕ × Place)) (failures count id : ℕ) (place : Place) (label : ℕ) (before after : List ℕ) → AreKept honest kept keys entries → Some place ≡ place_of entries id → place.label ≡ Some label → Appends before after → (IsTrue honest → after ≡ before ++ take place.len (kept (slot_of place))) → now ≡ entries → count ≡ failures → ReadsLabelled honest (state_of entries failures) (state_of now count) (labels_of entries id) id before after (Ok (Some label))
+reads_labelled honest kept keys entries now failures count id place label before after are found labelled appends honestly same counts = record {
+  found = sym labelled ∙ ap (option_and_then (λ (p : Place). p.label)) found;
+  appended = appends;
+  honest = gives_written honest kept keys entries id place before after are found honestly;
+  absent = tt;
+  fault = tt;
+  kept = ap contents_of same;
+  counted = counts;
+}
 
-pub gives_alike : (keys : RandomState) (entries : List (ℕ × Place)) (id : ℕ) (place : Place) (before after read : List ℕ) → IsSound keys place → Some place ≡ place_of entries id → Appends before after → read ≡ take (length after - length before) (drop (length before) after) → (length read ≡ place.len) × (digest_under keys read ≡ place.digest) → IfSome (get (contents_of entries) id) (λ bytes. GivesAlike keys bytes before after)
-gives_alike keys entries id place before after read sound found appends reads alike =
-    let given = appends.0 in
-    let is : after ≡ before ++ given = appends.1 in
-    let behind : read ≡ given = reads ∙ (ap (λ (l : List ℕ). take (length l - length before) (drop (length before) l)) is ∙ given_behind before given) in
+pub gives_alike : (keys : RandomState) (entries : List (ℕ × Place)) (id : ℕ) (place : Place) (before after : List ℕ) → IsSound keys place → Some place ≡ place_of entries id → GivesAs keys place.len place.digest before after → IfSome (get (contents_of entries) id) (λ bytes. GivesAlike keys bytes before after)
+gives_alike keys entries id place before after sound found gives =
     let P : Option (List ℕ) → Type 0 = λ o. IfSome o (λ bytes. GivesAlike keys bytes before after) in
-    let gives : GivesAlike keys (bytes_at place) before after = record {
-      given = given;
-      appended = is;
-      as_long = sym (ap (λ (l : List ℕ). length l) behind) ∙ (alike.0 ∙ sound.0);
-      alike = sym (ap (digest_under keys) behind) ∙ (alike.1 ∙ sound.1);
+    let alike : GivesAlike keys (bytes_at place) before after = record {
+      given = gives.given;
+      appended = gives.appended;
+      as_long = gives.as_long ∙ sound.0;
+      alike = gives.alike ∙ sound.1;
     } in
-    subst P (sym (get-at_place entries id place found)) gives
+    subst P (sym (get-at_place entries id place found)) alike

@@ -8,9 +8,13 @@ use Rattle.std.specs.declared.random_state.RandomState.{RandomState}
 abbrev pub digest_under : RandomState → List ℕ → ℕ
 digest_under keys bytes = finish (write (initial_hasher keys) bytes)
 
--- after is before with bytes at its end that have the length and the digest of those written
-pub record GivesAlike (keys : RandomState) (written before after : List ℕ) : Type 0 where
+-- after is before with bytes at its end that have this length and this digest
+pub record GivesAs (keys : RandomState) (len digest : ℕ) (before after : List ℕ) : Type 0 where
   pub given : List ℕ
   pub appended : after ≡ before ++ given
-  pub as_long : length given ≡ length written
-  pub alike : digest_under keys given ≡ digest_under keys written
+  pub as_long : length given ≡ len
+  pub alike : digest_under keys given ≡ digest
+
+-- after is before with bytes at its end that have the length and the digest of those written
+abbrev pub GivesAlike : RandomState → List ℕ → List ℕ → List ℕ → Type 0
+GivesAlike keys written before after = GivesAs keys (length written) (digest_under keys written) before after

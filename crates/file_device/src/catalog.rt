@@ -4,7 +4,7 @@ ghost use Rattle.std.specs.Bool.{OnTrue};
 ghost use Rattle.std.specs.FinMap.{len};
 ghost use Rattle.std.specs.Option.{option_copied};
 ghost use Rattle.file_device.specs.Owners.{owner_in};
-ghost use Rattle.file_device.specs.Places.{contents_of, place_of, slot_of, AreOwned, ChangesAt, IsFree, IsUnused};
+ghost use Rattle.file_device.specs.Places.{contents_of, place_of, slot_of, AreOwned, ChangesAt, Unlabels, IsFree, IsUnused};
 
 use crate::Slot;
 use crate::owners::Owners;
@@ -125,6 +125,15 @@ impl Catalog {
         match self.index.remove(&id) {
             Some(place) => Some(place.slot()),
             None => None,
+        }
+    }
+
+    /// The object, if there is one, has no label any more.
+    pub(crate) fn unlabel(&mut self, id: u64)
+        ensures { Unlabels self.old.index.entries self.new.index.entries id }
+    {
+        if let Some(place) = self.index.get_mut(&id) {
+            place.label = None;
         }
     }
 

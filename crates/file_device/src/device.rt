@@ -1,9 +1,10 @@
 //! A device over a disk.
-ghost use Rattle.std.specs.Prelude.{◌≡◌, ◌≢◌, ◌<◌, ℕ, Some, IsOk, IsSome, IfOk, IfSome, OnErr};
+ghost use Rattle.std.specs.Prelude.{◌≡◌, ◌≢◌, ◌<◌, ◌++◌, ℕ, IsTrue, take, Some, None, IsOk, IsSome, IfOk, IfSome, OnOk, OnErr};
 ghost use Rattle.std.specs.Bool.{OnTrue};
 ghost use Rattle.std.specs.FinMap.{empty, get, len};
 ghost use Rattle.far_device.specs.Calls.{Constructs, Writes, Reads, Removes, count_after};
-ghost use Rattle.file_device.specs.Digests.{GivesAlike};
+ghost use Rattle.far_device.specs.Calls.{ReadsLabelled, AreNone, AreSame, Relabels, label_after};
+ghost use Rattle.file_device.specs.Digests.{GivesAlike, GivesAs};
 ghost use Rattle.file_device.specs.Owners.{owner_in};
 ghost use Rattle.file_device.specs.Places.{AreKept, IsFree};
 
@@ -18,7 +19,7 @@ use std::alloc::{AllocError, Global};
 use std::hash::RandomState;
 
 /// A device whose objects lie in the slots of a disk. Of each object it keeps where it lies, its
-/// length and its digest.
+/// length, its digest and its label.
 #[derive(Drop)]
 pub struct FileDevice<K: Disk> {
     disk: K,
@@ -31,7 +32,7 @@ pub struct FileDevice<K: Disk> {
 }
 
 impl<K: Disk> FileDevice<K> {
-    ghost use Rattle.file_device.specs.Devices.{contents_in, state_in, slot_in};
+    ghost use Rattle.file_device.specs.Devices.{contents_in, labels_in, state_in, slot_in};
 
     /// An empty device on the disk, whose digests are under these keys. Who opens the device draws
     /// them, and nobody who can write to the disk may know them.
@@ -90,34 +91,13 @@ impl<K: Disk> FileDevice<K> {
             self.catalog.clear(slot.class);
         }
     }
-}
 
-impl<K: Disk> Device for FileDevice<K> {
-    ghost use Rattle.file_device.specs.Devices.{contents_in, keys_in, state_in};
-
-    ghost state = { λ device. state_in device };
-
-    ghost HONEST = { K.HONEST };
-
-    /// Lets go of all slots too, and fails where the disk can't. The device is empty all the same.
-    fn construct(&mut self) -> Result<(), DeviceFault>
-        ensures constructs { Constructs (state_in self.old) (state_in self.new) result }
-        ensures emptied { contents_in self.new ≡ empty }
-    {
-        self.catalog.empty();
-        for class in 0..CLASSES as u8 {
-            if let Err(fault) = self.disk.clear(class) {
-                return Err(self.failures.of_disk(fault));
-            }
-            self.catalog.clear(class);
-        }
-        Ok(())
-    }
-
-    /// An object of more than 64 MiB is `Failed`. After each fault the id has what it had.
-    fn write(&mut self, id: u64, bytes: &[u8]) -> Result<(), DeviceFault>
+    /// As `put`, but after a fault the id has the label that it had too.
+    fn store(&mut self, id: u64, label: Option<u32>, bytes: &[u8]) -> Result<(), DeviceFault>
         ensures writes { Writes (state_in self.old) (state_in self.new) id bytes.now result }
-        ensures refused { OnErr result (contents_in self.new ≡ contents_in self.old) }
+        ensures labelled { OnOk result (Relabels (labels_in self.old) (labels_in self.new) id label) }
+        ensures refused { OnErr result
+            (self.new.catalog.index.entries ≡ self.old.catalog.index.entries) }
     {
         if bytes.len() > LONGEST {
             return Err(self.failures.add(Failure::TooLong));
@@ -134,7 +114,7 @@ impl<K: Disk> Device for FileDevice<K> {
             self.give_back(slot, id);
             return Err(self.failures.of_disk(fault));
         }
-        let place = Place::of(slot.number, &self.scratch, &self.keys);
+        let place = Place::of(slot.number, label, &self.scratch, &self.keys);
         match self.catalog.enter(id, place) {
             Ok(Some(before)) => self.give_back(before, id),
             Ok(None) => {}
@@ -146,19 +126,41 @@ impl<K: Disk> Device for FileDevice<K> {
         Ok(())
     }
 
-    /// Whatever the disk does, what comes has the length and the digest of what was written; where it
-    /// has not, the call answers `Failed`.
-    fn read(&mut self, id: u64, out: &mut Vec<u8>) -> Result<bool, DeviceFault>
-        ensures reads { Reads K.HONEST (state_in self.old) (state_in self.new)
-            id out.old.items out.new.items result }
-        ensures alike { IfOk result (λ there. OnTrue there (IfSome (get (contents_in self.old) id)
-            (λ bytes. GivesAlike (keys_in self.old) bytes out.old.items out.new.items))) }
+    /// Keeps these bytes and this label under the id. After a fault it has the bytes that it had, and
+    /// no label.
+    fn put(&mut self, id: u64, label: Option<u32>, bytes: &[u8]) -> Result<(), DeviceFault>
+        ensures writes { Writes (state_in self.old) (state_in self.new) id bytes.now result }
+        ensures refused { OnErr result (contents_in self.new ≡ contents_in self.old) }
+        ensures labelled { OnOk result (Relabels (labels_in self.old) (labels_in self.new) id label) }
+        ensures unlabelled { OnErr result
+            (Relabels (labels_in self.old) (labels_in self.new) id None) }
     {
-        let Some(place) = self.catalog.place(id) else {
-            return Ok(false);
-        };
+        let done = self.store(id, label, bytes);
+        if done.is_err() {
+            self.catalog.unlabel(id);
+        }
+        done
+    }
+
+    /// Appends the bytes of the slot to `out`, which after a fault is as before. Whatever the disk
+    /// does, they have this length and this digest.
+    fn read_place(
+        &mut self,
+        slot: Slot,
+        len: u32,
+        digest: u64,
+        out: &mut Vec<u8>,
+    ) -> Result<(), DeviceFault>
+        requires { slot.class < 21 }
+        ensures honest { IsTrue K.HONEST → OnOk result
+            (out.new.items ≡ out.old.items ++ take len (K.kept self.old.disk slot)) }
+        ensures alike { OnOk result
+            (GivesAs self.old.keys len digest out.old.items out.new.items) }
+        ensures fault { OnErr result (out.new.items ≡ out.old.items) }
+        ensures counted { self.new.failures.count ≡ count_after result self.old.failures.count }
+        ensures same_index { self.new.catalog.index.entries ≡ self.old.catalog.index.entries }
+    {
         let before = out.len();
-        let (slot, len, digest) = (place.slot(), place.len, place.digest);
         if let Err(fault) = self.disk.read_slot(slot, len, out) {
             return Err(self.failures.of_disk(fault));
         }
@@ -166,12 +168,66 @@ impl<K: Disk> Device for FileDevice<K> {
             out.truncate(before);
             return Err(self.failures.add(Failure::Damaged));
         }
+        Ok(())
+    }
+}
+
+impl<K: Disk> Device for FileDevice<K> {
+    ghost use Rattle.file_device.specs.Devices.{contents_in, keys_in, labels_in, state_in};
+
+    ghost state = { λ device. state_in device };
+
+    ghost HONEST = { K.HONEST };
+
+    ghost labels = { λ device. labels_in device };
+
+    /// Lets go of all slots too, and fails where the disk can't. The device is empty all the same.
+    fn construct(&mut self) -> Result<(), DeviceFault>
+        ensures constructs { Constructs (state_in self.old) (state_in self.new) result }
+        ensures unlabelled { AreNone (labels_in self.new) }
+        ensures emptied { contents_in self.new ≡ empty }
+    {
+        self.catalog.empty();
+        for class in 0..CLASSES as u8 {
+            if let Err(fault) = self.disk.clear(class) {
+                return Err(self.failures.of_disk(fault));
+            }
+            self.catalog.clear(class);
+        }
+        Ok(())
+    }
+
+    /// An object of more than 64 MiB is `Failed`. After each fault the id has what it had, but no
+    /// label.
+    fn write(&mut self, id: u64, bytes: &[u8]) -> Result<(), DeviceFault>
+        ensures writes { Writes (state_in self.old) (state_in self.new) id bytes.now result }
+        ensures unlabelled { Relabels (labels_in self.old) (labels_in self.new) id None }
+        ensures refused { OnErr result (contents_in self.new ≡ contents_in self.old) }
+    {
+        self.put(id, None, bytes)
+    }
+
+    /// Whatever the disk does, what comes has the length and the digest of what was written; where it
+    /// has not, the call answers `Failed`.
+    fn read(&mut self, id: u64, out: &mut Vec<u8>) -> Result<bool, DeviceFault>
+        ensures reads { Reads K.HONEST (state_in self.old) (state_in self.new)
+            id out.old.items out.new.items result }
+        ensures same_labels { AreSame (labels_in self.old) (labels_in self.new) }
+        ensures alike { IfOk result (λ there. OnTrue there (IfSome (get (contents_in self.old) id)
+            (λ bytes. GivesAlike (keys_in self.old) bytes out.old.items out.new.items))) }
+    {
+        let Some(place) = self.catalog.place(id) else {
+            return Ok(false);
+        };
+        let (slot, len, digest) = (place.slot(), place.len, place.digest);
+        self.read_place(slot, len, digest, out)?;
         Ok(true)
     }
 
     /// Never fails.
     fn remove(&mut self, id: u64) -> Result<bool, DeviceFault>
         ensures removes { Removes (state_in self.old) (state_in self.new) id result }
+        ensures unlabelled { Relabels (labels_in self.old) (labels_in self.new) id None }
         ensures ok { IsOk result }
     {
         match self.catalog.remove(id) {
@@ -181,6 +237,38 @@ impl<K: Disk> Device for FileDevice<K> {
             }
             None => Ok(false),
         }
+    }
+
+    /// As `write`. Each label is kept.
+    fn write_labelled(&mut self, id: u64, label: u32, bytes: &[u8]) -> Result<bool, DeviceFault>
+        ensures writes { Writes (state_in self.old) (state_in self.new) id bytes.now result }
+        ensures labelled { Relabels (labels_in self.old) (labels_in self.new) id
+            (label_after result label) }
+        ensures keeps { IfOk result (λ kept. IsTrue kept) }
+        ensures refused { OnErr result (contents_in self.new ≡ contents_in self.old) }
+    {
+        self.put(id, Some(label), bytes)?;
+        Ok(true)
+    }
+
+    /// As `read`, of an id that has a label. It looks into the index once.
+    fn read_labelled(&mut self, id: u64, out: &mut Vec<u8>) -> Result<Option<u32>, DeviceFault>
+        ensures reads { ReadsLabelled K.HONEST (state_in self.old) (state_in self.new)
+            (labels_in self.old id) id out.old.items out.new.items result }
+        ensures same_labels { AreSame (labels_in self.old) (labels_in self.new) }
+        ensures alike { IfOk result (λ found. IfSome found (λ label.
+            IfSome (get (contents_in self.old) id)
+            (λ bytes. GivesAlike (keys_in self.old) bytes out.old.items out.new.items))) }
+    {
+        let Some(place) = self.catalog.place(id) else {
+            return Ok(None);
+        };
+        let Some(label) = place.label else {
+            return Ok(None);
+        };
+        let (slot, count, digest) = (place.slot(), place.len, place.digest);
+        self.read_place(slot, count, digest, out)?;
+        Ok(Some(label))
     }
 
     fn failures(&self) -> u64 {

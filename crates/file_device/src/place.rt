@@ -7,12 +7,13 @@ use crate::digest::digest_of;
 use std::hash::RandomState;
 use std::snapshot::Snapshot;
 
-/// A slot's number, and length and digest of the object in it. The length says the class.
+/// A slot's number, and length, digest and label of the object in it. The length says the class.
 #[derive(Drop)]
 pub(crate) struct Place {
     pub(crate) number: u32,
     pub(crate) len: u32,
     pub(crate) digest: u64,
+    pub(crate) label: Option<u32>,
     // What was written, which takes no memory.
     pub(crate) written: Snapshot<Vec<u8>>,
     ghost short: { len ≤ 2 ^ 26 },
@@ -21,17 +22,19 @@ pub(crate) struct Place {
 impl Place {
     ghost use Rattle.file_device.specs.Places.{bytes_at, slot_of, IsSound};
 
-    /// The place of an object in the slot of this number.
-    pub(crate) fn of(number: u32, written: &Vec<u8>, keys: &RandomState) -> Self
+    /// The place of an object in the slot of this number, with its label, if it has one.
+    pub(crate) fn of(number: u32, label: Option<u32>, written: &Vec<u8>, keys: &RandomState) -> Self
         requires { length written.now.items ≤ 2 ^ 26 }
         ensures written { bytes_at result ≡ written.now.items }
         ensures number { result.number ≡ number }
+        ensures label { result.label ≡ label }
         ensures sound { IsSound keys.now result }
     {
         Place {
             number,
             len: written.len() as u32,
             digest: digest_of(keys, written),
+            label,
             written: Snapshot::of(written),
         }
     }

@@ -1,14 +1,15 @@
 //! What tells whose object a lane keeps.
 ghost use Rattle.std.specs.Prelude.{◌≡◌};
 ghost use Rattle.version_words.specs.Shown.{IsOwn};
-ghost use Rattle.version_words.specs.Views.{IsName};
+ghost use Rattle.version_words.specs.Views.{name_of_parts};
 ghost use Rattle.lane_store.specs.Lanes.{version_of};
 
 use far_object::FarObject;
 use std::marker::Model;
-use version_words::{Mark, Name, Naming};
+use version_words::{Mark, Naming};
 
-/// Whose object a lane keeps: the number, the bucket and the mark of a name. Contracts see them as the name's.
+/// Whose object a lane keeps: the number and the bucket of a name, and the mark of a log in which it was drawn. Contracts see
+/// them as a name's.
 #[derive(Drop)]
 pub struct Receipt<K: FarObject, V: FarObject, J: Naming> {
     number: u64,
@@ -17,34 +18,27 @@ pub struct Receipt<K: FarObject, V: FarObject, J: Naming> {
 }
 
 impl<K: FarObject, V: FarObject, J: Naming> Model for Receipt<K, V, J> {
-    ghost use Rattle.version_words.specs.Views.{NameView, IsName, name_of_parts};
+    ghost use Rattle.version_words.specs.Shown.{IsOwn};
+    ghost use Rattle.version_words.specs.Views.{NameView, name_of_parts};
+    ghost use Rattle.lane_store.specs.Lanes.{version_of};
 
     ghost Value = { NameView K V };
 
     ghost view = { λ r. name_of_parts r.number r.bucket r.mark };
 
-    ghost invariant = { λ r. IsName K.enc V.enc J.limits (name_of_parts r.number r.bucket r.mark) };
+    ghost invariant = { λ r. IsOwn K.enc V.enc J.limits (version_of (name_of_parts r.number r.bucket r.mark)) };
 }
 
 impl<K: FarObject, V: FarObject, J: Naming> Receipt<K, V, J> {
-    pub(crate) fn of(name: &Name<K, V, J>) -> Receipt<K, V, J>
-        ensures same { result ≡ name.now }
-        ensures named { IsName K.enc V.enc J.limits result }
+    /// Of the name of this number, which was drawn for the bucket in a log that begins with the mark.
+    pub(crate) fn of(number: u64, bucket: u32, mark: &Mark<K, V, J>) -> Receipt<K, V, J>
+        requires own { IsOwn K.enc V.enc J.limits (version_of (name_of_parts number bucket mark.now)) }
+        ensures { result ≡ name_of_parts number bucket mark.now }
     {
         Receipt {
-            number: name.number(),
-            bucket: name.bucket(),
-            mark: name.mark(),
-        }
-    }
-
-    pub(crate) fn again(&self) -> Receipt<K, V, J>
-        ensures { result ≡ self.now }
-    {
-        Receipt {
-            number: self.number,
-            bucket: self.bucket,
-            mark: self.mark.again(),
+            number,
+            bucket,
+            mark: mark.again(),
         }
     }
 
@@ -62,7 +56,7 @@ impl<K: FarObject, V: FarObject, J: Naming> Receipt<K, V, J> {
         self.bucket
     }
 
-    /// The mark of the log in which the name was drawn. What was stored is the version that it was drawn for.
+    /// The mark of a log in which the name was drawn. What was stored is the version that it was drawn for.
     pub fn mark(&self) -> &Mark<K, V, J>
         ensures front { result.now ≡ self.now.front }
         ensures own { IsOwn K.enc V.enc J.limits (version_of self.now) }

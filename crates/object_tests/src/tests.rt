@@ -1,5 +1,5 @@
-//! Encodings and objects, many pairs in the order of their keys, devices in the process and in files, the machine of lawful
-//! logs, and requests and replies of the protocol of Redis.
+//! Encodings and objects, many pairs in the order of their keys, devices in the process, in files and over a store, the
+//! machine of lawful logs, and requests and replies of the protocol of Redis.
 mod common;
 mod devices;
 mod encodings;
@@ -7,6 +7,7 @@ mod file_devices;
 mod file_disks;
 mod file_runs;
 mod folders;
+mod labels;
 mod logs;
 mod many;
 mod numbers;

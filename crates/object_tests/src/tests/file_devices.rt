@@ -158,7 +158,7 @@ fn a_disk_that_keeps_its_slots_fails_construct(rt: HostRuntime) {
 }
 
 /// So many bytes.
-fn bytes(rt: &impl Abort, alloc: Global, count: usize) -> Vec<u8> {
+pub(super) fn bytes(rt: &impl Abort, alloc: Global, count: usize) -> Vec<u8> {
     let mut bytes = Vec::new(alloc);
     made(rt, bytes.resize(count, 7));
     bytes

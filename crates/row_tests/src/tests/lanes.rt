@@ -1,10 +1,11 @@
-//! Lanes: the calls of one caller, both formats, a device that fails at each call in turn, devices that give other bytes, what
+//! Lanes: the calls of one caller, both formats, a device that fails at each call in turn, one that keeps labels, devices that give other bytes, what
 //! is read through, and threads at lanes of their own.
 ghost use Rattle.std.specs.Prelude.{◌≡◌, ◌<◌, false};
 ghost use Rattle.table_core.specs.Logs.{contents};
 
 mod calls;
 mod failing;
+mod labelled;
 mod opening;
 mod reading;
 mod script;

@@ -67,7 +67,7 @@ impl Call {
     }
 }
 
-fn run<J: Naming, D: Device, R: Wait + Abort>(
+pub fn run<J: Naming, D: Device, R: Wait + Abort>(
     rt: &R,
     alloc: Global,
     opened: Opened<Text, Text, Unvouched>,

@@ -9,9 +9,9 @@ returns-clause-reads g c =
     let keeps : Keeps c.max.result before read = omega arith in
     record {
       found = search rules;
-      appended = Appends-shortened c.in_ok-there.there c.max.result before read c.truncate.new.self.items keeps c.truncate.ensures.items c.in_ok-there.ensures.appended;
+      appended = Appends-shortened c.in_ok-there.there c.max.result before read c.truncate.new.self.items keeps c.truncate.ensures.items c.in_ok-there.ensures.reads.appended;
       honest = λ never. cc;
-      absent = same-shortened c.in_ok-there.there c.max.result before read c.truncate.new.self.items keeps c.truncate.ensures.items c.in_ok-there.ensures.absent;
+      absent = same-shortened c.in_ok-there.there c.max.result before read c.truncate.new.self.items keeps c.truncate.ensures.items c.in_ok-there.ensures.reads.absent;
       fault = tt;
       kept = search rules;
       counted = search rules;
@@ -20,4 +20,4 @@ returns-clause-reads g c =
 pub returns-clause-lies : goal.returns-clause-lies
 returns-clause-lies g c = λ honest.
     let keeps : Keeps c.max.result c.args.out.now.items c.read.new.out.items = omega arith in
-    known-shortened c.in_ok-there.there _ c.max.result c.args.out.now.items c.read.new.out.items c.truncate.new.self.items keeps c.truncate.ensures.items (rw (← c.self.view_is) (c.in_ok-there.ensures.honest honest))
+    known-shortened c.in_ok-there.there _ c.max.result c.args.out.now.items c.read.new.out.items c.truncate.new.self.items keeps c.truncate.ensures.items (rw (← c.self.view_is) (c.in_ok-there.ensures.reads.honest honest))

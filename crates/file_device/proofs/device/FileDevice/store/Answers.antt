@@ -5,7 +5,7 @@ use Rattle.file_device.specs.Classes.{class_of}
 use Rattle.file_device.specs.Places.{slot_of, contents_of, ChangesAt, IsFree}
 use Rattle.file_device.proofs.Contents.{contents_of-insert}
 use Rattle.file_device.proofs.Kept.{kept_along, kept_beside, kept_after_entry, holds_written, written_whole, same_slot, at_some}
-use Rattle.file_device.proofs.device.FileDeviceDevice.write.Goals as goal
+use Rattle.file_device.proofs.device.FileDevice.store.Goals as goal
 
 pub invariant_of-self-in-Err : goal.invariant_of-self-in-Err
 invariant_of-self-in-Err g c = record {
