@@ -35,8 +35,3 @@ pub use server_name::{Container, OfServer, Subcommand};
 pub use shown::{Request, Shown};
 pub use stored::{DEADLINE_LEN, is_expired, push_stored, read_stored};
 pub use time::{Clock, Time};
-
-#[cfg(test)]
-mod server_tests;
-#[cfg(test)]
-mod tests;

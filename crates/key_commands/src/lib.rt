@@ -16,6 +16,3 @@ mod value;
 
 pub use applying::{apply, is_blind};
 pub use asked::{Effect, KeyCommand, on_one_key};
-
-#[cfg(test)]
-mod tests;

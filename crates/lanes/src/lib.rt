@@ -22,6 +22,3 @@ pub use looped::serve;
 pub use over::Wire;
 pub use served::serve_over;
 pub use service::{Next, Service, Woken};
-
-#[cfg(test)]
-mod tests;

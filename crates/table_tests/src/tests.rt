@@ -19,6 +19,7 @@ mod programs;
 mod recycling;
 mod scene;
 mod script;
+mod tables;
 mod threads;
 mod traffic;
 mod users;

@@ -7,7 +7,7 @@ ghost use Rattle.hash_table.specs.Configs.{sizes_of};
 use super::crowd::threads_share;
 use super::devices::ShortDevice;
 use super::expect::equal;
-use super::users::MANY;
+use super::tables::MANY;
 use far_device::{FakeDevice, FaultyDevice};
 use far_object::FarObject;
 use hash_table::{BucketState, Caller, Config, FarTable, Opening, Refusal};

@@ -3,7 +3,7 @@
 use super::expect::made;
 use super::scene::{Scene, plays};
 use super::script::{Said, Step};
-use super::users::{settings, table_over};
+use super::tables::{settings, table_over};
 use far_device::{CannedDevice, FakeDevice, FaultyDevice, LyingDevice};
 use far_object::Text;
 use hash_table::{BucketState, Config, Opening, ReclaimFault, Refusal};

@@ -3,7 +3,7 @@
 use super::closing::{Callers, Pairs, Puts, Table, all_callers, are};
 use super::expect::{equal, made};
 use super::scene::{Scene, plays};
-use super::users::{settings, table_over};
+use super::tables::{settings, table_over};
 use far_device::{Device, FakeDevice, FaultyDevice};
 use far_object::{FarObject, Text};
 use hash_table::{Config, Stopped, TakesPairs};

@@ -3,7 +3,7 @@
 
 use super::scene::played;
 use super::script::{Said, Step};
-use super::users::{MANY, few};
+use super::tables::{MANY, few};
 use hash_table::{BucketState, ReclaimFault, Refusal};
 
 const FULL: Said = Said::Refused(Refusal::LimboFull);

@@ -2,7 +2,8 @@
 
 use super::expect::{equal, made};
 use super::scene::{Scene, plays};
-use super::users::{User, opened, settings, user_of};
+use super::tables::{opened, settings};
+use super::users::{User, user_of};
 use far_device::Device;
 use far_object::Text;
 use hash_table::FarTable;

@@ -4,7 +4,8 @@ use super::devices::BrokenDevice;
 use super::expect::{equal, made, prints};
 use super::scene::{Scene, plays};
 use super::script::{Said, Step};
-use super::users::{MANY, entered, settings, table_over};
+use super::tables::{MANY, settings, table_over};
+use super::users::entered;
 use far_device::{Device, FakeDevice};
 use far_object::Text;
 use hash_table::{

@@ -2,7 +2,8 @@
 
 use super::scene::played;
 use super::script::{Said, Step};
-use super::users::{User, settings, text};
+use super::tables::{settings, text};
+use super::users::User;
 use far_device::Device;
 use hash_table::{BucketState, Config, ReclaimFault, Refusal};
 use std::sync::Wait;

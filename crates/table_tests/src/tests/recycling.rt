@@ -2,7 +2,8 @@
 
 use super::scene::played;
 use super::script::{Said, Step};
-use super::users::{Answer, MANY, User, few};
+use super::tables::{Answer, MANY, few};
+use super::users::User;
 use far_device::Device;
 use hash_table::Refusal;
 use std::sync::Wait;

@@ -3,7 +3,8 @@
 use super::expect::equal;
 use super::places::put_under_reader;
 use super::recycling::{put_and_reclaim, put_by_a_recycler, put_by_another};
-use super::users::{Answer, Pairs, User, user_of};
+use super::tables::{Answer, Pairs};
+use super::users::{User, user_of};
 use far_device::Device;
 use far_object::Text;
 use hash_table::{BucketState, FarTable, ReclaimFault, Refusal, Traffic};

@@ -3,7 +3,8 @@
 
 use super::expect::equal;
 use super::scene::{Scene, plays};
-use super::users::{Answer, User, opened, settings, user_of};
+use super::tables::{Answer, opened, settings};
+use super::users::{User, user_of};
 use far_device::Device;
 use far_object::Text;
 use hash_table::{Config, FarTable, Refusal};

@@ -3,7 +3,7 @@
 use super::failing::failing;
 use super::scene::{Scene, played, plays};
 use super::script::{Said, Step};
-use super::users::{few, settings};
+use super::tables::{few, settings};
 use hash_table::{ReclaimFault, Refusal};
 
 /// The keys a and e are in one bucket, and b is in another.

@@ -1,6 +1,7 @@
-use crate::applying::{apply, is_blind};
-use crate::asked::{Effect, KeyCommand, on_one_key};
+//! What commands on one key reply, and what they leave there.
+use super::common::{NOW, spans_of};
 use commands::{Arguments, Change, Lifetime, Span, Where, push_stored, read, read_stored};
+use key_commands::{Effect, KeyCommand, apply, is_blind, on_one_key};
 use std::alloc::{AllocError, Global};
 use std::process::Abort;
 use std::test::Fail;
@@ -9,27 +10,11 @@ mod lasting;
 mod reading;
 mod writing;
 
-const NOW: u64 = 1_000_000;
-
 const MOST: u32 = 20;
 
 /// What a key has, as a deadline, a blank and a value, or no text for nothing; a command on the key `k`; and what it comes
 /// to, as `outcome` shows it.
 type Row<'a> = (&'a str, &'a str, &'a str);
-
-/// Where the words of a line lie, which one blank parts.
-fn spans_of(alloc: Global, line: &str) -> Result<Vec<Span>, AllocError> {
-    let mut spans = Vec::new(alloc);
-    let mut from = 0usize;
-    for word in line.split(' ') {
-        spans.push(Span {
-            from,
-            len: word.len(),
-        })?;
-        from = from.saturating_add(word.len()).saturating_add(1);
-    }
-    Ok(spans)
-}
 
 /// What a line asks of one key.
 fn asked<'a>(line: &'a str, spans: &'a [Span]) -> Option<KeyCommand<'a>> {

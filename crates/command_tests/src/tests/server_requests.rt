@@ -1,9 +1,7 @@
-use crate::arguments::Arguments;
-use crate::command::Command;
-use crate::pattern::matches;
-use crate::reading::read;
-use crate::server::{ClientInfo, Scan, ServerCommand};
-use crate::tests::{NOW, outcome, spans_of};
+//! What a request to the server itself is read as.
+use super::common::{NOW, spans_of};
+use super::requests::outcome;
+use commands::{Arguments, ClientInfo, Command, Scan, ServerCommand, read};
 use std::test::Fail;
 
 #[test]
@@ -219,52 +217,4 @@ fn scans(rt: HostRuntime) -> Result<(), Fail> {
         assert_eq!(rt; strings, with_strings, "at {line}");
     }
     Ok(())
-}
-
-#[test]
-fn patterns_as_redis_matches_them(rt: HostRuntime) {
-    let table = [
-        ("", "", true),
-        ("", "a", false),
-        ("*", "", true),
-        ("*", "abc", true),
-        ("a*", "a", true),
-        ("a*c", "abbc", true),
-        ("a*c", "abbd", false),
-        ("*a*b*c", "xaybzbc", true),
-        ("*ab", "aab", true),
-        ("a**b", "ab", true),
-        ("?", "a", true),
-        ("?", "", false),
-        ("a?c", "abc", true),
-        ("h[ae]llo", "hello", true),
-        ("h[ae]llo", "hillo", false),
-        ("h[^e]llo", "hallo", true),
-        ("h[^e]llo", "hello", false),
-        ("h[a-b]llo", "hbllo", true),
-        ("h[b-a]llo", "hallo", true),
-        ("h[a-b]llo", "hcllo", false),
-        ("[a-]", "]", true),
-        ("[a-]", "a", true),
-        ("[a-", "-", true),
-        ("[abc", "b", true),
-        ("[", "a", false),
-        ("[^", "a", true),
-        ("[]", "a", false),
-        ("[^]", "a", true),
-        ("[\\]]", "]", true),
-        ("\\*", "*", true),
-        ("\\*", "a", false),
-        ("\\", "\\", true),
-        ("*[a-z]?", "12a9", true),
-        (
-            "a*a*a*a*a*a*a*a*a*b",
-            "aaaaaaaaaaaaaaaaaaaaaaaaaaaaaaaaaaaaaaaa",
-            false,
-        ),
-    ];
-    for (pattern, text, want) in table {
-        let got = matches(pattern.as_bytes(), text.as_bytes());
-        assert_eq!(rt; got, want, "{pattern} at {text}");
-    }
 }

@@ -1,6 +1,6 @@
 use Rattle.std.proofs.Common.{List, ℕ, [], ◌∷◌, ◌++◌, sym, ap, ◌∙◌, append-nil}
 use Rattle.resp.specs.Replies.{token, String}
-use Rattle.lanes.proofs.tests.EchoService.answer.Goals as goal
+use Rattle.command_tests.proofs.tests.framed.EchoService.answer.Goals as goal
 
 pub returns-in-Ok : goal.returns-in-Ok
 returns-in-Ok c =

@@ -2,7 +2,7 @@
 ghost use Rattle.std.specs.Prelude.{◌<◌, length};
 ghost use Rattle.resp.specs.Parsing.{AreWithin};
 
-use crate::{FrameFault, LaneFault, Next, Service, Woken, serve_over};
+use lanes::{FrameFault, LaneFault, Next, Service, Woken, serve_over};
 use resp::{Limits, Span, push_string};
 use std::alloc::{AllocError, Global};
 use std::fmt::Debug;

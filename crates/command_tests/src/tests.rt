@@ -1,0 +1,8 @@
+//! What a request asks for, as a command or in the words of Redis's faults; what a command on one key replies and leaves; and
+//! lanes over bytes in memory.
+mod common;
+mod framed;
+mod keys;
+mod parts;
+mod requests;
+mod server_requests;
