@@ -69,6 +69,6 @@ for port in "$own" "$theirs"; do
     redis-cli -p "$port" info memory | grep -E '^used_memory(_rss)?:' | tr -d '\r' | sed "s/^/port $port: /" >&2
 done
 resident() { awk '/^VmRSS/ { print $2 / 1024 }' "/proc/$1/status"; }
-read -r -a parts <"/proc/${started[0]}/task/${started[0]}/children"
+read -r -a parts <<<"$(cat "/proc/${started[0]}/task/${started[0]}/children")"
 own=$(for part in "${parts[@]}"; do resident "$part"; done | tr '\n' ' ')
 say "resident MiB: farserve's parts ${own}redis-server $(resident "${started[1]}")"

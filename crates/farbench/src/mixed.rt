@@ -92,9 +92,8 @@ impl Mixed<'_> {
         Ok(())
     }
 
-    /// How many bytes are resident beyond those before the map was opened, as soon as all workers are here.
+    /// How many bytes are resident beyond those before the map was opened.
     fn grown(&self) -> Result<u64> {
-        self.gate.pass();
         Ok(resident(self.host)?.saturating_sub(self.setting.before))
     }
 
@@ -111,7 +110,7 @@ impl Mixed<'_> {
         let (keys, value) = (self.setting.keys.as_slice(), &self.setting.value);
         let before = me.traffic();
         let user = User::new(alloc, me, keys, value, draws, part, gets)?;
-        self.gate.pass();
+        self.gate.pass(rt);
         let span = alone(self.host, rt, &(), user, calls_each(draws)?)?;
         let after = me.traffic();
         // A get that brings its object into a frame reads it there too.
@@ -143,6 +142,32 @@ impl Mixed<'_> {
         }
         Ok(())
     }
+
+    /// What this worker sees, who waits for the others before each part.
+    fn see<S: Calls<Text>, R: Wait>(
+        &self,
+        rt: &R,
+        alloc: Global,
+        worker: u32,
+        me: &mut S,
+    ) -> Result<Seen> {
+        if !self.gate.meet() {
+            bail!("not all threads were started");
+        }
+        let opened = self.grown()?;
+        self.fill(rt, alloc, worker, me)?;
+        self.gate.pass(rt);
+        let filled = self.grown()?;
+        let mut took = Vec::new(alloc);
+        for draws in &self.setting.draws {
+            self.on_draws(rt, alloc, worker, me, draws.as_slice(), &mut took)?;
+        }
+        Ok(Seen {
+            opened,
+            filled,
+            took,
+        })
+    }
 }
 
 impl Work<Text> for Mixed<'_> {
@@ -155,18 +180,11 @@ impl Work<Text> for Mixed<'_> {
         worker: u32,
         me: &mut S,
     ) -> Result<Seen> {
-        let opened = self.grown()?;
-        self.fill(rt, alloc, worker, me)?;
-        let filled = self.grown()?;
-        let mut took = Vec::new(alloc);
-        for draws in &self.setting.draws {
-            self.on_draws(rt, alloc, worker, me, draws.as_slice(), &mut took)?;
+        let seen = self.see(rt, alloc, worker, me);
+        if seen.is_err() {
+            self.gate.open();
         }
-        Ok(Seen {
-            opened,
-            filled,
-            took,
-        })
+        seen
     }
 }
 

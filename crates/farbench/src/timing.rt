@@ -6,12 +6,15 @@ use std::fmt::Display;
 use std::hint::spin_loop;
 use std::rt::Clock;
 use std::sync::Wait;
-use std::sync::atomic::{AtomicU64, Ordering};
-use std::thread::{Threads, map_vec};
+use std::sync::atomic::{AtomicBool, AtomicU64, Ordering};
+use std::thread::{Threads, map_vec, yield_now};
 use std::{fmt, io};
 
-/// How often a thread looks whether the others are there before it begins without them.
+/// How often a thread looks whether the others have been started before it begins without them.
 const LONGEST_WAIT: u32 = 1_000_000_000;
+
+/// How often a thread looks whether the others are there before it lets others go first.
+const LOOKS: u32 = 1_000;
 
 /// By how many threads a call is measured.
 const THREADS: [u32; 3] = [1, 2, 4];
@@ -32,12 +35,13 @@ pub trait Runner<S> {
     fn end<R: Wait>(&mut self, _rt: &R, _shared: &S) {}
 }
 
-/// Where threads wait for one another, so that none has all for itself while others are being started, as often as they come
-/// here. They don't yield meanwhile: one that is put to sleep here would begin too late.
+/// Where threads wait for one another, as often as they come here.
 #[derive(Drop)]
 pub struct Gate {
     threads: u64,
     arrived: AtomicU64,
+    /// Whether nobody is waited for any more.
+    is_open: AtomicBool,
 }
 
 impl Gate {
@@ -45,19 +49,53 @@ impl Gate {
         Gate {
             threads: u64::from(threads.max(1)),
             arrived: AtomicU64::new(0),
+            is_open: AtomicBool::new(false),
         }
     }
 
-    pub fn pass(&self) {
+    /// Counts one more, and answers how many there are once all have come as often as this one.
+    fn arrive(&self) -> u64 {
         let before = self.arrived.fetch_add(1, Ordering::SeqCst);
         let round = before.checked_div(self.threads).unwrap_or(0);
-        let wanted = round.wrapping_add(1).wrapping_mul(self.threads);
+        round.wrapping_add(1).wrapping_mul(self.threads)
+    }
+
+    fn lets_through(&self, wanted: u64) -> bool {
+        self.is_open.load(Ordering::SeqCst) || self.arrived.load(Ordering::SeqCst) >= wanted
+    }
+
+    /// Where threads come first, so that none has all for itself while others are being started. Whether all came: where one can't
+    /// be started, its work may be done by one that waits here. They don't yield meanwhile: one that is put to sleep here would
+    /// begin too late.
+    pub fn meet(&self) -> bool {
+        let wanted = self.arrive();
         for _ in 0..LONGEST_WAIT {
-            if self.arrived.load(Ordering::SeqCst) >= wanted {
-                return;
+            if self.lets_through(wanted) {
+                break;
             }
             spin_loop();
         }
+        self.arrived.load(Ordering::SeqCst) >= wanted
+    }
+
+    /// Waits as long as it takes until all are here, who have met before. What a slow device keeps from its thread's work is waited
+    /// for too, so who is still at work goes first.
+    pub fn pass<R: Wait>(&self, rt: &R) {
+        let wanted = self.arrive();
+        for _ in rt.forever() {
+            for _ in 0..LOOKS {
+                if self.lets_through(wanted) {
+                    return;
+                }
+                spin_loop();
+            }
+            yield_now();
+        }
+    }
+
+    /// Lets all through from now on, since one will not come again.
+    pub fn open(&self) {
+        self.is_open.store(true, Ordering::SeqCst);
     }
 }
 
@@ -156,7 +194,7 @@ pub fn race<R: Clock + Threads + Wait + Sync, S: Sync, T: Runner<S> + Send + Dro
         rt,
         runners,
         &|runner| {
-            gate.pass();
+            gate.meet();
             timed(rt, rt, shared, runner, rounds)
         },
     )?;
