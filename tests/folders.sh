@@ -54,7 +54,7 @@ try_fault 2 'far 2: cannot open' --far "$work/one" --far '' 4 2 4096 -
 try_fault 2 'far 1: cannot open' --far "$work/many.txt" 4 2 4096 -
 try_fault 1 'file 1: cannot open' --far "$work/one" 4 2 4096 "$work/no_file"
 try_fault 2 'bad config 1' --far "$work/one" 0 2 4096 -
-try_fault 2 'usage: farrun [--far DIR]... [--lanes N] BUCKETS FRAMES LIMIT FILE...' --far "$work/one" 4 2 x -
+try_fault 2 'usage: farrun [--far DIR | --far-resp-in PIPE --far-resp-out PIPE]... [--lanes N] BUCKETS FRAMES LIMIT FILE...' --far "$work/one" 4 2 x -
 
 # Root writes to any folder.
 if [ "$(id -u)" -ne 0 ]; then

@@ -24,7 +24,7 @@ WITHOUT_GROWTH = {
     "Calls::contains, a frame", "Calls::hold, a frame",
 } | {
     f"{device}Device::{call}"
-    for device in ("Fake", "Faulty", "Lying", "Canned", "Watched", "File")
+    for device in ("Fake", "Faulty", "Lying", "Canned", "Watched", "File", "Resp")
     for call in ("remove", "construct")
 } | {
     # One write has the room of the one before.

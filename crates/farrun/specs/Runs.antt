@@ -12,8 +12,9 @@ use Rattle.farrun.specs.declared.fault.Fault.TheVariants as fault
 abbrev pub WasOpenedFor : List (List ℕ) → Type 0
 WasOpenedFor words = (config : Config) × (count : ℕ) × AskFor words config count × WasOpened config
 
--- what the writer has after a fault: what it had where words or a folder are wrong, and else what it has without folders
+-- what the writer has after a fault: what it had where words, a folder or a pipe are wrong, and else what it has without them
 abbrev pub LeavesOutput : List (List ℕ) → Option (List ℕ) → Option (List ℕ) → Fault → Type 0
 LeavesOutput words old new fault.Usage = Keeps old new
 LeavesOutput words old new (fault.Folder f) = Keeps old new
+LeavesOutput words old new (fault.Store number) = Keeps old new
 LeavesOutput words old new (fault.Program f) = ProgramLeaves words old new f

@@ -5,9 +5,10 @@ use Rattle.file_device.specs.declared.folders.FolderFault.TheVariants as folder
 use Rattle.farrun.specs.declared.fault.Fault.{Fault}
 use Rattle.farrun.specs.declared.fault.Fault.TheVariants as fault
 
--- wrong words and folders end with 2, and all else as it does without folders
+-- wrong words, folders and pipes end with 2, and all else as it does without folders
 abbrev pub status_of : Fault → ℕ
 status_of fault.Usage = 2
 status_of (fault.Folder (folder.CannotOpen number)) = 2
 status_of (fault.Folder folder.Memory) = 1
+status_of (fault.Store number) = 2
 status_of (fault.Program f) = program_status f

@@ -9,12 +9,16 @@ use thiserror::Error;
 /// Why the program ends early. Its text is the line on standard error.
 #[derive(Clone, Copy, Debug, PartialEq, Eq, Error)]
 pub enum Fault {
-    /// The words are no three numbers and 1 to 64 files, or there are more than 64 folders.
-    #[error("usage: farrun [--far DIR]... [--lanes N] BUCKETS FRAMES LIMIT FILE...")]
+    /// The words are no three numbers and 1 to 64 files; there are more than 64 folders; or there is no pair of pipes for each
+    /// lane, or a folder beside them.
+    #[error("usage: farrun [--far DIR | --far-resp-in PIPE --far-resp-out PIPE]... [--lanes N] BUCKETS FRAMES LIMIT FILE...")]
     Usage,
     /// A folder that can't be used.
     #[error("{0}")]
     Folder(FolderFault),
+    /// A pair of pipes that can't be used, by its number from 1.
+    #[error("far-resp {0}: cannot open")]
+    Store(usize),
     /// What comes of the files and the run.
     #[error("{0}")]
     Program(ProgramFault),
@@ -27,14 +31,14 @@ pub const MEMORY: Fault = Fault::Program(ProgramFault::Run(RunFault::Memory));
 pub const WRITE: Fault = Fault::Program(ProgramFault::Run(RunFault::Write));
 
 impl Fault {
-    /// The status that the program ends with: 2 for wrong arguments, folders, settings and command files, and 1 for what the
+    /// The status that the program ends with: 2 for wrong arguments, folders, pipes, settings and command files, and 1 for what the
     /// system refused.
     pub fn status(self) -> u8
         ensures { result ≡ status_of self }
     {
         match self {
             Fault::Usage => 2,
-            Fault::Folder(FolderFault::CannotOpen(_)) => 2,
+            Fault::Folder(FolderFault::CannotOpen(_)) | Fault::Store(_) => 2,
             Fault::Folder(FolderFault::Memory) => 1,
             Fault::Program(fault) => fault.status(),
         }

@@ -1,10 +1,11 @@
-//! `farrun [--far DIR]... [--lanes N] BUCKETS FRAMES LIMIT FILE...`: runs command files on a table that threads share, over devices
-//! of one's choice, and prints the replies and the contents.
+//! `farrun [--far DIR | --far-resp-in PIPE --far-resp-out PIPE]... [--lanes N] BUCKETS FRAMES LIMIT FILE...`: runs command files on a
+//! table that threads share, over devices of one's choice, and prints the replies and the contents.
 #![tactic(auto)]
 
 mod asked;
 mod fault;
 mod running;
+mod stores;
 
 use asked::{Asked, command};
 use clap::error::ErrorKind;

@@ -1,4 +1,4 @@
-//! The run, over devices in the process or in folders.
+//! The run, over devices in the process, in folders or in a store.
 ghost use Rattle.std.specs.Prelude.{◌≡◌, ◌<◌, ◌≤◌, false, IsTrue, length, map, string_bytes, Err, IfErr, OnOk};
 ghost use Rattle.far_driver.specs.Arguments.{are_arguments, AskFor};
 ghost use Rattle.far_driver.specs.Runs.{RanWords};
@@ -6,6 +6,7 @@ ghost use Rattle.farrun.specs.Runs.{LeavesOutput, WasOpenedFor};
 
 use crate::asked::Asked;
 use crate::fault::{Fault, MEMORY};
+use crate::stores::open_stores;
 use far_device::Device;
 use far_driver::{
     Arguments, OpenGate, ProgramFault, open_lanes, open_sources, read_arguments, run_files,
@@ -52,9 +53,9 @@ where
     }
 }
 
-/// Runs what is asked for, over devices in folders where some are named, and else in the process.
+/// Runs what is asked for, over devices in folders where some are named, in stores where pipes are, and else in the process.
 ///
-/// The faults come in the order of the work: the words, the folders, the files, and then those of `far_driver::run_files`. Devices in
+/// The faults come in the order of the work: the words, the folders or pipes, the files, and then those of `far_driver::run_files`. Devices in
 /// folders are opened by the program's own handle: one that is known by its bounds alone may not be sent to threads.
 pub fn run_asked<R, W>(
     rt: &R,
@@ -66,7 +67,7 @@ where
     R: Files + Input + AllocGlobal + Threads + Wait + Sync,
     W: Write,
     ensures usage { are_arguments (map string_bytes asked.now.words.items) ≡ false → (result ≡ Err Fault.Usage) × (out.new ≡ out.old) }
-    ensures ran { length asked.now.folders.items ≡ 0 → OnOk result (RanWords (map string_bytes asked.now.words.items) (W.contents out.old) (W.contents out.new)) }
+    ensures ran { length asked.now.folders.items ≡ 0 → length asked.now.replies.items ≡ 0 → length asked.now.requests.items ≡ 0 → OnOk result (RanWords (map string_bytes asked.now.words.items) (W.contents out.old) (W.contents out.new)) }
     ensures opened { OnOk result (WasOpenedFor (map string_bytes asked.now.words.items)) }
     ensures before { IfErr result (LeavesOutput (map string_bytes asked.now.words.items) (W.contents out.old) (W.contents out.new)) }
 {
@@ -74,6 +75,18 @@ where
     let Some(arguments) = read_arguments(words) else {
         return Err(Fault::Usage);
     };
+    let (replies, requests) = (asked.replies.as_slice(), asked.requests.as_slice());
+    if !replies.is_empty() || !requests.is_empty() {
+        let lanes = asked.lanes as usize;
+        if !folders.is_empty() || replies.len() != lanes || requests.len() != lanes {
+            return Err(Fault::Usage);
+        }
+        return match open_stores(host, replies, requests) {
+            Ok(devices) => run_over(rt, words, arguments, devices, out),
+            Err(Some(number)) => Err(Fault::Store(number)),
+            Err(None) => Err(MEMORY),
+        };
+    }
     if folders.is_empty() {
         let Ok(devices) = open_lanes(rt.alloc(), asked.lanes) else {
             return Err(MEMORY);

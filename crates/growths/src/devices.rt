@@ -1,5 +1,6 @@
 //! The calls of each device of `far_device`, over a device in the process, and of one on a disk.
 
+mod stored;
 mod tested;
 
 use crate::trials::{Answer, Outcome, Tried, answer, nine, tell, tell_of, tried};
@@ -14,6 +15,7 @@ use std::rt::Files;
 use std::sync::Arc;
 use std::sync::atomic::AtomicU64;
 use std::{fs, io};
+use stored::tell_store;
 use tested::{KNOWN, LABEL, NEW, OLD, PLAIN, Shown, Tested, WRITTEN, prepared};
 
 /// How many ids are more than a node of a tree holds.
@@ -246,6 +248,7 @@ where
     tell_labels(rt, "FileDevice::", on_disk)?;
     let many = append_many(rt.alloc(), on_disk(rt.alloc()));
     tell(rt, "FileDevice::write, many ids", many)?;
+    tell_store(rt)?;
     // Where it is there already, it serves too.
     let _ = fs::create_dir(rt, FOLDER);
     tell(rt, "FileDevice::open", open(rt))?;

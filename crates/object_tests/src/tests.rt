@@ -16,4 +16,7 @@ mod orders;
 mod pairs;
 mod replies;
 mod requests;
+mod store_devices;
+mod store_runs;
+mod stores;
 mod tampered;

@@ -1,0 +1,5 @@
+pub mod Devices
+pub mod Digests
+pub mod Failures
+pub mod Objects
+pub mod Wire
