@@ -1,8 +1,7 @@
 //! A lane of the server, and its clients: what comes from their sockets goes to the lane's one pipe in frames, and what comes
 //! by the other goes to them.
 //!
-//! A frame is its kind in a byte, a connection in 4 bytes, a length in 4 bytes, and so many bytes; numbers have the highest
-//! byte first. Only data has bytes; a wake has connection 0.
+//! The number of a frame (`frame`) is a connection's; a wake has 0.
 //!
 //! | Kind | From the front | From the lane |
 //! |---|---|---|
@@ -20,29 +19,20 @@
 //! the rest waits in the sockets.
 
 use crate::channel::Channel;
+use crate::frame::{head, Frame, Frames, CLOSE, DATA, OPEN, REPLIES, REQUESTS};
 use crate::system::{Epoll, OUTPUT};
 use std::fs::File;
 use std::io::{self, ErrorKind};
 use std::mem;
 use std::time::{Duration, Instant};
 
-const DATA: u8 = 0;
-const OPEN: u8 = 1;
-const CLOSE: u8 = 2;
 const WAKE: u8 = 3;
-/// Bytes of a frame before those of its client.
-const HEAD: usize = 9;
 /// Bytes of one read of a socket, and so the most of a frame for the lane.
 const READ: usize = 1 << 16;
 /// Bytes that wait for the lane before no more input is read.
 const INPUT_LIMIT: usize = 1 << 16;
-/// Bytes of one read of the replies.
-const REPLIES_READ: usize = 1 << 18;
-/// In the place of a connection, the tokens of the lane's pipes.
-const REQUESTS: u64 = u32::MAX as u64;
-const REPLIES: u64 = REQUESTS - 1;
 
-/// What all lanes share.
+/// What all lanes and links share.
 pub struct Shared {
     pub epoll: Epoll,
     /// Bytes that may wait for a client.
@@ -53,8 +43,8 @@ pub struct Shared {
     pub now: Instant,
     /// Every lane is to be woken.
     pub wakes: bool,
-    /// Room for what a client sent.
-    room: Vec<u8>,
+    /// Room for what came by a socket.
+    pub room: Vec<u8>,
 }
 
 impl Shared {
@@ -87,26 +77,11 @@ pub struct Lane {
     place: u64,
     requests: Channel,
     replies: Channel,
-    /// Room for replies, at whose front stands what came of a head that is not whole yet.
-    came: Vec<u8>,
-    begun: usize,
-    /// Whose data is coming, and how many bytes are still to come.
-    coming: (usize, usize),
+    frames: Frames,
     clients: Vec<Client>,
     free: Vec<usize>,
     paused: Vec<usize>,
     owes_wake: bool,
-}
-
-fn head(kind: u8, connection: usize, length: usize) -> [u8; HEAD] {
-    let mut bytes = [kind; HEAD];
-    bytes[1..5].copy_from_slice(&(connection as u32).to_be_bytes());
-    bytes[5..].copy_from_slice(&(length as u32).to_be_bytes());
-    bytes
-}
-
-fn number(bytes: &[u8]) -> usize {
-    bytes.iter().fold(0, |all, byte| all << 8 | usize::from(*byte))
 }
 
 impl Lane {
@@ -115,9 +90,8 @@ impl Lane {
         let requests = Channel::new(requests, place | REQUESTS);
         let mut replies = Channel::new(replies, place | REPLIES);
         replies.watch(epoll, true)?;
-        let (clients, free, paused) = Default::default();
-        let (came, begun, coming) = (vec![0; REPLIES_READ], 0, (0, 0));
-        Ok(Lane { place, requests, replies, came, begun, coming, clients, free, paused, owes_wake: false })
+        let (frames, (clients, free, paused)) = (Frames::new(), Default::default());
+        Ok(Lane { place, requests, replies, frames, clients, free, paused, owes_wake: false })
     }
 
     /// Whether no number is taken.
@@ -262,44 +236,23 @@ impl Lane {
 
     /// Reads the replies once, and does what their frames say.
     fn take_replies(&mut self, shared: &mut Shared) -> io::Result<()> {
-        let mut came = mem::take(&mut self.came);
-        let count = match self.replies.read(&mut came[self.begun..])? {
-            Some(0) => return Err(ErrorKind::UnexpectedEof.into()),
-            count => count.unwrap_or(0),
-        };
-        let mut rest = &came[..self.begun + count];
-        loop {
-            let (bytes, behind) = rest.split_at(self.coming.1.min(rest.len()));
-            self.coming.1 -= bytes.len();
-            self.send(self.coming.0, bytes, shared);
-            rest = behind;
-            if rest.len() < HEAD {
-                break;
+        let mut frames = mem::take(&mut self.frames);
+        frames.read(&self.replies)?;
+        while let Some(frame) = frames.next()? {
+            match frame {
+                Frame::Data(number, bytes) => self.send(number, bytes, shared),
+                Frame::Sign(CLOSE, number) => self.end_output(number, shared),
+                Frame::Sign(WAKE, _) => shared.wakes = true,
+                Frame::Sign(..) => return Err(ErrorKind::InvalidData.into()),
             }
-            self.obey(&rest[..HEAD], shared)?;
-            rest = &rest[HEAD..];
         }
-        let end = self.begun + count;
-        self.begun = rest.len();
-        came.copy_within(end - self.begun..end, 0);
-        self.came = came;
-        Ok(())
-    }
-
-    fn obey(&mut self, head: &[u8], shared: &mut Shared) -> io::Result<()> {
-        let (connection, length) = (number(&head[1..5]), number(&head[5..]));
-        match (head[0], length) {
-            (DATA, _) => self.coming = (connection, length),
-            (CLOSE, 0) => self.end_output(connection, shared),
-            (WAKE, 0) => shared.wakes = true,
-            _ => return Err(ErrorKind::InvalidData.into()),
-        }
+        self.frames = frames;
         Ok(())
     }
 
     /// Gives a client what the lane sent it.
     fn send(&mut self, number: usize, bytes: &[u8], shared: &mut Shared) {
-        let Some(client) = self.clients.get_mut(number).filter(|it| !bytes.is_empty() && !it.got_close) else { return };
+        let Some(client) = self.clients.get_mut(number).filter(|it| !it.got_close) else { return };
         client.active = shared.now;
         match client.socket.as_mut().map_or(Ok(()), |it| it.send(bytes, shared.output_limit)) {
             Ok(()) => self.update(number, shared),

@@ -1,44 +1,49 @@
-//! Joins TCP connections and a Unix socket to the pipes of a server's lanes (`lane`), on one thread, which only ever waits in
-//! `Epoll::wait`.
+//! Joins TCP connections and a Unix socket to the pipes of a server's lanes (`lane`), and the pipes of its devices to a far store
+//! (`link`), on one thread, which only ever waits in `Epoll::wait`; only new connections to the store are made beside it.
 #![deny(unsafe_code)]
 
 mod channel;
+mod frame;
 mod lane;
+mod link;
+mod store;
 mod system;
+mod words;
 
 use lane::{Lane, Shared};
-use std::ffi::OsString;
+use link::Link;
 use std::fmt::Display;
 use std::fs::{self, File};
 use std::io::{self, ErrorKind, Write};
-use std::net::{IpAddr, SocketAddr, TcpListener};
+use std::net::{SocketAddr, TcpListener};
 use std::os::fd::OwnedFd;
 use std::os::unix::fs::{FileTypeExt, OpenOptionsExt};
 use std::os::unix::net::{UnixListener, UnixStream};
-use std::path::{Path, PathBuf};
+use std::path::Path;
 use std::process::ExitCode;
-use std::str::FromStr;
 use std::time::{Duration, Instant};
 use std::{env, thread};
+use store::Store;
 use system::{Epoll, Event, INPUT};
+use words::{Options, USAGE};
 
-const USAGE: &str = "usage: front [--port N] [--bind ADDRESS] [--guarded] [--unix PATH] [--timeout SECONDS] \
-    [--connections N] [--output-limit BYTES] --lane REQUESTS REPLIES [--lane REQUESTS REPLIES]...";
 const REFUSAL: &[u8] = b"-ERR max number of clients reached\r\n";
 /// How long replies that are owed are waited for at the end.
 const END: Duration = Duration::from_secs(1);
-/// How often it is looked for idle clients.
+/// How often it is looked for who was silent too long.
 const SWEEP: Duration = Duration::from_secs(1);
 /// How long is waited where the server has not opened a pipe, or the system has no room for a connection.
 const PAUSE: Duration = Duration::from_millis(10);
-/// Files beside the connections and the two of each lane.
+/// Files beside the connections, the two of each lane, and those of each link: its two, its connection and its spare.
 const FILES: usize = 16;
+const LINK_FILES: usize = 4;
 const EVENTS: usize = 256;
 /// ENXIO: nobody has opened a pipe for reading.
 const NO_READER: i32 = 6;
-/// Tokens of what is no lane's: the signals, and the listeners below.
+/// Tokens of what is no lane's and no link's: the signals, and the listeners and the store below.
 const SIGNALS: u64 = u64::MAX;
 const LISTENERS: u64 = SIGNALS - 2;
+const STORE: u64 = LISTENERS - 1;
 
 fn main() -> ExitCode {
     let options = match Options::read(env::args_os().skip(1)) {
@@ -55,57 +60,6 @@ fn main() -> ExitCode {
     ExitCode::SUCCESS
 }
 
-struct Options {
-    /// The port of TCP, 0 for any that is free.
-    port: Option<u16>,
-    bind: IpAddr,
-    /// The server asks for a password, so that others than this machine may come.
-    guarded: bool,
-    unix: Option<PathBuf>,
-    /// Seconds that a client may be silent, 0 for any.
-    timeout: u32,
-    connections: usize,
-    output_limit: usize,
-    /// The pipes of each lane: its requests, its replies.
-    lanes: Vec<(PathBuf, PathBuf)>,
-}
-
-impl Options {
-    /// At Err what is wrong with the words.
-    fn read(mut words: impl Iterator<Item = OsString>) -> Result<Options, String> {
-        let bind = IpAddr::from([127, 0, 0, 1]);
-        let (port, unix, lanes) = (None, None, Vec::new());
-        let mut it =
-            Options { port, bind, guarded: false, unix, timeout: 0, connections: 10_000, output_limit: 1 << 26, lanes };
-        while let Some(name) = words.next() {
-            let name = name.to_string_lossy().into_owned();
-            let mut value = || words.next().ok_or(format!("{name} lacks its value"));
-            match name.as_str() {
-                "--port" => it.port = Some(read(&name, value()?)?),
-                "--bind" => it.bind = read(&name, value()?)?,
-                "--guarded" => it.guarded = true,
-                "--unix" => it.unix = Some(value()?.into()),
-                "--timeout" => it.timeout = read(&name, value()?)?,
-                "--connections" => it.connections = read(&name, value()?)?,
-                "--output-limit" => it.output_limit = read(&name, value()?)?,
-                "--lane" => it.lanes.push((value()?.into(), value()?.into())),
-                _ => return Err(format!("{name} is no option")),
-            }
-        }
-        match (it.lanes.is_empty(), &it.port, &it.unix) {
-            (true, ..) => Err("there is no --lane".into()),
-            (_, None, None) => Err("there is neither --port nor --unix".into()),
-            _ if !it.bind.is_loopback() && !it.guarded => Err(format!("--bind {} needs --guarded", it.bind)),
-            _ => Ok(it),
-        }
-    }
-}
-
-fn read<T: FromStr>(name: &str, value: OsString) -> Result<T, String> {
-    let value = value.to_string_lossy();
-    value.parse().map_err(|_| format!("{name} {value}: no value that it takes"))
-}
-
 /// Says of what a fault is.
 fn of<T>(what: impl Display, result: io::Result<T>) -> Result<T, String> {
     result.map_err(|fault| format!("{what}: {fault}"))
@@ -118,6 +72,8 @@ fn serve(options: &Options) -> Result<(), String> {
         signals,
         listeners: Vec::new(),
         lanes: Vec::new(),
+        store: far_store(options)?,
+        links: Vec::new(),
         shared: Shared::new(epoll, options.output_limit),
         connections: room_for(options)?,
         next: 0,
@@ -138,6 +94,15 @@ fn serve(options: &Options) -> Result<(), String> {
     ended
 }
 
+fn far_store(options: &Options) -> Result<Option<Store>, String> {
+    let Some(address) = &options.far_resp else { return Ok(None) };
+    let path = options.far_password_file.as_ref();
+    let password = path.map(|it| of(format_args!("--far-password-file {}", it.display()), store::password(it)));
+    let patience = Duration::from_secs(options.far_timeout.into());
+    let store = Store::new(address, password.transpose()?, patience);
+    of(format_args!("far store {}", address.to_string_lossy()), store).map(Some)
+}
+
 /// Listens at a path to which nobody but the owner may connect.
 fn listen_at(path: &Path) -> io::Result<UnixListener> {
     // A socket that nobody listens on is left of a front that was killed.
@@ -152,7 +117,7 @@ fn listen_at(path: &Path) -> io::Result<UnixListener> {
 /// How many connections there may be, since each is a file.
 fn room_for(options: &Options) -> Result<usize, String> {
     let files = of("files", system::raise_files())?;
-    let room = files.saturating_sub(FILES + 2 * options.lanes.len());
+    let room = files.saturating_sub(FILES + 2 * options.lanes.len() + LINK_FILES * options.far_links.len());
     if room < options.connections {
         eprintln!("front: {room} connections at most, since {files} files may be open");
     }
@@ -163,6 +128,9 @@ struct Front {
     signals: File,
     listeners: Vec<OwnedFd>,
     lanes: Vec<Lane>,
+    store: Option<Store>,
+    /// Their tokens come behind those of the lanes.
+    links: Vec<Link>,
     shared: Shared,
     connections: usize,
     /// Whose turn it is to get a connection.
@@ -171,12 +139,16 @@ struct Front {
 
 impl Front {
     fn run(&mut self, options: &Options, ready: &str) -> Result<(), String> {
-        if !self.open_lanes(options)? {
+        let Some(spares) = self.reach_store(options)? else { return Ok(()) };
+        if !self.open_pipes(options, spares)? {
             return Ok(());
         }
         for (token, listener) in (LISTENERS..).zip(&self.listeners) {
             of("listening", system::widen(listener))?;
             of("listening", self.shared.epoll.watch(listener, 0, INPUT, token))?;
+        }
+        if let Some(store) = &self.store {
+            of("events", self.shared.epoll.watch(&store.wake, 0, INPUT, STORE))?;
         }
         // Who doesn't hear it may be served all the same.
         let _ = writeln!(io::stdout(), "{ready}").and_then(|()| io::stdout().flush());
@@ -192,32 +164,67 @@ impl Front {
         Ok(())
     }
 
+    /// Makes a first connection to the store for each link. None where a signal came first.
+    fn reach_store(&self, options: &Options) -> Result<Option<Vec<File>>, String> {
+        let Some(store) = &self.store else { return Ok(Some(Vec::new())) };
+        of("events", self.shared.epoll.watch(&store.wake, 0, INPUT, STORE))?;
+        let mut spares: Vec<Option<File>> = options.far_links.iter().map(|_| None).collect();
+        (0..spares.len()).for_each(|link| store.greet(link));
+        let end = Instant::now() + store.patience();
+        while spares.iter().any(Option::is_none) {
+            let left = end.saturating_duration_since(Instant::now());
+            let mut events = [Event::default(); 2];
+            let count = of("events", self.shared.epoll.wait(&mut events, left))?;
+            if events[..count].iter().any(|it| it.token == SIGNALS) {
+                return Ok(None);
+            }
+            if count == 0 && left.is_zero() {
+                return Err(store.fault(ErrorKind::TimedOut.into()));
+            }
+            for (link, made) in store.greeted() {
+                spares[link] = Some(made.map_err(|fault| store.fault(fault))?);
+            }
+        }
+        // Its last byte may be still to come.
+        of("events", self.shared.epoll.watch(&store.wake, INPUT, 0, STORE))?;
+        Ok(Some(spares.into_iter().flatten().collect()))
+    }
+
     /// Opens the pipes, in whatever order the server does. False where a signal came first.
-    fn open_lanes(&mut self, options: &Options) -> Result<bool, String> {
-        for path in options.lanes.iter().flat_map(|(requests, replies)| [requests, replies]) {
+    fn open_pipes(&mut self, options: &Options, spares: Vec<File>) -> Result<bool, String> {
+        // By which input comes, and by which output goes: a lane's requests are output, a device's are input.
+        let lanes = options.lanes.iter().map(|(requests, replies)| (replies, requests));
+        let links = options.far_links.iter().map(|(requests, replies)| (requests, replies));
+        let paths: Vec<_> = lanes.chain(links).collect();
+        for path in paths.iter().flat_map(|(input, output)| [input, output]) {
             if !of(path.display(), fs::metadata(path))?.file_type().is_fifo() {
                 return Err(format!("{}: it is no pipe", path.display()));
             }
         }
         let mut pipe = File::options();
         pipe.read(true).custom_flags(system::NONBLOCK);
-        let replies: Result<Vec<_>, _> = options.lanes.iter().map(|(_, it)| of(it.display(), pipe.open(it))).collect();
-        let replies = replies?;
+        let inputs: Result<Vec<_>, _> = paths.iter().map(|(it, _)| of(it.display(), pipe.open(it))).collect();
+        let inputs = inputs?;
         pipe.read(false).write(true);
-        let mut requests: Vec<Option<File>> = replies.iter().map(|_| None).collect();
-        while requests.iter().any(Option::is_none) {
-            for ((path, _), file) in options.lanes.iter().zip(&mut requests).filter(|(_, file)| file.is_none()) {
+        let mut outputs: Vec<Option<File>> = paths.iter().map(|_| None).collect();
+        while outputs.iter().any(Option::is_none) {
+            for ((_, path), file) in paths.iter().zip(&mut outputs).filter(|(_, file)| file.is_none()) {
                 match pipe.open(path) {
                     Err(fault) if fault.raw_os_error() == Some(NO_READER) => {}
                     opened => *file = Some(of(path.display(), opened)?),
                 }
             }
+            // Nothing but a signal can come yet.
             if of("events", self.shared.epoll.wait(&mut [Event::default()], PAUSE))? > 0 {
                 return Ok(false);
             }
         }
-        for (place, (requests, replies)) in requests.into_iter().flatten().zip(replies).enumerate() {
+        let mut pairs = inputs.into_iter().zip(outputs.into_iter().flatten()).enumerate();
+        for (place, (replies, requests)) in pairs.by_ref().take(options.lanes.len()) {
             self.lanes.push(of("events", Lane::new(place, requests, replies, &self.shared.epoll))?);
+        }
+        for ((place, (requests, replies)), spare) in pairs.zip(spares) {
+            self.links.push(of("events", Link::new(place, requests, replies, spare, &self.shared))?);
         }
         Ok(true)
     }
@@ -233,20 +240,43 @@ impl Front {
             match token {
                 SIGNALS => ends = true,
                 LISTENERS.. => self.take_client((token - LISTENERS) as usize),
-                _ => of(format_args!("lane {place} has ended"), self.lanes[place].see(token, flags, &mut self.shared))?,
+                STORE => self.take_spares(),
+                _ => self.see(place, token, flags)?,
             }
         }
         self.hand_over()?;
         Ok(ends)
     }
 
-    /// Hands over to the lanes what came for them.
+    fn see(&mut self, place: usize, token: u64, flags: u32) -> Result<(), String> {
+        let shared = &mut self.shared;
+        match place.checked_sub(self.lanes.len()) {
+            None => of(format_args!("lane {place} has ended"), self.lanes[place].see(token, flags, shared)),
+            Some(link) => of(format_args!("far link {link} has ended"), self.links[link].see(token, flags, shared)),
+        }
+    }
+
+    /// Hands over to the lanes and by the links what came for them.
     fn hand_over(&mut self) -> Result<(), String> {
         for (place, lane) in self.lanes.iter_mut().enumerate() {
             of(format_args!("lane {place} has ended"), lane.hand_over(&mut self.shared))?;
         }
         self.shared.wakes = false;
+        let Some(store) = &self.store else { return Ok(()) };
+        for (number, link) in self.links.iter_mut().enumerate() {
+            of(format_args!("far link {number} has ended"), link.hand_over(store.patience(), &mut self.shared))?;
+            if link.wants_spare(self.shared.now) {
+                store.greet(number);
+            }
+        }
         Ok(())
+    }
+
+    /// Gives the links the connections that were made for them.
+    fn take_spares(&mut self) {
+        for (link, made) in self.store.iter().flat_map(Store::greeted) {
+            self.links[link].take_spare(made, &self.shared);
+        }
     }
 
     fn take_client(&mut self, listener: usize) {

@@ -1,4 +1,4 @@
-"""Tries the front, with lanes in threads in the place of a server's: front.py FOLDER CLIENTS [TRIAL]...
+"""Tries the front, with lanes and devices here in the place of a server's: front.py FOLDER CLIENTS [TRIAL]...
 
 FOLDER has the program, and a TRIAL is the name of one of the functions here; all are made where none is named.
 """
@@ -13,6 +13,8 @@ import sys
 import time
 
 import front_ends
+import front_link_ends
+import front_links
 from front_parts import (CLOSE, DATA, MEBIBYTE, OPEN, WAKE, Front, asked, fill, frame, is_closed, pong, received, sender,
                          until)
 
@@ -263,6 +265,7 @@ TRIALS = [
     who_reads_late_gets_all, a_busy_lane_stops_its_senders, numbers_are_used_again_after_both_closes,
     a_lane_closes_once_all_is_out, who_ends_its_input_gets_what_it_is_owed, a_wake_goes_to_every_lane,
     too_many_are_refused, idle_clients_are_closed, clients_come_and_go_in_any_way, *front_ends.TRIALS,
+    *front_links.TRIALS, *front_link_ends.TRIALS,
 ]
 
 

@@ -1,6 +1,6 @@
 #!/usr/bin/env bash
-# Tries the server's front, with lanes of front.py in the server's place: front.sh [--long], which has it more clients. The
-# status is 1 where a trial fails, and 77 where there is no Rust compiler.
+# Tries the server's front, with lanes and devices of front.py in the server's place: front.sh [--long], which has it more
+# clients. The status is 1 where a trial fails, and 77 where there is no Rust compiler.
 set -euo pipefail
 
 tests=$(dirname "$(readlink -f "${BASH_SOURCE[0]}")")

@@ -244,6 +244,20 @@ def info_tells_what_the_system_does(tried, _):
         assert client.value("INFO", "far").startswith(b"# Far\r\n")
 
 
+def info_tells_who_is_connected(tried, _):
+    """Counted is who has sent a request, and no more once it has closed."""
+    with tried.start() as server:
+        watcher = server.client()
+        silent = [server.client() for _ in range(8)]
+        asking = [server.client() for _ in range(8)]
+        assert all(it.ask("PING") == PONG for it in asking)
+        until(lambda: watcher.info()["connected_clients"] == "9", "the count of those who asked")
+        for it in silent + asking:
+            it.close()
+        until(lambda: watcher.info()["connected_clients"] == "1", "the count of who is left")
+        assert watcher.info()["total_connections_received"] == "9", watcher.info()
+
+
 def info_tells_what_lies_on_disk(tried, _):
     """The bytes of slots are those of the files, but for the room behind the last object of each file."""
     def far(client):
@@ -269,4 +283,5 @@ def info_tells_what_lies_on_disk(tried, _):
 
 TRIALS = [small_values_stay_within_memory, large_values_stay_within_memory, what_has_no_room_is_refused, keys_are_evicted_where_they_may_be,
           a_full_disk_harms_nothing, a_signal_ends_it, who_dies_is_named, who_dies_early_is_named, faults_at_the_start,
-          all_addresses_are_served, info_tells_what_the_system_does, info_tells_what_lies_on_disk]
+          all_addresses_are_served, info_tells_what_the_system_does, info_tells_who_is_connected,
+          info_tells_what_lies_on_disk]

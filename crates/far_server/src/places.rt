@@ -36,15 +36,22 @@ pub(crate) fn make_places(
     Ok(())
 }
 
-/// A new one is at the place of this number.
-pub(crate) fn forget(alloc: Global, connections: &mut Vec<Connection>, number: u32, passed: bool)
+/// A new one is at the place of this number. Says whether the old one had a number among all that came.
+pub(crate) fn forget(
+    alloc: Global,
+    connections: &mut Vec<Connection>,
+    number: u32,
+    passed: bool,
+) -> bool
     ensures forgotten { slice_index_or (map known connections.new.items) number (new_known passed) ≡ new_known passed }
     ensures others { (d : ℕ) → d ≢ number → slice_index_or (map known connections.new.items) d (new_known passed) ≡ slice_index_or (map known connections.old.items) d (new_known passed) }
 {
     if connections.len() <= number as usize {
-        return;
+        return false;
     }
+    let had_come = connections[number as usize].id > 0;
     connections[number as usize] = Connection::new(alloc, passed);
+    had_come
 }
 
 /// Numbers a connection that has no number yet among all that came.

@@ -112,13 +112,15 @@ impl<'a, S: Calls<Blob>, C: Clock, R: Wait> Service for Server<'a, S, C, R, Kept
 
     fn leave(&mut self, connection: u32) -> Result<(), AllocError> {
         let passed = self.around.settings.password.is_none();
-        forget(
+        let had_come = forget(
             self.around.alloc,
             &mut self.kept.connections,
             connection,
             passed,
         );
-        count(&mut self.kept.desk.tally.left);
+        if had_come {
+            count(&mut self.kept.desk.tally.left);
+        }
         self.tell();
         Ok(())
     }

@@ -7,7 +7,7 @@ use std::sync::atomic::{AtomicU32, AtomicU64, Ordering};
 /// What a lane has counted since the start.
 #[derive(Clone, Copy, Debug, Default, PartialEq, Eq)]
 pub(crate) struct Tally {
-    /// Connections that came, and that are over.
+    /// Connections that have sent a request, and those of them that are over.
     pub(crate) came: u64,
     pub(crate) left: u64,
     pub(crate) commands: u64,

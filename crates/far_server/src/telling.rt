@@ -60,6 +60,7 @@ fn facts<S: Calls<Blob>, C, R>(around: &Around<'_, C, R>, me: &S, now: u64) -> F
         refused_full: sum.refused_full,
         refused_device: sum.refused_device,
         far_objects: around.usage.objects(),
+        lost_buckets: around.usage.lost(),
         far_bytes: around.usage.bytes(),
         far_limit: settings.far_limit,
         names_left: settings.map.names.saturating_sub(sum.names),

@@ -2,11 +2,12 @@
 
 use std::sync::atomic::{AtomicU64, Ordering};
 
-/// How many objects lie on all devices of a server, and how many bytes their slots take. Each device tells by how much its own numbers
-/// changed, so both are sums over all devices.
+/// How many objects lie on all devices of a server, how many of them are known to be lost, and how many bytes their slots take. Each
+/// device tells by how much its own numbers changed, so all are sums over all devices.
 #[derive(Drop)]
 pub struct FarUsage {
     objects: AtomicU64,
+    lost: AtomicU64,
     bytes: AtomicU64,
 }
 
@@ -22,6 +23,7 @@ impl FarUsage {
     pub fn new() -> Self {
         FarUsage {
             objects: AtomicU64::new(0),
+            lost: AtomicU64::new(0),
             bytes: AtomicU64::new(0),
         }
     }
@@ -29,6 +31,11 @@ impl FarUsage {
     /// A device tells that it keeps so many objects now, and how many it kept when it last told.
     pub fn tell_objects(&self, before: u64, after: u64) {
         tell(&self.objects, before, after);
+    }
+
+    /// A device tells how many of its objects the store behind it is known to have no more, and how many when it last told.
+    pub fn tell_lost(&self, before: u64, after: u64) {
+        tell(&self.lost, before, after);
     }
 
     /// A device tells that its slots take so many bytes now, and how many they took when it last told.
@@ -39,6 +46,11 @@ impl FarUsage {
     /// How many objects lie on devices.
     pub fn objects(&self) -> u64 {
         self.objects.load(Ordering::SeqCst)
+    }
+
+    /// How many objects devices were asked for, and the store behind them has no more.
+    pub fn lost(&self) -> u64 {
+        self.lost.load(Ordering::SeqCst)
     }
 
     /// How many bytes the slots on devices take, also those in which no object lies any more.

@@ -1,15 +1,32 @@
--- Which counted devices may go to another thread: those whose disk may.
+-- Which devices may go to another thread: a counted one whose disk may, and one over a store.
 use denote.RattleType.{RattleType}
 use denote.Ref.{NamedLft}
 use denote.Param.Send.{IsSend, sendable}
 use denote.Param.SendFields.{declared_send, FieldsHave}
 use Rattle.std.proofs.Crossing as vecs
 use Rattle.file_device.specs.declared.disk.Disk.{Ghosts}
+use Rattle.std.proofs.MapsCrossing as maps
 use Rattle.file_device.proofs.Sent.{device_send}
+use Rattle.resp_device.proofs.Sent as resp
 use Rattle.farserve.specs.contracts.counted.CountedDevice as CountedDevice
+use Rattle.farserve.specs.contracts.link.Link as Link
+use Rattle.farserve.specs.contracts.link.Ends as Ends
+use Rattle.farserve.specs.contracts.stores.StoreDevice as StoreDevice
 
 pub counted_send : (κ : NamedLft) (K : RattleType) (g : Ghosts K.Denot) → IsSend K → IsSend (CountedDevice.the_row κ K g)
 counted_send κ K g disk =
     let device = device_send K g disk in
     let all : FieldsHave IsSend (CountedDevice.the_type κ K g).parts = (search (sendable, device), (search (sendable, vecs.crosses) depth 40, tt)) in
     declared_send (CountedDevice.the_type κ K g) all
+
+ends_send : IsSend Ends.the_row
+ends_send = search (sendable, vecs.crosses) depth 40 fits 100000
+
+link_send : IsSend Link.the_row
+link_send = let ends = ends_send in search (sendable, vecs.crosses) depth 40
+
+pub stored_send : (κ : NamedLft) → IsSend (StoreDevice.the_row κ)
+stored_send κ =
+    let device = resp.device_send Link.the_row link_send in
+    let all : FieldsHave IsSend (StoreDevice.the_type κ).parts = (search (sendable, device), (search (sendable, vecs.crosses, maps.crosses) depth 40, (search (sendable, vecs.crosses) depth 40, tt))) in
+    declared_send (StoreDevice.the_type κ) all

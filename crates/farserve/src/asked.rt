@@ -2,6 +2,7 @@
 
 use crate::fault::Fault;
 use crate::sizes::bytes_of;
+use crate::sizing::Tier;
 use clap::{Arg, ArgAction, ArgMatches, Command, Error};
 use std::alloc::Global;
 use std::net::IpAddr;
@@ -21,14 +22,25 @@ const POLICIES: [&str; 2] = ["noeviction", "allkeys"];
 /// The most folders: as many as a map may have devices.
 const MOST_FOLDERS: usize = 64;
 
+/// A store that speaks the protocol of Redis, in which objects lie.
+#[derive(Clone, Copy, Drop)]
+pub struct Store<'a> {
+    /// HOST:PORT, or the path of a Unix socket.
+    pub address: &'a str,
+    pub password_file: Option<&'a str>,
+    /// Seconds that a reply may take.
+    pub timeout: u32,
+}
+
 /// What the options say.
 #[derive(Drop)]
 pub struct Asked<'a> {
     /// In bytes, and as it was written.
     pub memory: u64,
     pub memory_text: &'a str,
-    /// The folders of the devices. Where there is none, all stays in memory.
+    /// The folders of the devices. Where there is none, and no store, all stays in memory.
     pub folders: Vec<&'a str>,
+    pub store: Option<Store<'a>>,
     /// The most bytes in them.
     pub far_limit: u64,
     /// Whether keys are taken out where all is full.
@@ -108,6 +120,32 @@ fn with_sizes<'a>(alloc: Global, command: Command<'a>) -> Result<Command<'a>, Er
     Ok(command)
 }
 
+/// The options of a store in the place of folders.
+fn with_store<'a>(alloc: Global, command: Command<'a>) -> Result<Command<'a>, Error> {
+    let timeout = number(
+        alloc,
+        "far-timeout",
+        1,
+        3600,
+        "Seconds that a reply of that store may take [5]",
+    );
+    let command = command
+        .arg(text(
+            alloc,
+            "far-resp",
+            "ADDRESS",
+            "HOST:PORT, or the path of a Unix socket, of a store that speaks the protocol of Redis, in the place of --far",
+        ))?
+        .arg(text(
+            alloc,
+            "far-password-file",
+            "FILE",
+            "A file whose first line is that store's password [none: it asks for none]",
+        ))?
+        .arg(timeout.value_name("SECONDS"))?;
+    Ok(command)
+}
+
 /// The options that say who gets in, and where.
 fn with_addresses<'a>(alloc: Global, command: Command<'a>) -> Result<Command<'a>, Error> {
     let timeout = number(
@@ -160,6 +198,7 @@ pub fn command<'a>(alloc: Global) -> Result<Command<'a>, Error> {
         "A cache that is larger than its memory, which speaks the protocol of Redis",
     );
     let command = with_sizes(alloc, command)?;
+    let command = with_store(alloc, command)?;
     with_addresses(alloc, command)
 }
 
@@ -169,6 +208,45 @@ fn size<'a>(option: &'static str, text: &'a str, least: u64, most: u64) -> Resul
         Some(bytes) if least <= bytes && bytes <= most => Ok(bytes),
         _ => Err(Fault::Size(option, text, least, most)),
     }
+}
+
+/// The port of an address, if it is one of TCP.
+fn port_of(address: &str) -> Option<u16> {
+    let (host, port) = address.rsplit_once(':')?;
+    match port.parse::<u16>() {
+        Ok(port) if !host.is_empty() && port > 0 => Some(port),
+        _ => None,
+    }
+}
+
+/// The store that is asked for. The fault names an option that has no sense without one, or beside one, or an address of another form.
+fn far_store<'a>(matches: &ArgMatches<'a>) -> Result<Option<Store<'a>>, Fault<'a>> {
+    let password_file = matches.get_str("far-password-file");
+    let timeout = matches.get_one::<u32>("far-timeout");
+    let Some(address) = matches.get_str("far-resp") else {
+        if password_file.is_some() {
+            return Err(Fault::Storeless("far-password-file"));
+        }
+        if timeout.is_some() {
+            return Err(Fault::Storeless("far-timeout"));
+        }
+        return Ok(None);
+    };
+    if matches.get_str("far").is_some() {
+        return Err(Fault::Stored("far"));
+    }
+    if matches.get_str("far-limit").is_some() {
+        return Err(Fault::Stored("far-limit"));
+    }
+    let is_path = address.starts_with('/') && address.len() <= MOST_PATH;
+    if !is_path && port_of(address).is_none() {
+        return Err(Fault::Store(address));
+    }
+    Ok(Some(Store {
+        address,
+        password_file,
+        timeout: timeout.unwrap_or(5),
+    }))
 }
 
 impl<'a> Asked<'a> {
@@ -195,6 +273,7 @@ impl<'a> Asked<'a> {
             memory: size("memory", memory_text, 1, MOST_MEMORY)?,
             memory_text,
             folders,
+            store: far_store(matches)?,
             far_limit,
             evicts: matches.get_str("policy").unwrap_or("noeviction") == "allkeys",
             buckets: matches.get_one::<u32>("buckets"),
@@ -209,6 +288,17 @@ impl<'a> Asked<'a> {
         };
         asked.check_addresses()?;
         Ok(asked)
+    }
+
+    /// Where objects lie that are in no frame.
+    pub fn tier(&self) -> Tier {
+        if self.store.is_some() {
+            Tier::Store
+        } else if self.folders.is_empty() {
+            Tier::Nowhere
+        } else {
+            Tier::Files
+        }
     }
 
     /// Refuses addresses that can't be listened at, and those where others than this machine could get in without a password.

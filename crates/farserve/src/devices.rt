@@ -12,7 +12,7 @@ use std::random::RandomSource;
 use std::rt::Files;
 
 /// How many there are, where there are no more folders.
-const DEVICES: u32 = 4;
+pub const DEVICES: u32 = 4;
 
 /// A device in a folder, of the lane of this number.
 fn open<'a, R>(

@@ -28,6 +28,13 @@ pub enum Fault<'a> {
     Folder(&'a str),
     /// There are more than 64 folders.
     Folders,
+    /// The text of `--far-resp`, which is no address.
+    Store(&'a str),
+    /// An option that says more of a store, where there is none; and one that says more of folders, where there is a store.
+    Storeless(&'static str),
+    Stored(&'static str),
+    /// The pipes to the front's connections to a store can't be opened.
+    Links,
     /// A growth of memory was refused.
     Memory,
     /// The words for the front could not be written.
@@ -42,7 +49,7 @@ impl Fault<'_> {
     /// The status that the program ends with: 2 for wrong options and folders, and 1 for what the system refused.
     pub fn status(&self) -> u8 {
         match self {
-            Fault::Memory | Fault::Write | Fault::Run(_) | Fault::Lane(_) => 1,
+            Fault::Memory | Fault::Write | Fault::Links | Fault::Run(_) | Fault::Lane(_) => 1,
             _ => 2,
         }
     }
@@ -72,6 +79,19 @@ impl Display for Fault<'_> {
             Fault::Empty(path) => write!(f, "--password-file {path}: its first line is empty"),
             Fault::Folder(path) => write!(f, "--far {path}: cannot open"),
             Fault::Folders => f.write_str("--far: more than 64 folders"),
+            Fault::Store(text) => write!(
+                f,
+                "--far-resp {text}: neither HOST:PORT nor the path of a socket"
+            ),
+            Fault::Storeless(option) => write!(
+                f,
+                "--{option}: it is of a store, and there is no --far-resp"
+            ),
+            Fault::Stored(option) => write!(
+                f,
+                "--{option}: it is of folders, and --far-resp takes their place"
+            ),
+            Fault::Links => f.write_str("the pipes to the far store can't be opened"),
             Fault::Memory => f.write_str("memory"),
             Fault::Write => f.write_str("standard output can't be written"),
             Fault::Run(fault) => write!(f, "the map could not be run: {fault}"),

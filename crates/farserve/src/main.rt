@@ -9,14 +9,16 @@ mod bounded;
 mod counted;
 mod devices;
 mod fault;
+mod link;
 mod password;
 mod pipes;
 mod sizes;
 mod sizing;
+mod stores;
 
 use anyhow::{Result, bail};
-use asked::{Asked, command};
-use devices::{open_far, open_none};
+use asked::{Asked, Store, command};
+use devices::{DEVICES, open_far, open_none};
 use far_device::Device;
 use far_map::Settings;
 use far_server::{FarUsage, ServerSettings, WorkerEnd, run_server};
@@ -24,7 +26,7 @@ use fault::Fault;
 use pipes::NamedPipes;
 use resp::Limits;
 use server_commands::Options;
-use sizing::{Sizes, divide};
+use sizing::{Sizes, Tier, divide};
 use std::env::Env;
 use std::fs::File;
 use std::io::ErrorKind;
@@ -33,6 +35,7 @@ use std::rt::Files;
 use std::sync::Wait;
 use std::thread::Threads;
 use std::{env, io};
+use stores::open_stores;
 
 /// The least bytes that a bucket's object may have, and the most: keys that share a bucket share it.
 const BUCKET: (u32, u32) = (4 << 20, 16 << 20);
@@ -66,7 +69,7 @@ fn settings(asked: &Asked<'_>, sizes: Sizes, password: Option<[u8; 32]>) -> Serv
     };
     ServerSettings {
         map,
-        is_far: !asked.folders.is_empty(),
+        is_far: asked.tier() != Tier::Nowhere,
         lanes: asked.threads,
         requests,
         longest_value: value,
@@ -85,6 +88,19 @@ fn settings(asked: &Asked<'_>, sizes: Sizes, password: Option<[u8; 32]>) -> Serv
     }
 }
 
+/// Writes what the front needs for a store.
+fn tell_links(rt: &impl Print, folder: &str, store: Store<'_>) -> io::Result<()> {
+    let (address, timeout) = (store.address, store.timeout);
+    print!(rt; "--far-resp\0{address}\0--far-timeout\0{timeout}\0")?;
+    if let Some(path) = store.password_file {
+        print!(rt; "--far-password-file\0{path}\0")?;
+    }
+    for lane in 0..DEVICES {
+        print!(rt; "--far-link\0{folder}/far-requests{lane}\0{folder}/far-replies{lane}\0")?;
+    }
+    Ok(())
+}
+
 /// Writes how many lanes there are, and what the front is started with.
 fn tell_front(rt: &impl Print, asked: &Asked<'_>) -> io::Result<()> {
     let (lanes, port, bind, timeout) = (asked.threads, asked.port, asked.bind, asked.timeout);
@@ -96,6 +112,9 @@ fn tell_front(rt: &impl Print, asked: &Asked<'_>) -> io::Result<()> {
     }
     if asked.password_file.is_some() {
         print!(rt; "--guarded\0")?;
+    }
+    if let Some(store) = asked.store {
+        tell_links(rt, asked.pipes, store)?;
     }
     print!(rt; "\0")
 }
@@ -111,13 +130,25 @@ fn tell_log(rt: &impl Eprint, asked: &Asked<'_>, sizes: Sizes) -> io::Result<()>
     for folder in asked.folders.as_slice() {
         eprint!(rt; " {folder}")?;
     }
-    if asked.folders.is_empty() {
+    if let Some(store) = asked.store {
+        let address = store.address;
+        eprint!(rt; " the store at {address}")?;
+    } else if asked.folders.is_empty() {
         eprint!(rt; " no folder")?;
     } else if asked.far_limit < u64::MAX {
         let most = asked.far_limit;
         eprint!(rt; ", {most} bytes at most")?;
     }
     eprint!(rt; "\n")
+}
+
+/// Tells both.
+fn tell<'a, R: Print + Eprint>(rt: &R, asked: &Asked<'a>, sizes: Sizes) -> Result<(), Fault<'a>> {
+    let _ = tell_log(rt, asked, sizes);
+    match tell_front(rt, asked) {
+        Ok(()) => Ok(()),
+        Err(_) => Err(Fault::Write),
+    }
 }
 
 /// Serves over these devices until the front has ended.
@@ -131,11 +162,8 @@ fn serve_over<'a, D, R>(
 ) -> Result<(), Fault<'a>>
 where
     D: Device + Send,
-    R: AllocGlobal + Print + Threads + Wait + Sync,
+    R: AllocGlobal + Threads + Wait + Sync,
 {
-    if tell_front(rt, asked).is_err() {
-        return Err(Fault::Write);
-    }
     let pipes = NamedPipes {
         rt: host,
         folder: asked.pipes,
@@ -157,9 +185,8 @@ fn serve<'a, R>(rt: &R, host: HostRuntime, asked: &Asked<'a>) -> Result<(), Faul
 where
     R: Files<File = File> + AllocGlobal + Print + Eprint + Threads + Wait + Sync,
 {
-    let folders = asked.folders.as_slice();
-    let is_far = !folders.is_empty();
-    let Some(sizes) = divide(asked.memory, asked.buckets, asked.threads, is_far) else {
+    let tier = asked.tier();
+    let Some(sizes) = divide(asked.memory, asked.buckets, asked.threads, tier) else {
         return Err(Fault::Little(asked.memory_text));
     };
     let password = match asked.password_file {
@@ -168,16 +195,27 @@ where
     };
     let settings = settings(asked, sizes, password);
     let usage = FarUsage::new();
-    if !is_far {
-        let Ok(devices) = open_none(&host, &usage) else {
-            return Err(Fault::Memory);
-        };
-        let _ = tell_log(rt, asked, sizes);
-        return serve_over(rt, host, asked, settings, devices, &usage);
+    match tier {
+        Tier::Nowhere => {
+            let Ok(devices) = open_none(&host, &usage) else {
+                return Err(Fault::Memory);
+            };
+            tell(rt, asked, sizes)?;
+            serve_over(rt, host, asked, settings, devices, &usage)
+        }
+        Tier::Files => {
+            let folders = asked.folders.as_slice();
+            let devices = open_far(host, folders, asked.far_limit, &usage)?;
+            tell(rt, asked, sizes)?;
+            serve_over(rt, host, asked, settings, devices, &usage)
+        }
+        Tier::Store => {
+            // The front opens the other ends once it was told so.
+            tell(rt, asked, sizes)?;
+            let devices = open_stores(host, asked.pipes, DEVICES, &usage)?;
+            serve_over(rt, host, asked, settings, devices, &usage)
+        }
     }
-    let devices = open_far(host, folders, asked.far_limit, &usage)?;
-    let _ = tell_log(rt, asked, sizes);
-    serve_over(rt, host, asked, settings, devices, &usage)
 }
 
 /// Does what these words ask for, and gives the status: 0, 1 where the system refused something, 2 where they are no such words.

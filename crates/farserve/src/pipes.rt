@@ -1,12 +1,37 @@
-//! The named pipes between the lanes and the front: in one folder, `requests0` and `replies0` of lane 0, and so on.
+//! The named pipes between the server and the front: in one folder, `requests0` and `replies0` of lane 0, and so on.
 
 use far_server::{OpenFault, Pipes};
 use std::alloc::Global;
 use std::fs::{File, OpenOptions};
 use std::io::{BufReader, BufWriter};
+use std::rt::Files;
 
 /// Bytes that are read or written at once: as many as a pipe holds.
 const PIECE: usize = 1 << 16;
+
+/// Opens two named pipes, one to read and one to write. Waits until the front opens them too.
+pub fn open_pair<R: Files<File = File>>(
+    rt: &R,
+    alloc: Global,
+    input: &str,
+    output: &str,
+) -> Result<(BufReader<File>, BufWriter<File>), OpenFault> {
+    let Ok(input) = File::open(rt, input) else {
+        return Err(OpenFault::Io);
+    };
+    let mut options = OpenOptions::new();
+    options.write(true);
+    let Ok(output) = options.open(rt, output) else {
+        return Err(OpenFault::Io);
+    };
+    let (Ok(input), Ok(output)) = (
+        BufReader::with_capacity(alloc, PIECE, input),
+        BufWriter::with_capacity(alloc, PIECE, output),
+    ) else {
+        return Err(OpenFault::Memory);
+    };
+    Ok((input, output))
+}
 
 /// The pipes in this folder.
 #[derive(Drop)]
@@ -22,7 +47,6 @@ impl Pipes for NamedPipes<'_> {
 
     type Output = BufWriter<File>;
 
-    /// Waits until the front opens them too.
     fn open(&self, alloc: Global, lane: u32) -> Result<(Self::Input, Self::Output), OpenFault> {
         let folder = self.folder;
         let (Ok(requests), Ok(replies)) = (
@@ -31,20 +55,6 @@ impl Pipes for NamedPipes<'_> {
         ) else {
             return Err(OpenFault::Memory);
         };
-        let Ok(input) = File::open(&self.rt, requests.as_str()) else {
-            return Err(OpenFault::Io);
-        };
-        let mut options = OpenOptions::new();
-        options.write(true);
-        let Ok(output) = options.open(&self.rt, replies.as_str()) else {
-            return Err(OpenFault::Io);
-        };
-        let (Ok(input), Ok(output)) = (
-            BufReader::with_capacity(alloc, PIECE, input),
-            BufWriter::with_capacity(alloc, PIECE, output),
-        ) else {
-            return Err(OpenFault::Memory);
-        };
-        Ok((input, output))
+        open_pair(&self.rt, alloc, requests.as_str(), replies.as_str())
     }
 }

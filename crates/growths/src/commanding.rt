@@ -47,6 +47,7 @@ const FACTS: Facts = Facts {
     frames: 10,
     most_in_frames: 11,
     far_objects: 26,
+    lost_buckets: 28,
     far_bytes: 27,
     far_limit: 0,
     keys: 12,

@@ -27,6 +27,8 @@ pub struct Facts {
     pub most_in_frames: u64,
     /// Objects that lie on devices.
     pub far_objects: u64,
+    /// Buckets whose object a device was asked for and the store behind it has no more.
+    pub lost_buckets: u64,
     /// Bytes of the room that devices have taken for objects.
     pub far_bytes: u64,
     /// Bytes that objects on devices may have; 0 for any number.

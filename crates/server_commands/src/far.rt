@@ -34,6 +34,7 @@ pub(crate) fn push_far(facts: &Facts, text: &mut Vec<u8>) -> Result<(), AllocErr
             ("most_in_frames", facts.most_in_frames),
             ("bytes_in_frames", facts.bytes_in_frames),
             ("far_objects", facts.far_objects),
+            ("lost_buckets", facts.lost_buckets),
             ("far_bytes", facts.far_bytes),
             ("far_limit", facts.far_limit),
             ("local_hits", facts.local_hits),

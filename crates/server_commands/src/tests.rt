@@ -72,6 +72,7 @@ fn facts() -> Facts {
         frames: 65_536,
         most_in_frames: 134_217_728,
         far_objects: 13,
+        lost_buckets: 14,
         far_bytes: 1_703_936,
         far_limit: 0,
         keys: 1000,

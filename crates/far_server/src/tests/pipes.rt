@@ -97,12 +97,14 @@ fn data_of(rt: &impl Abort, alloc: Global, frames: &[u8]) -> Vec<u8> {
     data
 }
 
-/// What two devices told: 5 objects in 4,160 bytes.
+/// What two devices told: 5 objects in 4,160 bytes, of which 2 are lost.
 fn usage() -> FarUsage {
     let usage = FarUsage::new();
     usage.tell_objects(0, 7);
     usage.tell_objects(0, 1);
     usage.tell_objects(7, 4);
+    usage.tell_lost(0, 3);
+    usage.tell_lost(3, 2);
     usage.tell_bytes(0, 4096);
     usage.tell_bytes(0, 128);
     usage.tell_bytes(128, 64);

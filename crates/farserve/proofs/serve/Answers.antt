@@ -1,11 +1,14 @@
 use denote.Param.Send.{sendable}
 use Rattle.std.proofs.Crossing as vecs
 use Rattle.std.proofs.MapsCrossing as maps
-use Rattle.farserve.proofs.Sent.{counted_send}
+use Rattle.farserve.proofs.Sent.{counted_send, stored_send}
 use Rattle.farserve.proofs.serve.Goals as goal
 
 pub serve_over-requires-send-D : goal.serve_over-requires-send-D
 serve_over-requires-send-D g c κs within = search (sendable, vecs.crosses, maps.crosses, counted_send) depth 40 fits 100000
 
-pub serve_over-requires-2-send-D : goal.serve_over-requires-2-send-D
-serve_over-requires-2-send-D g c κs within = search (sendable, vecs.crosses, maps.crosses, counted_send) depth 40 fits 100000
+pub serve_over-requires-in-Files-send-D : goal.serve_over-requires-in-Files-send-D
+serve_over-requires-in-Files-send-D g c κs within = search (sendable, vecs.crosses, maps.crosses, counted_send) depth 40 fits 100000
+
+pub serve_over-requires-in-Store-send-D : goal.serve_over-requires-in-Store-send-D
+serve_over-requires-in-Store-send-D g c κs within = search (sendable, stored_send) depth 40 fits 100000

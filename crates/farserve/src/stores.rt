@@ -1,0 +1,167 @@
+//! Devices whose objects lie in a store that speaks the protocol of Redis.
+ghost use Rattle.std.specs.Prelude.{◌≡◌, false};
+ghost use Rattle.resp_device.specs.Devices.{state_in};
+
+use crate::fault::Fault;
+use crate::link::Link;
+use crate::pipes::open_pair;
+use far_device::{Device, DeviceFault};
+use far_server::FarUsage;
+use resp_device::{Failure, RespDevice};
+use std::alloc::Global;
+use std::collections::HashSet;
+use std::fs::File;
+use std::hash::RandomState;
+use std::random::RandomSource;
+use std::rt::Files;
+
+/// A device that asks for another connection where its last one is over, and tells how many objects it keeps, and how many of them the
+/// store has no more.
+#[derive(Drop)]
+pub struct StoreDevice<'a> {
+    inner: RespDevice<Link>,
+    /// Objects that were asked for, and that the store had no more. Where there is no memory to note one, it isn't counted.
+    lost: HashSet<u64>,
+    usage: &'a FarUsage,
+}
+
+/// How much a device has told of.
+#[derive(Clone, Copy)]
+struct Told {
+    objects: u64,
+    lost: u64,
+}
+
+impl<'a> StoreDevice<'a> {
+    /// Over an empty device, of which nobody has told yet.
+    fn new(alloc: Global, inner: RespDevice<Link>, usage: &'a FarUsage) -> Self
+        ensures { result.inner ≡ inner }
+    {
+        StoreDevice {
+            inner,
+            lost: HashSet::new(alloc),
+            usage,
+        }
+    }
+
+    fn told(&self) -> Told {
+        Told {
+            objects: self.inner.len() as u64,
+            lost: self.lost.len() as u64,
+        }
+    }
+
+    /// Tells what changed since it was so.
+    fn tell(&self, before: Told) {
+        let now = self.told();
+        self.usage.tell_objects(before.objects, now.objects);
+        self.usage.tell_lost(before.lost, now.lost);
+    }
+
+    /// Asks for another connection where the last one can't be used. The front has one, or says at once that there is none.
+    fn join(&mut self)
+        ensures { state_in self.new.inner ≡ state_in self.old.inner }
+    {
+        if !self.inner.is_live() {
+            let last = self.inner.reconnect(Link::none());
+            let _ = self.inner.reconnect(last.next());
+        }
+    }
+}
+
+impl Device for StoreDevice<'_> {
+    ghost state = { λ device. state_in device.inner };
+
+    ghost HONEST = { false };
+
+    fn construct(&mut self) -> Result<(), DeviceFault> {
+        let before = self.told();
+        let result = self.inner.construct();
+        self.lost.clear();
+        self.tell(before);
+        result
+    }
+
+    fn write(&mut self, id: u64, bytes: &[u8]) -> Result<(), DeviceFault> {
+        let before = self.told();
+        self.join();
+        let result = self.inner.write(id, bytes);
+        if result.is_ok() {
+            let _ = self.lost.remove(&id);
+        }
+        self.tell(before);
+        result
+    }
+
+    fn read(&mut self, id: u64, out: &mut Vec<u8>) -> Result<bool, DeviceFault> {
+        let before = self.told();
+        self.join();
+        let result = self.inner.read(id, out);
+        if result == Err(DeviceFault::Failed) && self.inner.last_failure() == Some(Failure::Lost) {
+            let _ = self.lost.insert(id);
+        }
+        self.tell(before);
+        result
+    }
+
+    fn remove(&mut self, id: u64) -> Result<bool, DeviceFault> {
+        let before = self.told();
+        self.join();
+        let result = self.inner.remove(id);
+        if result.is_ok() {
+            let _ = self.lost.remove(&id);
+        }
+        self.tell(before);
+        result
+    }
+
+    fn failures(&self) -> u64 {
+        self.inner.failures()
+    }
+}
+
+/// Devices over so many links to the store, which wait until the front has opened their pipes in this folder.
+pub fn open_stores<'a, 'b, R>(
+    rt: R,
+    folder: &str,
+    count: u32,
+    usage: &'b FarUsage,
+) -> Result<Vec<StoreDevice<'b>>, Fault<'a>>
+where
+    R: Files<File = File> + AllocGlobal + RandomSource + Copy + Drop,
+{
+    let alloc = rt.alloc();
+    let mut devices = Vec::new(alloc);
+    for lane in 0..count.min(64) {
+        let (Ok(replies), Ok(requests)) = (
+            format!(in alloc; "{folder}/far-replies{lane}"),
+            format!(in alloc; "{folder}/far-requests{lane}"),
+        ) else {
+            return Err(Fault::Memory);
+        };
+        let Ok((replies, requests)) = open_pair(&rt, alloc, replies.as_str(), requests.as_str())
+        else {
+            return Err(Fault::Links);
+        };
+        let mut prefix = [0; 16];
+        let (Ok(keys), Ok(())) = (RandomState::new(&rt), rt.fill_bytes(&mut prefix)) else {
+            return Err(Fault::Links);
+        };
+        let Ok(device) = RespDevice::new(
+            alloc,
+            Link::new(replies, requests),
+            prefix,
+            lane as u8,
+            keys,
+        ) else {
+            return Err(Fault::Memory);
+        };
+        if devices
+            .push(StoreDevice::new(alloc, device, usage))
+            .is_err()
+        {
+            return Err(Fault::Memory);
+        }
+    }
+    Ok(devices)
+}

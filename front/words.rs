@@ -1,0 +1,102 @@
+//! The words of the command.
+
+use std::ffi::OsString;
+use std::fmt::Display;
+use std::net::IpAddr;
+use std::ops::RangeInclusive;
+use std::path::PathBuf;
+use std::str::FromStr;
+
+pub const USAGE: &str = "usage: front [--port N] [--bind ADDRESS] [--guarded] [--unix PATH] [--timeout SECONDS] \
+    [--connections N] [--output-limit BYTES] [--far-resp HOST:PORT|PATH --far-link REQUESTS REPLIES... \
+    [--far-password-file FILE] [--far-timeout SECONDS]] --lane REQUESTS REPLIES [--lane REQUESTS REPLIES]...";
+const FAR_TIMEOUTS: RangeInclusive<u32> = 1..=3600;
+
+pub struct Options {
+    /// The port of TCP, 0 for any that is free.
+    pub port: Option<u16>,
+    pub bind: IpAddr,
+    /// The server asks for a password, so that others than this machine may come.
+    pub guarded: bool,
+    pub unix: Option<PathBuf>,
+    /// Seconds that a client may be silent, 0 for any.
+    pub timeout: u32,
+    pub connections: usize,
+    pub output_limit: usize,
+    /// The pipes of each lane: its requests, its replies.
+    pub lanes: Vec<(PathBuf, PathBuf)>,
+    /// Where the far store is, to which links lead.
+    pub far_resp: Option<OsString>,
+    pub far_password_file: Option<PathBuf>,
+    /// Seconds that the far store may be silent where something is owed.
+    pub far_timeout: u32,
+    /// The pipes of each link: the device's requests, the replies for it.
+    pub far_links: Vec<(PathBuf, PathBuf)>,
+}
+
+impl Options {
+    /// At Err what is wrong with the words.
+    pub fn read(mut words: impl Iterator<Item = OsString>) -> Result<Options, String> {
+        let mut it = Options {
+            port: None,
+            bind: IpAddr::from([127, 0, 0, 1]),
+            guarded: false,
+            unix: None,
+            timeout: 0,
+            connections: 10_000,
+            output_limit: 1 << 26,
+            lanes: Vec::new(),
+            far_resp: None,
+            far_password_file: None,
+            far_timeout: 5,
+            far_links: Vec::new(),
+        };
+        while let Some(name) = words.next() {
+            let name = name.to_string_lossy().into_owned();
+            let mut value = || words.next().ok_or(format!("{name} lacks its value"));
+            match name.as_str() {
+                "--port" => it.port = Some(read(&name, value()?)?),
+                "--bind" => it.bind = read(&name, value()?)?,
+                "--guarded" => it.guarded = true,
+                "--unix" => it.unix = Some(value()?.into()),
+                "--timeout" => it.timeout = read(&name, value()?)?,
+                "--connections" => it.connections = read(&name, value()?)?,
+                "--output-limit" => it.output_limit = read(&name, value()?)?,
+                "--lane" => it.lanes.push((value()?.into(), value()?.into())),
+                "--far-resp" => it.far_resp = Some(address(&name, value()?)?),
+                "--far-password-file" => it.far_password_file = Some(value()?.into()),
+                "--far-timeout" => it.far_timeout = read(&name, value()?)?,
+                "--far-link" => it.far_links.push((value()?.into(), value()?.into())),
+                _ => return Err(format!("{name} is no option")),
+            }
+        }
+        match (it.lanes.is_empty(), &it.port, &it.unix) {
+            (true, ..) => Err("there is no --lane".into()),
+            (_, None, None) => Err("there is neither --port nor --unix".into()),
+            _ if !it.bind.is_loopback() && !it.guarded => Err(format!("--bind {} needs --guarded", it.bind)),
+            _ if it.far_resp.is_none() && !it.far_links.is_empty() => Err("--far-link needs --far-resp".into()),
+            _ if it.far_resp.is_some() && it.far_links.is_empty() => Err("--far-resp needs --far-link".into()),
+            _ if !FAR_TIMEOUTS.contains(&it.far_timeout) => Err(refused("--far-timeout", it.far_timeout)),
+            _ => Ok(it),
+        }
+    }
+}
+
+fn refused(name: &str, value: impl Display) -> String {
+    format!("{name} {value}: no value that it takes")
+}
+
+fn read<T: FromStr>(name: &str, value: OsString) -> Result<T, String> {
+    let value = value.to_string_lossy();
+    value.parse().map_err(|_| refused(name, value))
+}
+
+/// Takes HOST:PORT, or the path of a Unix socket.
+fn address(name: &str, value: OsString) -> Result<OsString, String> {
+    let text = value.to_string_lossy();
+    let is_pair = |(host, port): (&str, &str)| !host.is_empty() && port.parse::<u16>().is_ok();
+    if text.starts_with('/') || text.rsplit_once(':').is_some_and(is_pair) {
+        return Ok(value);
+    }
+    Err(refused(name, text))
+}
