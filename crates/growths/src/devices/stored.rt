@@ -53,7 +53,7 @@ impl Write for Peer {
         ) else {
             return Err(Error::from(ErrorKind::InvalidData));
         };
-        let id = (digit(*high) * 16 + digit(*low)) % IDS;
+        let id = digit(*high).wrapping_mul(16).wrapping_add(digit(*low)) % IDS;
         self.reply = if verb == b"SET".as_slice() {
             self.has_written[id] = buf.get(VALUE) == WRITTEN.first();
             b"+OK\r\n"
