@@ -2,8 +2,8 @@
 
 LOAD is the program of bench/load, FOLDER has the scratch files. Over the last half of the lines these count as flat:
 
-- resident memory of the program and of the front, and the bytes on disk: the line of least squares rises by less than 3 % of
-  the mean over that half;
+- resident memory of the program and of the front, and the bytes on disk: the line of least squares rises over that half by less
+  than 3 % of the mean or half a MiB, as a system short of memory takes pages of programs and gives them back;
 - open files of each: always as many;
 - p99 of the gets of small values: its median in the last quarter is at most 1.5 times that in the third.
 
@@ -22,6 +22,7 @@ from soak_clients import Checker
 
 EVERY = 10
 MOST_GROWTH = 0.03
+MOST_RISE = 0.5
 MOST_P99 = 1.5
 MEMORY = "64m"
 LIMIT = "192m"
@@ -126,10 +127,11 @@ class Soak:
 
 
 def growth(rows, name):
-    """How much the line of least squares rises from the first to the last, as a part of the mean, and its slope a minute."""
+    """How much the line of least squares rises from the first to the last, in all and as a part of the mean, and its slope a minute."""
     times, values = [it["minute"] for it in rows], [it[name] for it in rows]
     slope = linear_regression(times, values).slope
-    return slope * (times[-1] - times[0]) / max(mean(values), 1e-9), slope
+    rise = slope * (times[-1] - times[0])
+    return rise, rise / max(mean(values), 1e-9), slope
 
 
 def judge(rows):
@@ -141,19 +143,20 @@ def judge(rows):
     print(f"\nover the last {half[-1]['minute'] - half[0]['minute']:.1f} minutes, by least squares:")
     is_well = True
     for name in GROWING:
-        part, slope = growth(half, name)
-        is_flat = part < MOST_GROWTH
+        rise, part, slope = growth(half, name)
+        is_flat = part < MOST_GROWTH or rise < MOST_RISE
         is_well &= is_flat
-        print(f"{name}: {slope:+.4f} a minute, {100 * part:+.2f} % in all, {'flat' if is_flat else 'GROWS'} (below {100 * MOST_GROWTH:.0f} %)")
+        bounds = f"below {100 * MOST_GROWTH:.0f} % or {MOST_RISE} MiB"
+        print(f"{name}: {slope:+.4f} a minute, {rise:+.2f} in all, {100 * part:+.2f} %, {'flat' if is_flat else 'GROWS'} ({bounds})")
     for name in FILES:
         counts = [it[name] for it in half]
         is_flat = min(counts) == max(counts)
         is_well &= is_flat
-        print(f"{name}: {growth(half, name)[1]:+.4f} a minute, {min(counts)} to {max(counts)}, {'flat' if is_flat else 'NOT EQUAL'}")
+        print(f"{name}: {growth(half, name)[2]:+.4f} a minute, {min(counts)} to {max(counts)}, {'flat' if is_flat else 'NOT EQUAL'}")
     third, last = (median(it["p99, µs"] for it in quarter) for quarter in quarters)
     is_flat = last <= MOST_P99 * third
     is_well &= is_flat
-    slope = growth(half, "p99, µs")[1]
+    slope = growth(half, "p99, µs")[2]
     print(f"p99: {slope:+.1f} µs a minute, {third:.0f} µs and then {last:.0f}, {'flat' if is_flat else 'GROWS'} (at most {MOST_P99} times)")
     return is_well
 
