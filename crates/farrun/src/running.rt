@@ -17,8 +17,8 @@ use std::rt::Files;
 use std::sync::Wait;
 use std::thread::Threads;
 
-/// The most folders: as many as there may be lanes.
-const MOST_FOLDERS: usize = 64;
+/// The most folders, and pairs of pipes: as many as there may be lanes.
+const MOST: usize = 64;
 
 /// Runs the files of arguments that were read, over these devices, one for each lane. The words stand in the contract alone.
 fn run_over<D, R, W>(
@@ -78,7 +78,8 @@ where
     let (replies, requests) = (asked.replies.as_slice(), asked.requests.as_slice());
     if !replies.is_empty() || !requests.is_empty() {
         let lanes = asked.lanes as usize;
-        if !folders.is_empty() || replies.len() != lanes || requests.len() != lanes {
+        let is_each = replies.len() == lanes && requests.len() == lanes && lanes <= MOST;
+        if !is_each || !folders.is_empty() {
             return Err(Fault::Usage);
         }
         return match open_stores(host, replies, requests) {
@@ -93,7 +94,7 @@ where
         };
         return run_over(rt, words, arguments, devices, out);
     }
-    if folders.len() > MOST_FOLDERS {
+    if folders.len() > MOST {
         return Err(Fault::Usage);
     }
     match file_device::open_lanes(host, folders, asked.lanes) {

@@ -3,8 +3,8 @@
 use resp_device::{OpenFault, Pipes, RespDevice};
 use std::fs::File;
 
-/// The most pairs of pipes: as many as there may be lanes.
-const MOST: usize = 64;
+/// The greatest number of a lane.
+const LAST: usize = 63;
 
 /// A device for each pair of pipes, in their order, as the lanes from 0 on. A pipe is opened once its other end is. At Err the
 /// number, from 1, of a pair that can't be opened, and none where a growth of memory was refused.
@@ -15,7 +15,7 @@ pub fn open_stores(
 ) -> Result<Vec<RespDevice<Pipes<File, File>>>, Option<usize>> {
     let mut devices = Vec::new(host.alloc());
     for (lane, (input, output)) in replies.iter().zip(requests).enumerate() {
-        match RespDevice::open(&host, *input, *output, lane.min(MOST) as u8) {
+        match RespDevice::open(&host, *input, *output, lane.min(LAST) as u8) {
             Ok(device) => {
                 if devices.push(device).is_err() {
                     return Err(None);
