@@ -1,6 +1,6 @@
 """Counts the words of the docs, and tries their links and what they name in backticks: docs.py.
 
-A page of LIMITS has at most so many words, which are what stands between blanks and has a letter or a digit. In README.md,
+A page of LIMITS has at most so many words, which are what stands between blanks, as `wc -w` counts them. In README.md,
 CONTRIBUTING.md, docs/ and the READMEs of the crates, the front and the examples, but for what stands between lines of ```:
 
 - the file of a relative link is there, and where it names a place, so is the heading;
@@ -112,7 +112,7 @@ def main():
     wrong = []
     for pattern, most in LIMITS.items():
         for page in sorted(ROOT.glob(pattern)):
-            count = sum(any(it.isalnum() for it in word) for word in page.read_text().split())
+            count = len(page.read_text().split())
             if count > most:
                 wrong.append(f"{page.relative_to(ROOT)}:1: {count} words, and at most {most} may stand there")
     pages = [page for pattern in PAGES for page in sorted(ROOT.glob(pattern))]
