@@ -1,8 +1,9 @@
 //! What a request asks for, as a command or in the words of Redis's faults; what a command on one key replies and leaves; and
-//! lanes over bytes in memory.
+//! lanes over bytes in memory, and over those by one service behind another.
 mod common;
 mod framed;
 mod keys;
+mod leaving;
 mod parts;
 mod requests;
 mod server_requests;

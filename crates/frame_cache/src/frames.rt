@@ -37,7 +37,7 @@ use counted_slot::{Counted, FREE};
 use far_object::{FarObject, Memory, Object};
 use std::alloc::Global;
 use std::marker::Model;
-use std::mem::{forget, size_of};
+use std::mem::{forget, replace, size_of};
 use std::sync::atomic::AtomicU32;
 use table_core::word::{name_of, place_of};
 use version_words::{Naming, Spare};
@@ -273,6 +273,18 @@ impl<K: FarObject, V: FarObject, J: Naming> Frames<K, V, J> {
             }
             // It is never dropped, since its bucket may still name it.
             None => forget(Lodged { version }),
+        }
+    }
+
+    /// Drops the version that lies there, if one does, and the frame is empty then. Only an exclusive owner of the frames can do so:
+    /// a reader's scope and a claim each borrow them, so there is none while this call is made, and the version needs no spare to end.
+    /// The frame is named as free.
+    pub fn clear(&mut self, frame: u32)
+        ensures count { self.new ≡ self.old }
+    {
+        if let Some(slot) = self.slots.get_mut(frame as usize) {
+            let _ = replace(slot, Counted::new(None, &frame)).into_inner();
+            self.vacant.set(frame);
         }
     }
 

@@ -24,7 +24,7 @@ use Rattle.hash_table.proofs.Fronts.{goes_self, goes_trans}
 both_moved : {X : Type 0} (xs xs2 ys ys2 : List X) → IsPermutation xs xs2 → IsPermutation ys ys2 → IsPermutation (xs ++ ys) (xs2 ++ ys2)
 both_moved xs xs2 ys ys2 one other = IsPermutation-trans (xs ++ ys) (xs2 ++ ys) (xs2 ++ ys2) (IsPermutation-append_left ys xs xs2 one) (IsPermutation-append_right xs2 ys ys2 other)
 
-joined_same : {X : Type 0} (f g : ℕ → List X) (n : ℕ) → ((i : ℕ) → f i ≡ g i) → joined f n ≡ joined g n
+pub joined_same : {X : Type 0} (f g : ℕ → List X) (n : ℕ) → ((i : ℕ) → f i ≡ g i) → joined f n ≡ joined g n
 joined_same f g zero same = refl
 joined_same f g (suc n) same = ap (λ z. z ++ f n) (joined_same f g n same) ∙ ap (λ z. joined g n ++ z) (same n)
 
@@ -189,7 +189,7 @@ module _ {K V : Type 0} (ek : K → List ℕ) (ev : V → List ℕ) (l : Limits)
         (λ is. none.0 (is ∙ numbers 0 c (omega arith)), none_of p os cs (omega (arith, same)) (λ k d lt. numbers (suc k) d (omega (arith, lt))) none.1)
 
     -- with no pass drawn there is no history
-    no_history : (callers : List (Caller K V J)) (log : List (Event K V)) → SameHistory K V → length callers ≡ 0 → IsFrontOf ek ev l callers log → history log ≡ []
+    pub no_history : (callers : List (Caller K V J)) (log : List (Event K V)) → SameHistory K V → length callers ≡ 0 → IsFrontOf ek ev l callers log → history log ≡ []
     no_history callers log law none front =
         law [] log (passes callers) (log, refl) (λ k d lt. absurd (omega (arith, lt, none, length-map callers (λ (c : Caller K V J). c.pass)))) front.no_other log (log, refl) (prefix_self log)
 
@@ -220,17 +220,17 @@ module _ {K V : Type 0} (ek : K → List ℕ) (ev : V → List ℕ) (l : Limits)
     }
 
     -- at a second front behind all looks: it is one of the callers as they were, and no call was added since the first
-    record IsLast (olds reads : List (Caller K V J)) (first second : List (Event K V)) : Type 0 where
-      front : IsFrontOf ek ev l olds second
-      seen : AllSeen reads second
-      stays : HistoryStays first second
+    pub record IsLast (olds reads : List (Caller K V J)) (first second : List (Event K V)) : Type 0 where
+      pub front : IsFrontOf ek ev l olds second
+      pub seen : AllSeen reads second
+      pub stays : HistoryStays first second
 
     head_of : (cs : List (Caller K V J)) → 0 < length cs → Caller K V J
     head_of [] some = absurd (omega (arith, some))
     head_of (c ∷ cs) some = c
 
     -- the callers as they were, with their passes at a first front, after all looks, and with their passes at a second front
-    last_front : (olds mids reads : List (Caller K V J)) (first second : List (Event K V)) → IsFrontOf ek ev l olds first → AreBack olds mids → AreTold first mids → AreBack mids reads → IsFrontOf ek ev l reads second → 0 < length olds
+    pub last_front : (olds mids reads : List (Caller K V J)) (first second : List (Event K V)) → IsFrontOf ek ev l olds first → AreBack olds mids → AreTold first mids → AreBack mids reads → IsFrontOf ek ev l reads second → 0 < length olds
         → SameHistory K V → IsLast olds reads first second
     last_front olds mids reads first second start gathered told read end some same_law =
         let back : AreBack olds reads = back_trans olds mids reads gathered read in

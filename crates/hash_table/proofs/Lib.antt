@@ -10,3 +10,4 @@ pub mod Settings
 pub mod Ends
 pub mod Takers
 pub mod Rounds
+pub mod Drains

@@ -1,6 +1,5 @@
 -- What a round tells that goes on behind others.
-use Rattle.std.proofs.Common.{◌≡◌, ℕ, List, Option, Some, IsTrue, sym, subst, ◌∙◌}
-use Rattle.std.specs.Prelude.{IfSome}
+use Rattle.std.proofs.Common.{◌≡◌, ℕ, List, IsTrue, sym, ◌∙◌}
 use mathlib.Core.List.{IsPrefix}
 use Rattle.table_core.specs.declared.event.Event.{Event}
 use Rattle.table_core.specs.declared.limits.Limits.{Limits}

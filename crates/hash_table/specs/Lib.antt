@@ -11,3 +11,4 @@ pub mod Scopes
 pub mod Reclaims
 pub mod States
 pub mod Closes
+pub mod Drains

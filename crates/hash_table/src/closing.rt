@@ -91,8 +91,12 @@ fn sorted<K: FarObject, V: FarObject>(mut pairs: Vec<(K, V)>) -> Vec<(K, V)>
 }
 
 impl<K: FarObject, V: FarObject, J: Naming, D: Device> FarTable<K, V, J, D> {
-    // All passes at one front, where the callers are all that there are.
-    pub(crate) fn gather(
+    /// All passes at one front, where the callers are all that there are: it has just the calls that each of them made. It waits for
+    /// nothing and reads no bucket.
+    ///
+    /// `PassMissing` comes where a pass was drawn whose caller is not handed in, and `Memory` where the room for a number for each
+    /// pass is refused. The callers have made no call on every answer.
+    pub fn gather(
         &self,
         alloc: Global,
         callers: &mut [Caller<K, V, J>],

@@ -215,7 +215,29 @@ impl<K: FarObject, V: FarObject, J: Naming, D: Device> Lane<K, V, J, D> {
         ensures stored { AreStored K.enc V.enc K.admits V.admits J.limits (D.state self.new.device).contents (bucket_at D.labels self.new) self.new.log }
     {
         let name = name_of(spare.word());
+        self.forget(name)
+    }
+
+    // As `remove`, by whoever has the lane alone: its row of words is over, and no call looks for the name any more.
+    pub(crate) fn forget(&mut self, name: u64) -> Result<bool, LaneFault>
+        ensures removes { Removes D.state D.labels self.old self.new name result }
+        ensures stored { AreStored K.enc V.enc K.admits V.admits J.limits (D.state self.new.device).contents (bucket_at D.labels self.new) self.new.log }
+    {
         self.buckets.remove(&name);
         Ok(self.device.remove(name)?)
+    }
+
+    // The device, whose objects nobody asks for under a name of this row any more.
+    pub(crate) fn into_device(self) -> D
+        ensures { result ≡ self.device }
+    {
+        let Lane {
+            device,
+            buckets: _,
+            labelled: _,
+            seen: _,
+            spelled: _,
+        } = self;
+        device
     }
 }

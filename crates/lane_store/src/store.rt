@@ -5,7 +5,7 @@
 //! No clause can name what lies behind a lock, since another thread may change it before the call and after. The functions
 //! of `Lane`, which are lent the lane, say what each call does to it. Here stand the facts that a lane's type keeps whoever
 //! had the lock before: each receipt is that of a name of this row of words, and its object is stored.
-ghost use Rattle.std.specs.Prelude.{◌≡◌, ◌<◌, ◌≤◌, ◌%◌, IfOk, OnOk, OnErr, IfSome, IfNone, vec_len};
+ghost use Rattle.std.specs.Prelude.{◌≡◌, ◌<◌, ◌≤◌, ◌+◌, ◌%◌, IfOk, OnOk, OnErr, IfSome, IfNone, vec_len};
 ghost use Rattle.table_core.specs.BucketWords.{place_of, far_place};
 ghost use Rattle.table_core.specs.Logs.{contents};
 ghost use Rattle.lane_store.specs.Lanes.{IsRead};
@@ -16,7 +16,7 @@ use crate::lane::Lane;
 use crate::receipt::Receipt;
 use crossbeam_utils::{Backoff, CachePadded};
 use far_device::Device;
-use far_object::{FarObject, Format, Object};
+use far_object::{FarObject, Format, Memory, Object};
 use std::alloc::Global;
 use std::marker::Model;
 use std::sync::{Mutex, MutexGuard, Wait};
@@ -132,5 +132,29 @@ impl<K: FarObject, V: FarObject, J: Naming, D: Device> LaneStore<K, V, J, D> {
     {
         let mut lane = self.lane(rt, name_of(spare.word()));
         lane.remove(spare)
+    }
+
+    /// Removes the object of the name from its lane's device, as far as that does not fail, and no receipt stands for the name then.
+    /// Only an exclusive owner of the lanes can do so, whose row of words is over: nobody else has a lane's lock, and no word is looked
+    /// at any more that names the object.
+    pub fn forget(&mut self, name: u64)
+        ensures count { self.new ≡ self.old }
+    {
+        let lock: &Mutex<Lane<K, V, J, D>> = &self.lanes[lane_of(name, self.lanes.len())];
+        if let Some(mut lane) = lock.try_lock() {
+            let _ = lane.forget(name);
+        }
+    }
+
+    /// The devices, in the order in which they were handed in, behind those of the list, whatever they hold. `Memory` comes where the
+    /// list has no room for them and a growth is refused; all devices are dropped then.
+    pub fn into_devices(self, mut devices: Vec<D>) -> Result<Vec<D>, Memory>
+        ensures count { IfOk result (λ all. vec_len all ≡ vec_len devices + self) }
+    {
+        let LaneStore { lanes } = self;
+        for lane in lanes {
+            devices.push(lane.into_inner().into_inner().into_device())?;
+        }
+        Ok(devices)
     }
 }

@@ -1,20 +1,20 @@
 -- A frame that came is dealt with.
-use Rattle.std.proofs.Common.{◌≡◌, ℕ, ◌<◌, Bool, true, false, List, [], ◌∷◌, ◌++◌, length, refl, sym, ap, ◌∙◌, arith, append_assoc, subst}
+use Rattle.std.proofs.Common.{◌≡◌, ℕ, ◌<◌, true, false, List, [], ◌∷◌, ◌++◌, length, refl, sym, ap, ◌∙◌, arith, append_assoc, subst}
 use Rattle.std.proofs.lemmas.List.{map-append}
 use Rattle.resp.specs.declared.limits.Limits.{Limits}
 use Rattle.resp.proofs.Commands.{nothing_there}
 use Rattle.lanes.specs.declared.slots.Slot.{Slot}
 use Rattle.lanes.specs.declared.service.Woken.{Woken}
-use Rattle.lanes.specs.Marks.{Mark, Piece, Stop, Else, stops}
-use Rattle.lanes.specs.Calls.{Call, Left, Awake, Exchange, Step, Ended, Woke, step_mark, step_marks}
+use Rattle.lanes.specs.Marks.{Mark, Piece, Stop, Else}
+use Rattle.lanes.specs.Calls.{Call, Left, Awake, Exchange, Ended, Woke, step_marks}
 use Rattle.lanes.specs.Lanes.{Frame, frame_mark, marks, IsBegun, AreSettled}
-use Rattle.lanes.specs.Served.{AreBegun, Served, Begun}
+use Rattle.lanes.specs.Served.{AreBegun}
 use Rattle.lanes.specs.Slots.{Seen, slot_at, Replaces, StandsSo, StandsAt, AllStand, IsAnswered}
 use Rattle.lanes.specs.Turns.{Says, Stands, Comes, Turns, Faulty, closing}
 use Rattle.lanes.proofs.Saying.{StopsAt, says_piece, says_else, stops_at}
 use Rattle.lanes.proofs.Standing.{same_on, nothing_on, idle, seen_same, enter, leave_off}
-use Rattle.lanes.proofs.Closing.{all_free, client_left, client_left_too, passed_over, begun, begun_says, begun_same}
-use Rattle.lanes.proofs.Turning.{run_more, says_close, ends_step}
+use Rattle.lanes.proofs.Closing.{client_left, client_left_too, passed_over, begun, begun_says, begun_same}
+use Rattle.lanes.proofs.Turning.{marks_more, run_more, says_close, ends_step}
 
 pub nothing_begun : (limits : Limits) → IsBegun limits [] 1
 nothing_begun limits = record {
@@ -28,8 +28,8 @@ nothing_begun limits = record {
   few = omega arith;
 }
 
-pub comes_turns : {D X : Type 0} (tells : D → D → List Frame → List Frame → Type 0) (does : X → Call → X → Type 0) (limits : Limits) (c : ℕ) (start now : D) (x y : X) (slots : List Slot) (held bytes : List ℕ) (wanted : ℕ) → slot_at slots c ≡ record { over = false; held = held; wanted = wanted } → Comes tells does limits start now x y slots (Piece c bytes) → Turns (IsAnswered limits (held ++ bytes)) tells does limits c start now x y slots []
-comes_turns tells does limits c start now x y slots held bytes wanted is h =
+pub comes_turns : {D X : Type 0} (tells : D → D → List Frame → List Frame → Type 0) (does : X → Call → X → Type 0) (limits : Limits) (past : List (Mark Exchange)) (c : ℕ) (start now : D) (x y : X) (slots : List Slot) (held bytes : List ℕ) (wanted : ℕ) → slot_at slots c ≡ record { over = false; held = held; wanted = wanted } → Comes tells does limits past start now x y slots (Piece c bytes) → Turns (IsAnswered limits (held ++ bytes)) tells does limits past c start now x y slots []
+comes_turns tells does limits past c start now x y slots held bytes wanted is h =
     let P : List (Mark ℕ) → Type 0 = λ m. Says c bytes h.before m in
     record {
       came = h.came;
@@ -37,11 +37,11 @@ comes_turns tells does limits c start now x y slots held bytes wanted is h =
       steps = h.steps;
       told = h.told;
       run = h.run;
-      turn = enter limits c slots held bytes wanted h.before (marks h.came) (marks h.sent) (step_marks h.steps) h.stand is (subst P (sym h.is) (says_piece c bytes h.before));
+      turn = enter limits c slots held bytes wanted h.before (marks h.came) (marks h.sent) (past ++ step_marks h.steps) h.stand is (subst P (sym h.is) (says_piece c bytes h.before));
     }
 
-pub comes_over : {D X : Type 0} (tells : D → D → List Frame → List Frame → Type 0) (does : X → Call → X → Type 0) (limits : Limits) (c : ℕ) (start now : D) (x y : X) (slots : List Slot) (held bytes : List ℕ) (wanted : ℕ) → slot_at slots c ≡ record { over = true; held = held; wanted = wanted } → Comes tells does limits start now x y slots (Piece c bytes) → Stands tells does limits start now x y slots
-comes_over tells does limits c start now x y slots held bytes wanted is h =
+pub comes_over : {D X : Type 0} (tells : D → D → List Frame → List Frame → Type 0) (does : X → Call → X → Type 0) (limits : Limits) (past : List (Mark Exchange)) (c : ℕ) (start now : D) (x y : X) (slots : List Slot) (held bytes : List ℕ) (wanted : ℕ) → slot_at slots c ≡ record { over = true; held = held; wanted = wanted } → Comes tells does limits past start now x y slots (Piece c bytes) → Stands tells does limits past start now x y slots
+comes_over tells does limits past c start now x y slots held bytes wanted is h =
     let P : List (Mark ℕ) → Type 0 = λ m. Says c bytes h.before m in
     record {
       came = h.came;
@@ -49,7 +49,7 @@ comes_over tells does limits c start now x y slots held bytes wanted is h =
       steps = h.steps;
       told = h.told;
       run = h.run;
-      stand = passed_over limits c slots held bytes wanted h.before (marks h.came) (marks h.sent) (step_marks h.steps) h.stand is (subst P (sym h.is) (says_piece c bytes h.before));
+      stand = passed_over limits c slots held bytes wanted h.before (marks h.came) (marks h.sent) (past ++ step_marks h.steps) h.stand is (subst P (sym h.is) (says_piece c bytes h.before));
     }
 
 begun_longer : (limits : Limits) (held bytes : List ℕ) (wanted : ℕ) → length (held ++ bytes) < wanted → IsBegun limits held wanted → IsBegun limits (held ++ bytes) wanted
@@ -65,23 +65,23 @@ begun_longer limits held bytes wanted few b = record {
 }
 
 -- fewer bytes came than are missing
-pub comes_waits : {D X : Type 0} (tells : D → D → List Frame → List Frame → Type 0) (does : X → Call → X → Type 0) (limits : Limits) (c : ℕ) (start now : D) (x y : X) (slots after : List Slot) (held bytes : List ℕ) (wanted : ℕ) → slot_at slots c ≡ record { over = false; held = held; wanted = wanted } → length (held ++ bytes) < wanted → Replaces c (record { over = false; held = held ++ bytes; wanted = wanted }) slots after → Comes tells does limits start now x y slots (Piece c bytes) → Stands tells does limits start now x y after
-comes_waits tells does limits c start now x y slots after held bytes wanted is few r h =
-    let P : Seen → Type 0 = λ s. StandsAt limits c h.before (marks h.sent) (step_marks h.steps) s in
-    let was : StandsSo limits c h.before (marks h.sent) (step_marks h.steps) false held wanted = subst P is (h.stand.now c) in
-    let t = comes_turns tells does limits c start now x y slots held bytes wanted is h in
+pub comes_waits : {D X : Type 0} (tells : D → D → List Frame → List Frame → Type 0) (does : X → Call → X → Type 0) (limits : Limits) (past : List (Mark Exchange)) (c : ℕ) (start now : D) (x y : X) (slots after : List Slot) (held bytes : List ℕ) (wanted : ℕ) → slot_at slots c ≡ record { over = false; held = held; wanted = wanted } → length (held ++ bytes) < wanted → Replaces c (record { over = false; held = held ++ bytes; wanted = wanted }) slots after → Comes tells does limits past start now x y slots (Piece c bytes) → Stands tells does limits past start now x y after
+comes_waits tells does limits past c start now x y slots after held bytes wanted is few r h =
+    let P : Seen → Type 0 = λ s. StandsAt limits c h.before (marks h.sent) (past ++ step_marks h.steps) s in
+    let was : StandsSo limits c h.before (marks h.sent) (past ++ step_marks h.steps) false held wanted = subst P is (h.stand.now c) in
+    let t = comes_turns tells does limits past c start now x y slots held bytes wanted is h in
     record {
       came = t.came;
       sent = t.sent;
       steps = t.steps;
       told = t.told;
       run = t.run;
-      stand = leave_off limits c slots after (held ++ bytes) wanted (marks t.came) (marks t.sent) (step_marks t.steps) t.turn (begun_longer limits held bytes wanted few was.2.begun) r;
+      stand = leave_off limits c slots after (held ++ bytes) wanted (marks t.came) (marks t.sent) (past ++ step_marks t.steps) t.turn (begun_longer limits held bytes wanted few was.2.begun) r;
     }
 
 -- the client closes, and so does the lane
-pub comes_closed : {D X : Type 0} (tells : D → D → List Frame → List Frame → Type 0) (does : X → Call → X → Type 0) (limits : Limits) (c : ℕ) (start now then : D) (x y z : X) (slots after : List Slot) (held : List ℕ) (wanted : ℕ) → slot_at slots c ≡ record { over = false; held = held; wanted = wanted } → does y (Left c) z → (h : Comes tells does limits start now x y slots (Stop c)) → tells start then h.came (h.sent ++ closing c ∷ []) → Replaces c (record { over = false; held = []; wanted = 1 }) slots after → Stands tells does limits start then x z after
-comes_closed tells does limits c start now then x y z slots after held wanted is left h told r =
+pub comes_closed : {D X : Type 0} (tells : D → D → List Frame → List Frame → Type 0) (does : X → Call → X → Type 0) (limits : Limits) (past : List (Mark Exchange)) (c : ℕ) (start now then : D) (x y z : X) (slots after : List Slot) (held : List ℕ) (wanted : ℕ) → slot_at slots c ≡ record { over = false; held = held; wanted = wanted } → does y (Left c) z → (h : Comes tells does limits past start now x y slots (Stop c)) → tells start then h.came (h.sent ++ closing c ∷ []) → Replaces c (record { over = false; held = []; wanted = 1 }) slots after → Stands tells does limits past start then x z after
+comes_closed tells does limits past c start now then x y z slots after held wanted is left h told r =
     let P : List (Mark ℕ) → Type 0 = λ m. StopsAt c h.before m in
     record {
       came = h.came;
@@ -89,12 +89,12 @@ comes_closed tells does limits c start now then x y z slots after held wanted is
       steps = h.steps ++ Ended c ∷ [];
       told = told;
       run = run_more does h.steps x y z (Ended c) h.run left;
-      stand = client_left limits c slots after held wanted 1 h.before (marks h.came) (marks h.sent) (marks (h.sent ++ closing c ∷ [])) (step_marks h.steps) (step_marks (h.steps ++ Ended c ∷ [])) (nothing_begun limits) h.stand is (subst P (sym h.is) (stops_at c h.before)) (ends_step c h.steps) (says_close c h.sent) r;
+      stand = client_left limits c slots after held wanted 1 h.before (marks h.came) (marks h.sent) (marks (h.sent ++ closing c ∷ [])) (past ++ step_marks h.steps) (past ++ step_marks (h.steps ++ Ended c ∷ [])) (nothing_begun limits) h.stand is (subst P (sym h.is) (stops_at c h.before)) (ends_step past c h.steps) (says_close c h.sent) r;
     }
 
 -- the client closes behind the lane
-pub comes_closed_too : {D X : Type 0} (tells : D → D → List Frame → List Frame → Type 0) (does : X → Call → X → Type 0) (limits : Limits) (c : ℕ) (start now : D) (x y : X) (slots after : List Slot) (held : List ℕ) (wanted : ℕ) → slot_at slots c ≡ record { over = true; held = held; wanted = wanted } → Comes tells does limits start now x y slots (Stop c) → Replaces c (record { over = false; held = []; wanted = 1 }) slots after → Stands tells does limits start now x y after
-comes_closed_too tells does limits c start now x y slots after held wanted is h r =
+pub comes_closed_too : {D X : Type 0} (tells : D → D → List Frame → List Frame → Type 0) (does : X → Call → X → Type 0) (limits : Limits) (past : List (Mark Exchange)) (c : ℕ) (start now : D) (x y : X) (slots after : List Slot) (held : List ℕ) (wanted : ℕ) → slot_at slots c ≡ record { over = true; held = held; wanted = wanted } → Comes tells does limits past start now x y slots (Stop c) → Replaces c (record { over = false; held = []; wanted = 1 }) slots after → Stands tells does limits past start now x y after
+comes_closed_too tells does limits past c start now x y slots after held wanted is h r =
     let P : List (Mark ℕ) → Type 0 = λ m. StopsAt c h.before m in
     record {
       came = h.came;
@@ -102,12 +102,12 @@ comes_closed_too tells does limits c start now x y slots after held wanted is h 
       steps = h.steps;
       told = h.told;
       run = h.run;
-      stand = client_left_too limits c slots after held wanted 1 h.before (marks h.came) (marks h.sent) (step_marks h.steps) (nothing_begun limits) h.stand is (subst P (sym h.is) (stops_at c h.before)) r;
+      stand = client_left_too limits c slots after held wanted 1 h.before (marks h.came) (marks h.sent) (past ++ step_marks h.steps) (nothing_begun limits) h.stand is (subst P (sym h.is) (stops_at c h.before)) r;
     }
 
 -- a frame that says nothing of a connection, of slots that are seen as the same
-pub comes_idle : {D X : Type 0} (tells : D → D → List Frame → List Frame → Type 0) (does : X → Call → X → Type 0) (limits : Limits) (start now : D) (x y : X) (slots after : List Slot) → ((d : ℕ) → slot_at after d ≡ slot_at slots d) → Comes tells does limits start now x y slots Else → Stands tells does limits start now x y after
-comes_idle tells does limits start now x y slots after same h =
+pub comes_idle : {D X : Type 0} (tells : D → D → List Frame → List Frame → Type 0) (does : X → Call → X → Type 0) (limits : Limits) (past : List (Mark Exchange)) (start now : D) (x y : X) (slots after : List Slot) → ((d : ℕ) → slot_at after d ≡ slot_at slots d) → Comes tells does limits past start now x y slots Else → Stands tells does limits past start now x y after
+comes_idle tells does limits past start now x y slots after same h =
     let P : List (Mark ℕ) → Type 0 = λ m. Says 0 [] h.before m in
     let s : Says 0 [] h.before (marks h.came) = subst P (sym h.is) (says_else 0 h.before) in
     record {
@@ -116,21 +116,21 @@ comes_idle tells does limits start now x y slots after same h =
       steps = h.steps;
       told = h.told;
       run = h.run;
-      stand = seen_same limits slots after (marks h.came) (marks h.sent) (step_marks h.steps) same (idle limits slots h.before (marks h.came) (marks h.sent) (marks h.sent) (step_marks h.steps) (step_marks h.steps) (λ d. nothing_on 0 d h.before (marks h.came) s) (λ d. same_on d (marks h.sent)) (λ d. same_on d (step_marks h.steps)) h.stand);
+      stand = seen_same limits slots after (marks h.came) (marks h.sent) (past ++ step_marks h.steps) same (idle limits slots h.before (marks h.came) (marks h.sent) (marks h.sent) (past ++ step_marks h.steps) (past ++ step_marks h.steps) (λ d. nothing_on 0 d h.before (marks h.came) s) (λ d. same_on d (marks h.sent)) (λ d. same_on d (past ++ step_marks h.steps)) h.stand);
     }
 
-pub comes_woke : {D X : Type 0} (tells : D → D → List Frame → List Frame → Type 0) (does : X → Call → X → Type 0) (limits : Limits) (start now : D) (x y z : X) (slots : List Slot) (woken : Woken) → does y (Awake woken) z → Comes tells does limits start now x y slots Else → Stands tells does limits start now x z slots
-comes_woke tells does limits start now x y z slots woken woke h =
-    let t = comes_idle tells does limits start now x y slots slots (λ d. refl) h in
-    let P : List (Mark Exchange) → Type 0 = λ m. Says 0 [] (step_marks t.steps) m in
-    let s : Says 0 [] (step_marks t.steps) (step_marks (t.steps ++ Woke woken ∷ [])) = subst P (sym (map-append step_mark t.steps (Woke woken ∷ []))) (says_else 0 (step_marks t.steps)) in
+pub comes_woke : {D X : Type 0} (tells : D → D → List Frame → List Frame → Type 0) (does : X → Call → X → Type 0) (limits : Limits) (past : List (Mark Exchange)) (start now : D) (x y z : X) (slots : List Slot) (woken : Woken) → does y (Awake woken) z → Comes tells does limits past start now x y slots Else → Stands tells does limits past start now x z slots
+comes_woke tells does limits past start now x y z slots woken woke h =
+    let t = comes_idle tells does limits past start now x y slots slots (λ d. refl) h in
+    let P : List (Mark Exchange) → Type 0 = λ m. Says 0 [] (past ++ step_marks t.steps) m in
+    let s : Says 0 [] (past ++ step_marks t.steps) (past ++ step_marks (t.steps ++ Woke woken ∷ [])) = subst P (sym (marks_more past t.steps (Woke woken))) (says_else 0 (past ++ step_marks t.steps)) in
     record {
       came = t.came;
       sent = t.sent;
       steps = t.steps ++ Woke woken ∷ [];
       told = t.told;
       run = run_more does t.steps x y z (Woke woken) t.run woke;
-      stand = idle limits slots (marks t.came) (marks t.came) (marks t.sent) (marks t.sent) (step_marks t.steps) (step_marks (t.steps ++ Woke woken ∷ [])) (λ d. same_on d (marks t.came)) (λ d. same_on d (marks t.sent)) (λ d. nothing_on 0 d (step_marks t.steps) (step_marks (t.steps ++ Woke woken ∷ [])) s) t.stand;
+      stand = idle limits slots (marks t.came) (marks t.came) (marks t.sent) (marks t.sent) (past ++ step_marks t.steps) (past ++ step_marks (t.steps ++ Woke woken ∷ [])) (λ d. same_on d (marks t.came)) (λ d. same_on d (marks t.sent)) (λ d. nothing_on 0 d (past ++ step_marks t.steps) (past ++ step_marks (t.steps ++ Woke woken ∷ [])) s) t.stand;
     }
 
 -- ---- faults
@@ -140,64 +140,52 @@ begun_mark limits (Piece c xs) before sent steps b = begun_says limits c xs befo
 begun_mark limits (Stop c) before sent steps b = begun_same limits before (before ++ Stop c ∷ []) sent sent steps steps (stops_at c before).same (λ d k. refl) (λ d k. refl) b
 begun_mark limits Else before sent steps b = begun_says limits 0 [] before (before ++ Else ∷ []) sent steps (says_else 0 before) b
 
-comes_begun : {D X : Type 0} (tells : D → D → List Frame → List Frame → Type 0) (does : X → Call → X → Type 0) (limits : Limits) (start now : D) (x y : X) (slots : List Slot) (m : Mark ℕ) → (h : Comes tells does limits start now x y slots m) → AreBegun limits (marks h.came) (marks h.sent) (step_marks h.steps)
-comes_begun tells does limits start now x y slots m h =
-    let P : List (Mark ℕ) → Type 0 = λ l. AreBegun limits l (marks h.sent) (step_marks h.steps) in
-    subst P (sym h.is) (begun_mark limits m h.before (marks h.sent) (step_marks h.steps) (begun limits slots h.before (marks h.sent) (step_marks h.steps) h.stand))
+comes_begun : {D X : Type 0} (tells : D → D → List Frame → List Frame → Type 0) (does : X → Call → X → Type 0) (limits : Limits) (past : List (Mark Exchange)) (start now : D) (x y : X) (slots : List Slot) (m : Mark ℕ) → (h : Comes tells does limits past start now x y slots m) → AreBegun limits (marks h.came) (marks h.sent) (past ++ step_marks h.steps)
+comes_begun tells does limits past start now x y slots m h =
+    let P : List (Mark ℕ) → Type 0 = λ l. AreBegun limits l (marks h.sent) (past ++ step_marks h.steps) in
+    subst P (sym h.is) (begun_mark limits m h.before (marks h.sent) (past ++ step_marks h.steps) (begun limits slots h.before (marks h.sent) (past ++ step_marks h.steps) h.stand))
 
-pub comes_faulty : {D X : Type 0} (tells : D → D → List Frame → List Frame → Type 0) (does : X → Call → X → Type 0) (limits : Limits) (start now then : D) (x y : X) (slots : List Slot) (m : Mark ℕ) → ((came sent : List Frame) → tells start now came sent → tells start then came sent) → Comes tells does limits start now x y slots m → Faulty tells does limits start then x
-comes_faulty tells does limits start now then x y slots m kept h = record {
+pub comes_faulty : {D X : Type 0} (tells : D → D → List Frame → List Frame → Type 0) (does : X → Call → X → Type 0) (limits : Limits) (past : List (Mark Exchange)) (start now then : D) (x y : X) (slots : List Slot) (m : Mark ℕ) → ((came sent : List Frame) → tells start now came sent → tells start then came sent) → Comes tells does limits past start now x y slots m → Faulty tells does limits past start then x
+comes_faulty tells does limits past start now then x y slots m kept h = record {
   came = h.came;
   sent = h.sent;
   steps = h.steps;
   last = y;
   told = kept h.came h.sent h.told;
   run = h.run;
-  each = comes_begun tells does limits start now x y slots m h;
+  each = comes_begun tells does limits past start now x y slots m h;
 }
 
-pub stands_faulty : {D X : Type 0} (tells : D → D → List Frame → List Frame → Type 0) (does : X → Call → X → Type 0) (limits : Limits) (start now then : D) (x y : X) (slots : List Slot) → ((came sent : List Frame) → tells start now came sent → tells start then came sent) → Stands tells does limits start now x y slots → Faulty tells does limits start then x
-stands_faulty tells does limits start now then x y slots kept h = record {
+pub stands_faulty : {D X : Type 0} (tells : D → D → List Frame → List Frame → Type 0) (does : X → Call → X → Type 0) (limits : Limits) (past : List (Mark Exchange)) (start now then : D) (x y : X) (slots : List Slot) → ((came sent : List Frame) → tells start now came sent → tells start then came sent) → Stands tells does limits past start now x y slots → Faulty tells does limits past start then x
+stands_faulty tells does limits past start now then x y slots kept h = record {
   came = h.came;
   sent = h.sent;
   steps = h.steps;
   last = y;
   told = kept h.came h.sent h.told;
   run = h.run;
-  each = begun limits slots (marks h.came) (marks h.sent) (step_marks h.steps) h.stand;
+  each = begun limits slots (marks h.came) (marks h.sent) (past ++ step_marks h.steps) h.stand;
 }
 
-pub closed_faulty : {D X : Type 0} (tells : D → D → List Frame → List Frame → Type 0) (does : X → Call → X → Type 0) (limits : Limits) (c : ℕ) (start now then : D) (x y : X) (slots : List Slot) → ((came sent : List Frame) → tells start now came sent → tells start then came (sent ++ closing c ∷ [])) → Comes tells does limits start now x y slots (Stop c) → Faulty tells does limits start then x
-closed_faulty tells does limits c start now then x y slots sends h = record {
+pub closed_faulty : {D X : Type 0} (tells : D → D → List Frame → List Frame → Type 0) (does : X → Call → X → Type 0) (limits : Limits) (past : List (Mark Exchange)) (c : ℕ) (start now then : D) (x y : X) (slots : List Slot) → ((came sent : List Frame) → tells start now came sent → tells start then came (sent ++ closing c ∷ [])) → Comes tells does limits past start now x y slots (Stop c) → Faulty tells does limits past start then x
+closed_faulty tells does limits past c start now then x y slots sends h = record {
   came = h.came;
   sent = h.sent ++ closing c ∷ [];
   steps = h.steps;
   last = y;
   told = sends h.came h.sent h.told;
   run = h.run;
-  each = begun_same limits (marks h.came) (marks h.came) (marks h.sent) (marks (h.sent ++ closing c ∷ [])) (step_marks h.steps) (step_marks h.steps) (λ d k. refl) (says_close c h.sent).same (λ d k. refl) (comes_begun tells does limits start now x y slots (Stop c) h);
+  each = begun_same limits (marks h.came) (marks h.came) (marks h.sent) (marks (h.sent ++ closing c ∷ [])) (past ++ step_marks h.steps) (past ++ step_marks h.steps) (λ d k. refl) (says_close c h.sent).same (λ d k. refl) (comes_begun tells does limits past start now x y slots (Stop c) h);
 }
 
 -- ---- the whole run
 
-pub begins : {D X : Type 0} (tells : D → D → List Frame → List Frame → Type 0) (does : X → Call → X → Type 0) (limits : Limits) (start : D) (x : X) (slots : List Slot) → slots ≡ [] → tells start start [] [] → Stands tells does limits start start x x slots
-begins tells does limits start x slots none told =
-    let P : List Slot → Type 0 = λ s. AllStand limits s [] [] [] in
-    record {
-      came = [];
-      sent = [];
-      steps = [];
-      told = told;
-      run = refl;
-      stand = subst P (sym none) (all_free limits (nothing_begun limits));
-    }
-
-pub settled : (limits : Limits) (slots : List Slot) (came sent : List Frame) (steps : List Step) → AllStand limits slots (marks came) (marks sent) (step_marks steps) → AreSettled limits came sent
-settled limits slots came sent steps h c k = (_, h.settled c k)
+pub settled : (limits : Limits) (slots : List Slot) (came sent : List Frame) (said : List (Mark Exchange)) → AllStand limits slots (marks came) (marks sent) said → AreSettled limits came sent
+settled limits slots came sent said h c k = (_, h.settled c k)
 
 -- a frame more came
-pub made_comes : {D X : Type 0} (tells : D → D → List Frame → List Frame → Type 0) (does : X → Call → X → Type 0) (limits : Limits) (start now then : D) (x y : X) (slots : List Slot) (f : Frame) → (s : Stands tells does limits start now x y slots) → tells start then (s.came ++ f ∷ []) s.sent → Comes tells does limits start then x y slots (frame_mark f)
-made_comes tells does limits start now then x y slots f s told = record {
+pub made_comes : {D X : Type 0} (tells : D → D → List Frame → List Frame → Type 0) (does : X → Call → X → Type 0) (limits : Limits) (past : List (Mark Exchange)) (start now then : D) (x y : X) (slots : List Slot) (f : Frame) → (s : Stands tells does limits past start now x y slots) → tells start then (s.came ++ f ∷ []) s.sent → Comes tells does limits past start then x y slots (frame_mark f)
+made_comes tells does limits past start now then x y slots f s told = record {
   came = s.came ++ f ∷ [];
   sent = s.sent;
   steps = s.steps;
@@ -207,20 +195,3 @@ made_comes tells does limits start now then x y slots f s told = record {
   run = s.run;
   stand = s.stand;
 }
-
-left_is : (limits : Limits) (c : ℕ) (came sent : List (Mark ℕ)) (steps : List (Mark Exchange)) (over : Bool) (held : List ℕ) (wanted : ℕ) → StandsSo limits c came sent steps over held wanted → stops c steps ≡ stops c sent
-left_is limits c came sent steps false held wanted s = s.1 ∙ sym s.0
-left_is limits c came sent steps true held wanted s = s.1 ∙ sym s.0
-
-pub served : {D X : Type 0} (tells : D → D → List Frame → List Frame → Type 0) (does : X → Call → X → Type 0) (limits : Limits) (start now : D) (x y : X) (slots : List Slot) → (s : Stands tells does limits start now x y slots) → Served does limits x y s.came s.sent
-served tells does limits start now x y slots s = record {
-  steps = s.steps;
-  run = s.run;
-  each = s.stand.settled;
-  left = λ c. left_is limits c (marks s.came) (marks s.sent) (step_marks s.steps) _ _ _ (s.stand.now c);
-}
-
-pub faulty : {D X : Type 0} (tells : D → D → List Frame → List Frame → Type 0) (does : X → Call → X → Type 0) (limits then : Limits) (start now : D) (x : X) → limits ≡ then → Faulty tells does limits start now x → (came : List Frame) × (sent : List Frame) × tells start now came sent × Begun does then x came sent
-faulty tells does limits then start now x is f =
-    let P : Limits → Type 0 = λ l. Begun does l x f.came f.sent in
-    (f.came, f.sent, f.told, subst P is (record { steps = f.steps; last = f.last; run = f.run; each = f.each }))

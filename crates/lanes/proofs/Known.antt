@@ -7,8 +7,9 @@ use Rattle.std.specs.Int.{w32, to_be_bytes, from_be_bytes}
 use Rattle.std.proofs.lemmas.Nat.{be_bytes_4}
 use Rattle.lanes.specs.declared.frame.Head.{Head}
 use Rattle.lanes.specs.declared.frame.Kind.{Kind}
+use Rattle.lanes.specs.declared.over.Wire.{Wire}
 use Rattle.lanes.specs.Lanes.{Frame}
-use Rattle.lanes.specs.Frames.{kind_byte, frame_bytes, frames_bytes, TellsRead, TellsWritten}
+use Rattle.lanes.specs.Frames.{kind_byte, frame_bytes, frames_bytes, TellsRead, TellsWritten, WireTells}
 
 pub appends_nothing : (a : Option (List ℕ)) → Appends a a []
 appends_nothing None = tt
@@ -193,3 +194,12 @@ pub sent_told : {X : Type 0} (began wrote : X → Option (List ℕ)) (a w v : Op
 sent_told began wrote a w v f broken is k =
     let P : Bool → Type 0 = λ t. Sent began wrote a w v f t in
     subst P (sym is) (λ start came sent t. (t.0, written_more (wrote start) w v sent f t.1 k))
+
+-- a reader and a writer that did not fail tell whole frames
+pub wire_told : {R W : Type 0} (remaining : R → Option (List ℕ)) (contents : W → Option (List ℕ)) (v w : Wire R W) (came sent : List Frame) → w.broken ≡ false → WireTells remaining contents v w came sent → Consumes (remaining v.input) (remaining w.input) (frames_bytes came) × Appends (contents v.output) (contents w.output) (frames_bytes sent)
+wire_told remaining contents v w came sent off told =
+    let C : List ℕ → Type 0 = λ l. Consumes (remaining v.input) (remaining w.input) l in
+    let A : List ℕ → Type 0 = λ l. Appends (contents v.output) (contents w.output) l in (
+      subst C (ap (λ (l : List ℕ). frames_bytes came ++ l) (told.0.1 off) ∙ append-nil (frames_bytes came)) told.0.2,
+      subst A (ap (λ (l : List ℕ). frames_bytes sent ++ l) (told.1.1 off) ∙ append-nil (frames_bytes sent)) told.1.2,
+    )

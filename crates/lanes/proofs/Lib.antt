@@ -5,4 +5,5 @@ pub mod Turning
 pub mod Requests
 pub mod Seeing
 pub mod Framing
+pub mod Resuming
 pub mod Known

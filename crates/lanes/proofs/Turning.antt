@@ -23,6 +23,10 @@ use Rattle.lanes.proofs.Saying.{StopsAt, stops_at, says_piece, says_nothing, say
 use Rattle.lanes.proofs.Standing.{asked-append, replied-append, taken-append, go_on-append, took, wrote, leave_off, shut}
 use Rattle.lanes.proofs.Closing.{begun_turn, begun_answered, begun_closed, begun_same}
 
+-- a step more, behind what was said before
+pub marks_more : (past : List (Mark Exchange)) (steps : List Step) (s : Step) → past ++ step_marks (steps ++ s ∷ []) ≡ (past ++ step_marks steps) ++ step_mark s ∷ []
+marks_more past steps s = ap (λ l. past ++ l) (map-append step_mark steps (s ∷ [])) ∙ sym (append_assoc past (step_marks steps) (step_mark s ∷ []))
+
 pub run_more : {X : Type 0} (does : X → Call → X → Type 0) (steps : List Step) (x m y : X) (s : Step) → Run does x steps m → Does does m s y → Run does x (steps ++ s ∷ []) y
 run_more {X} does [] x m y s run step =
     let P : X → Type 0 = λ z. Does does z s y in
@@ -91,8 +95,8 @@ goes_so GoOn e not is = is
 goes_so WakeAll e not is = is
 goes_so End e not is = absurd (not refl)
 
-pub turn_more : {D X : Type 0} (tells : D → D → List Frame → List Frame → Type 0) (does : X → Call → X → Type 0) (limits : Limits) (c : ℕ) (start now : D) (x y z : X) (slots : List Slot) (bytes out out' : List ℕ) (at consumed : ℕ) (next : Next) → next ≢ End → TakesWhole does limits c y z (drop at bytes) consumed next out out' → Turns (IsAnswered limits (drop at bytes)) tells does limits c start now x y slots out → Turns (IsAnswered limits (drop (at + consumed) bytes)) tells does limits c start now x z slots out'
-turn_more tells does limits c start now x y z slots bytes out out' at consumed next goes w t =
+pub turn_more : {D X : Type 0} (tells : D → D → List Frame → List Frame → Type 0) (does : X → Call → X → Type 0) (limits : Limits) (past : List (Mark Exchange)) (c : ℕ) (start now : D) (x y z : X) (slots : List Slot) (bytes out out' : List ℕ) (at consumed : ℕ) (next : Next) → next ≢ End → TakesWhole does limits c y z (drop at bytes) consumed next out out' → Turns (IsAnswered limits (drop at bytes)) tells does limits past c start now x y slots out → Turns (IsAnswered limits (drop (at + consumed) bytes)) tells does limits past c start now x z slots out'
+turn_more tells does limits past c start now x y z slots bytes out out' at consumed next goes w t =
     let behind : drop (at + consumed) bytes ≡ w.rest = rest_is bytes (request_bytes w.what) w.rest at consumed w.is w.long in
     let is : drop at bytes ≡ request_bytes w.what ++ drop (at + consumed) bytes = w.is ∙ ap (λ l. request_bytes w.what ++ l) (sym behind) in
     record {
@@ -103,12 +107,12 @@ turn_more tells does limits c start now x y z slots bytes out out' at consumed n
       run = run_more does t.steps x y z (Took c w.what) t.run w.step;
       turn =
           let P : List (Mark Exchange) → Type 0 = λ m. InTurn (IsAnswered limits (drop (at + consumed) bytes)) limits c slots out' (marks t.came) (marks t.sent) m in
-          subst P (sym (map-append step_mark t.steps (Took c w.what ∷ [])))
-          (took (IsAnswered limits (drop at bytes)) (IsAnswered limits (drop (at + consumed) bytes)) limits c slots out out' (w.what ∷ []) (marks t.came) (marks t.sent) (step_marks t.steps) (step_marks t.steps ++ Piece c (w.what ∷ []) ∷ []) (answered_more limits (drop at bytes) (drop (at + consumed) bytes) out out' w.what is w.out_is w.taken (goes_so next w.what goes w.next_is)) (says_piece c (w.what ∷ []) (step_marks t.steps)) t.turn);
+          subst P (sym (marks_more past t.steps (Took c w.what)))
+          (took (IsAnswered limits (drop at bytes)) (IsAnswered limits (drop (at + consumed) bytes)) limits c slots out out' (w.what ∷ []) (marks t.came) (marks t.sent) (past ++ step_marks t.steps) (past ++ step_marks t.steps ++ Piece c (w.what ∷ []) ∷ []) (answered_more limits (drop at bytes) (drop (at + consumed) bytes) out out' w.what is w.out_is w.taken (goes_so next w.what goes w.next_is)) (says_piece c (w.what ∷ []) (past ++ step_marks t.steps)) t.turn);
     }
 
-pub turn_last : {D X : Type 0} (tells : D → D → List Frame → List Frame → Type 0) (does : X → Call → X → Type 0) (limits : Limits) (c : ℕ) (start now : D) (x y z : X) (slots : List Slot) (rest out out' : List ℕ) (consumed : ℕ) → TakesWhole does limits c y z rest consumed End out out' → Turns (IsAnswered limits rest) tells does limits c start now x y slots out → Turns (IsOver limits) tells does limits c start now x z slots out'
-turn_last tells does limits c start now x y z slots rest out out' consumed w t = record {
+pub turn_last : {D X : Type 0} (tells : D → D → List Frame → List Frame → Type 0) (does : X → Call → X → Type 0) (limits : Limits) (past : List (Mark Exchange)) (c : ℕ) (start now : D) (x y z : X) (slots : List Slot) (rest out out' : List ℕ) (consumed : ℕ) → TakesWhole does limits c y z rest consumed End out out' → Turns (IsAnswered limits rest) tells does limits past c start now x y slots out → Turns (IsOver limits) tells does limits past c start now x z slots out'
+turn_last tells does limits past c start now x y z slots rest out out' consumed w t = record {
   came = t.came;
   sent = t.sent;
   steps = t.steps ++ Took c w.what ∷ [];
@@ -116,40 +120,40 @@ turn_last tells does limits c start now x y z slots rest out out' consumed w t =
   run = run_more does t.steps x y z (Took c w.what) t.run w.step;
   turn =
       let P : List (Mark Exchange) → Type 0 = λ m. InTurn (IsOver limits) limits c slots out' (marks t.came) (marks t.sent) m in
-      subst P (sym (map-append step_mark t.steps (Took c w.what ∷ [])))
-      (took (IsAnswered limits rest) (IsOver limits) limits c slots out out' (w.what ∷ []) (marks t.came) (marks t.sent) (step_marks t.steps) (step_marks t.steps ++ Piece c (w.what ∷ []) ∷ []) (answered_last limits rest w.rest out out' w.what w.is w.out_is w.taken w.next_is) (says_piece c (w.what ∷ []) (step_marks t.steps)) t.turn);
+      subst P (sym (marks_more past t.steps (Took c w.what)))
+      (took (IsAnswered limits rest) (IsOver limits) limits c slots out out' (w.what ∷ []) (marks t.came) (marks t.sent) (past ++ step_marks t.steps) (past ++ step_marks t.steps ++ Piece c (w.what ∷ []) ∷ []) (answered_last limits rest w.rest out out' w.what w.is w.out_is w.taken w.next_is) (says_piece c (w.what ∷ []) (past ++ step_marks t.steps)) t.turn);
 }
 
-pub turn_bad : {D X : Type 0} (tells : D → D → List Frame → List Frame → Type 0) (does : X → Call → X → Type 0) (limits : Limits) (c : ℕ) (start now : D) (x y : X) (slots : List Slot) (rest out out' : List ℕ) (at : ℕ) (fault : Fault) → Spoilt command (IsAdmitted limits) rest at → IsCause limits rest at fault → out' ≡ out ++ protocol_error fault → Turns (IsAnswered limits rest) tells does limits c start now x y slots out → Turns (IsOver limits) tells does limits c start now x y slots out'
-turn_bad tells does limits c start now x y slots rest out out' at fault bad cause is t = record {
+pub turn_bad : {D X : Type 0} (tells : D → D → List Frame → List Frame → Type 0) (does : X → Call → X → Type 0) (limits : Limits) (past : List (Mark Exchange)) (c : ℕ) (start now : D) (x y : X) (slots : List Slot) (rest out out' : List ℕ) (at : ℕ) (fault : Fault) → Spoilt command (IsAdmitted limits) rest at → IsCause limits rest at fault → out' ≡ out ++ protocol_error fault → Turns (IsAnswered limits rest) tells does limits past c start now x y slots out → Turns (IsOver limits) tells does limits past c start now x y slots out'
+turn_bad tells does limits past c start now x y slots rest out out' at fault bad cause is t = record {
   came = t.came;
   sent = t.sent;
   steps = t.steps;
   told = t.told;
   run = t.run;
-  turn = took (IsAnswered limits rest) (IsOver limits) limits c slots out out' [] (marks t.came) (marks t.sent) (step_marks t.steps) (step_marks t.steps) (answered_bad limits rest out out' at fault is bad cause) (says_nothing c (step_marks t.steps)) t.turn;
+  turn = took (IsAnswered limits rest) (IsOver limits) limits c slots out out' [] (marks t.came) (marks t.sent) (past ++ step_marks t.steps) (past ++ step_marks t.steps) (answered_bad limits rest out out' at fault is bad cause) (says_nothing c (past ++ step_marks t.steps)) t.turn;
 }
 
 -- frames were sent, with a part of the replies
-pub turn_wrote : {D X : Type 0} (P : List ℕ → List ℕ → List Exchange → Type 0) (tells : D → D → List Frame → List Frame → Type 0) (does : X → Call → X → Type 0) (limits : Limits) (c : ℕ) (start now then : D) (x y : X) (slots : List Slot) (out part rest : List ℕ) → out ≡ part ++ rest → (t : Turns P tells does limits c start now x y slots out) → (more : List Frame) → tells start then t.came more → Says c part (marks t.sent) (marks more) → Turns P tells does limits c start then x y slots rest
-turn_wrote P tells does limits c start now then x y slots out part rest is t more told s = record {
+pub turn_wrote : {D X : Type 0} (P : List ℕ → List ℕ → List Exchange → Type 0) (tells : D → D → List Frame → List Frame → Type 0) (does : X → Call → X → Type 0) (limits : Limits) (past : List (Mark Exchange)) (c : ℕ) (start now then : D) (x y : X) (slots : List Slot) (out part rest : List ℕ) → out ≡ part ++ rest → (t : Turns P tells does limits past c start now x y slots out) → (more : List Frame) → tells start then t.came more → Says c part (marks t.sent) (marks more) → Turns P tells does limits past c start then x y slots rest
+turn_wrote P tells does limits past c start now then x y slots out part rest is t more told s = record {
   came = t.came;
   sent = more;
   steps = t.steps;
   told = told;
   run = t.run;
-  turn = wrote P limits c slots out part rest (marks t.came) (marks t.sent) (marks more) (step_marks t.steps) is s t.turn;
+  turn = wrote P limits c slots out part rest (marks t.came) (marks t.sent) (marks more) (past ++ step_marks t.steps) is s t.turn;
 }
 
-pub turn_faulty : {D X : Type 0} (P : List ℕ → List ℕ → List Exchange → Type 0) (tells : D → D → List Frame → List Frame → Type 0) (does : X → Call → X → Type 0) (limits : Limits) (c : ℕ) (start now then : D) (x y : X) (slots : List Slot) (out : List ℕ) → ((a b : List ℕ) (es : List Exchange) → P a b es → IsBegunBy limits a b es) → (t : Turns P tells does limits c start now x y slots out) → tells start then t.came t.sent → Faulty tells does limits start then x
-turn_faulty P tells does limits c start now then x y slots out tell t told = record {
+pub turn_faulty : {D X : Type 0} (P : List ℕ → List ℕ → List Exchange → Type 0) (tells : D → D → List Frame → List Frame → Type 0) (does : X → Call → X → Type 0) (limits : Limits) (past : List (Mark Exchange)) (c : ℕ) (start now then : D) (x y : X) (slots : List Slot) (out : List ℕ) → ((a b : List ℕ) (es : List Exchange) → P a b es → IsBegunBy limits a b es) → (t : Turns P tells does limits past c start now x y slots out) → tells start then t.came t.sent → Faulty tells does limits past start then x
+turn_faulty P tells does limits past c start now then x y slots out tell t told = record {
   came = t.came;
   sent = t.sent;
   steps = t.steps;
   last = y;
   told = told;
   run = t.run;
-  each = begun_turn P limits c slots out (marks t.came) (marks t.sent) (step_marks t.steps) tell t.turn;
+  each = begun_turn P limits c slots out (marks t.came) (marks t.sent) (past ++ step_marks t.steps) tell t.turn;
 }
 
 -- ---- frames
@@ -174,10 +178,10 @@ says_close c sent =
     let P : List (Mark ℕ) → Type 0 = λ m. StopsAt c (marks sent) m in
     subst P (sym (map-append frame_mark sent (closing c ∷ []))) (stops_at c (marks sent))
 
-pub ends_step : (c : ℕ) (steps : List Step) → StopsAt c (step_marks steps) (step_marks (steps ++ Ended c ∷ []))
-ends_step c steps =
-    let P : List (Mark Exchange) → Type 0 = λ m. StopsAt c (step_marks steps) m in
-    subst P (sym (map-append step_mark steps (Ended c ∷ []))) (stops_at c (step_marks steps))
+pub ends_step : (past : List (Mark Exchange)) (c : ℕ) (steps : List Step) → StopsAt c (past ++ step_marks steps) (past ++ step_marks (steps ++ Ended c ∷ []))
+ends_step past c steps =
+    let P : List (Mark Exchange) → Type 0 = λ m. StopsAt c (past ++ step_marks steps) m in
+    subst P (sym (marks_more past steps (Ended c))) (stops_at c (past ++ step_marks steps))
 
 -- ---- the end of a turn
 
@@ -191,19 +195,19 @@ is_end GoOn is = (let none : ⊥ = cc in absurd none)
 is_end WakeAll is = (let none : ⊥ = cc in absurd none)
 is_end End is = refl
 
-pub answers_faulty : {D X : Type 0} (tells : D → D → List Frame → List Frame → Type 0) (does : X → Call → X → Type 0) (limits : Limits) (c : ℕ) (start now then : D) (x y : X) (slots : List Slot) (bytes out : List ℕ) (t : Turned) → ((came sent : List Frame) → tells start now came sent → tells start then came sent) → AnswersSo tells does limits c start now x y slots bytes out t → Faulty tells does limits start then x
-answers_faulty tells does limits c start now then x y slots bytes out (Holds at wanted) kept h = turn_faulty (IsAnswered limits (drop at bytes)) tells does limits c start now then x y slots out (begun_answered limits (drop at bytes)) h.2 (kept h.2.came h.2.sent h.2.told)
-answers_faulty tells does limits c start now then x y slots bytes out Closes kept h = turn_faulty (IsOver limits) tells does limits c start now then x y slots out (begun_closed limits) h (kept h.came h.sent h.told)
+pub answers_faulty : {D X : Type 0} (tells : D → D → List Frame → List Frame → Type 0) (does : X → Call → X → Type 0) (limits : Limits) (past : List (Mark Exchange)) (c : ℕ) (start now then : D) (x y : X) (slots : List Slot) (bytes out : List ℕ) (t : Turned) → ((came sent : List Frame) → tells start now came sent → tells start then came sent) → AnswersSo tells does limits past c start now x y slots bytes out t → Faulty tells does limits past start then x
+answers_faulty tells does limits past c start now then x y slots bytes out (Holds at wanted) kept h = turn_faulty (IsAnswered limits (drop at bytes)) tells does limits past c start now then x y slots out (begun_answered limits (drop at bytes)) h.2 (kept h.2.came h.2.sent h.2.told)
+answers_faulty tells does limits past c start now then x y slots bytes out Closes kept h = turn_faulty (IsOver limits) tells does limits past c start now then x y slots out (begun_closed limits) h (kept h.came h.sent h.told)
 
 -- the beginning of a request is held
-pub stands_held : {D X : Type 0} (tells : D → D → List Frame → List Frame → Type 0) (does : X → Call → X → Type 0) (limits : Limits) (c : ℕ) (start now : D) (x y : X) (slots after : List Slot) (rest : List ℕ) (wanted : ℕ) → IsBegun limits rest wanted → Turns (IsAnswered limits rest) tells does limits c start now x y slots [] → Replaces c (record { over = false; held = rest; wanted = wanted }) slots after → Stands tells does limits start now x y after
-stands_held tells does limits c start now x y slots after rest wanted begun t r = record {
+pub stands_held : {D X : Type 0} (tells : D → D → List Frame → List Frame → Type 0) (does : X → Call → X → Type 0) (limits : Limits) (past : List (Mark Exchange)) (c : ℕ) (start now : D) (x y : X) (slots after : List Slot) (rest : List ℕ) (wanted : ℕ) → IsBegun limits rest wanted → Turns (IsAnswered limits rest) tells does limits past c start now x y slots [] → Replaces c (record { over = false; held = rest; wanted = wanted }) slots after → Stands tells does limits past start now x y after
+stands_held tells does limits past c start now x y slots after rest wanted begun t r = record {
   came = t.came;
   sent = t.sent;
   steps = t.steps;
   told = t.told;
   run = t.run;
-  stand = leave_off limits c slots after rest wanted (marks t.came) (marks t.sent) (step_marks t.steps) t.turn begun r;
+  stand = leave_off limits c slots after rest wanted (marks t.came) (marks t.sent) (past ++ step_marks t.steps) t.turn begun r;
 }
 
 pub begun_rest : (limits : Limits) (rest : List ℕ) (missing wanted : ℕ) → Lacks command (IsAdmitted limits) rest missing → wanted ≡ length rest + missing → length rest + missing ≤ longest limits → IsBegun limits rest wanted
@@ -219,23 +223,23 @@ begun_rest limits rest missing wanted lacks is few = record {
 }
 
 -- the connection is closed
-pub stands_shut : {D X : Type 0} (tells : D → D → List Frame → List Frame → Type 0) (does : X → Call → X → Type 0) (limits : Limits) (c : ℕ) (start now then : D) (x y z : X) (slots after : List Slot) (held : List ℕ) (wanted : ℕ) → (t : Turns (IsOver limits) tells does limits c start now x y slots []) → does y (Left c) z → tells start then t.came (t.sent ++ closing c ∷ []) → Replaces c (record { over = true; held = held; wanted = wanted }) slots after → Stands tells does limits start then x z after
-stands_shut tells does limits c start now then x y z slots after held wanted t left told r = record {
+pub stands_shut : {D X : Type 0} (tells : D → D → List Frame → List Frame → Type 0) (does : X → Call → X → Type 0) (limits : Limits) (past : List (Mark Exchange)) (c : ℕ) (start now then : D) (x y z : X) (slots after : List Slot) (held : List ℕ) (wanted : ℕ) → (t : Turns (IsOver limits) tells does limits past c start now x y slots []) → does y (Left c) z → tells start then t.came (t.sent ++ closing c ∷ []) → Replaces c (record { over = true; held = held; wanted = wanted }) slots after → Stands tells does limits past start then x z after
+stands_shut tells does limits past c start now then x y z slots after held wanted t left told r = record {
   came = t.came;
   sent = t.sent ++ closing c ∷ [];
   steps = t.steps ++ Ended c ∷ [];
   told = told;
   run = run_more does t.steps x y z (Ended c) t.run left;
-  stand = shut limits c slots after held wanted (marks t.came) (marks t.sent) (marks (t.sent ++ closing c ∷ [])) (step_marks t.steps) (step_marks (t.steps ++ Ended c ∷ [])) t.turn (ends_step c t.steps) (says_close c t.sent) r;
+  stand = shut limits c slots after held wanted (marks t.came) (marks t.sent) (marks (t.sent ++ closing c ∷ [])) (past ++ step_marks t.steps) (past ++ step_marks (t.steps ++ Ended c ∷ [])) t.turn (ends_step past c t.steps) (says_close c t.sent) r;
 }
 
-pub shut_faulty : {D X : Type 0} (tells : D → D → List Frame → List Frame → Type 0) (does : X → Call → X → Type 0) (limits : Limits) (c : ℕ) (start now then : D) (x y : X) (slots : List Slot) → (t : Turns (IsOver limits) tells does limits c start now x y slots []) → tells start then t.came (t.sent ++ closing c ∷ []) → Faulty tells does limits start then x
-shut_faulty tells does limits c start now then x y slots t told = record {
+pub shut_faulty : {D X : Type 0} (tells : D → D → List Frame → List Frame → Type 0) (does : X → Call → X → Type 0) (limits : Limits) (past : List (Mark Exchange)) (c : ℕ) (start now then : D) (x y : X) (slots : List Slot) → (t : Turns (IsOver limits) tells does limits past c start now x y slots []) → tells start then t.came (t.sent ++ closing c ∷ []) → Faulty tells does limits past start then x
+shut_faulty tells does limits past c start now then x y slots t told = record {
   came = t.came;
   sent = t.sent ++ closing c ∷ [];
   steps = t.steps;
   last = y;
   told = told;
   run = t.run;
-  each = begun_same limits (marks t.came) (marks t.came) (marks t.sent) (marks (t.sent ++ closing c ∷ [])) (step_marks t.steps) (step_marks t.steps) (λ d k. refl) (says_close c t.sent).same (λ d k. refl) (begun_turn (IsOver limits) limits c slots [] (marks t.came) (marks t.sent) (step_marks t.steps) (begun_closed limits) t.turn);
+  each = begun_same limits (marks t.came) (marks t.came) (marks t.sent) (marks (t.sent ++ closing c ∷ [])) (past ++ step_marks t.steps) (past ++ step_marks t.steps) (λ d k. refl) (says_close c t.sent).same (λ d k. refl) (begun_turn (IsOver limits) limits c slots [] (marks t.came) (marks t.sent) (past ++ step_marks t.steps) (begun_closed limits) t.turn);
 }

@@ -3,5 +3,6 @@ pub mod Calls
 pub mod Lanes
 pub mod Served
 pub mod Slots
+pub mod Standing
 pub mod Turns
 pub mod Frames

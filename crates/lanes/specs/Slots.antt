@@ -25,8 +25,15 @@ seen s = record { over = is_over s.state; held = s.held.items; wanted = s.wanted
 abbrev pub unseen : Seen
 unseen = record { over = false; held = []; wanted = 1 }
 
+abbrev pub views_of : List Slot → List Seen
+views_of slots = map seen slots
+
+-- a number that was never used is as a free one
+abbrev pub seen_in : List Seen → ℕ → Seen
+seen_in views c = get_or views c unseen
+
 abbrev pub slot_at : List Slot → ℕ → Seen
-slot_at slots c = get_or (map seen slots) c unseen
+slot_at slots c = seen_in (views_of slots) c
 
 -- the slots are the same but for this one
 pub record Replaces (c : ℕ) (view : Seen) (old new : List Slot) : Type 0 where

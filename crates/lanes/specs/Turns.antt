@@ -26,16 +26,16 @@ pub record Says {A : Type 0} (c : ℕ) (xs : List A) (old new : List (Mark A)) :
   pub stops_are : (d : ℕ) → stops d new ≡ stops d old
 
 -- all frames that came were dealt with
-pub record Stands {D X : Type 0} (tells : D → D → List Frame → List Frame → Type 0) (does : X → Call → X → Type 0) (limits : Limits) (start now : D) (x y : X) (slots : List Slot) : Type 0 where
+pub record Stands {D X : Type 0} (tells : D → D → List Frame → List Frame → Type 0) (does : X → Call → X → Type 0) (limits : Limits) (past : List (Mark Exchange)) (start now : D) (x y : X) (slots : List Slot) : Type 0 where
   pub came : List Frame
   pub sent : List Frame
   pub steps : List Step
   pub told : tells start now came sent
   pub run : Run does x steps y
-  pub stand : AllStand limits slots (marks came) (marks sent) (step_marks steps)
+  pub stand : AllStand limits slots (marks came) (marks sent) (past ++ step_marks steps)
 
 -- all but the last, whose mark this is
-pub record Comes {D X : Type 0} (tells : D → D → List Frame → List Frame → Type 0) (does : X → Call → X → Type 0) (limits : Limits) (start now : D) (x y : X) (slots : List Slot) (m : Mark ℕ) : Type 0 where
+pub record Comes {D X : Type 0} (tells : D → D → List Frame → List Frame → Type 0) (does : X → Call → X → Type 0) (limits : Limits) (past : List (Mark Exchange)) (start now : D) (x y : X) (slots : List Slot) (m : Mark ℕ) : Type 0 where
   pub came : List Frame
   pub sent : List Frame
   pub steps : List Step
@@ -43,26 +43,26 @@ pub record Comes {D X : Type 0} (tells : D → D → List Frame → List Frame �
   pub is : marks came ≡ before ++ m ∷ []
   pub told : tells start now came sent
   pub run : Run does x steps y
-  pub stand : AllStand limits slots before (marks sent) (step_marks steps)
+  pub stand : AllStand limits slots before (marks sent) (past ++ step_marks steps)
 
 -- in a turn of connection c
-pub record Turns {D X : Type 0} (P : List ℕ → List ℕ → List Exchange → Type 0) (tells : D → D → List Frame → List Frame → Type 0) (does : X → Call → X → Type 0) (limits : Limits) (c : ℕ) (start now : D) (x y : X) (slots : List Slot) (out : List ℕ) : Type 0 where
+pub record Turns {D X : Type 0} (P : List ℕ → List ℕ → List Exchange → Type 0) (tells : D → D → List Frame → List Frame → Type 0) (does : X → Call → X → Type 0) (limits : Limits) (past : List (Mark Exchange)) (c : ℕ) (start now : D) (x y : X) (slots : List Slot) (out : List ℕ) : Type 0 where
   pub came : List Frame
   pub sent : List Frame
   pub steps : List Step
   pub told : tells start now came sent
   pub run : Run does x steps y
-  pub turn : InTurn P limits c slots out (marks came) (marks sent) (step_marks steps)
+  pub turn : InTurn P limits c slots out (marks came) (marks sent) (past ++ step_marks steps)
 
 -- whatever was done is a beginning
-pub record Faulty {D X : Type 0} (tells : D → D → List Frame → List Frame → Type 0) (does : X → Call → X → Type 0) (limits : Limits) (start now : D) (x : X) : Type 0 where
+pub record Faulty {D X : Type 0} (tells : D → D → List Frame → List Frame → Type 0) (does : X → Call → X → Type 0) (limits : Limits) (past : List (Mark Exchange)) (start now : D) (x : X) : Type 0 where
   pub came : List Frame
   pub sent : List Frame
   pub steps : List Step
   pub last : X
   pub told : tells start now came sent
   pub run : Run does x steps last
-  pub each : AreBegun limits (marks came) (marks sent) (step_marks steps)
+  pub each : AreBegun limits (marks came) (marks sent) (past ++ step_marks steps)
 
 abbrev pub NextIs : Next → Exchange → Type 0
 NextIs GoOn e = GoesOn e
@@ -88,9 +88,9 @@ Takes does limits c x y bytes old out (Short missing) = (x ≡ y) × Lacks comma
 Takes does limits c x y bytes old out Bad = (x ≡ y) × (at : ℕ) × (fault : Fault) × Spoilt command (IsAdmitted limits) bytes at × IsCause limits bytes at fault × (out ≡ old ++ protocol_error fault)
 
 -- so far as the requests were answered: the beginning of one is left, or the connection is over
-abbrev pub AnswersSo : {D X : Type 0} → (D → D → List Frame → List Frame → Type 0) → (X → Call → X → Type 0) → Limits → ℕ → D → D → X → X → List Slot → List ℕ → List ℕ → Turned → Type 0
-AnswersSo tells does limits c start now x y slots bytes out (Holds at wanted) = (at ≤ length bytes) × IsBegun limits (drop at bytes) wanted × Turns (IsAnswered limits (drop at bytes)) tells does limits c start now x y slots out
-AnswersSo tells does limits c start now x y slots bytes out Closes = Turns (IsOver limits) tells does limits c start now x y slots out
+abbrev pub AnswersSo : {D X : Type 0} → (D → D → List Frame → List Frame → Type 0) → (X → Call → X → Type 0) → Limits → List (Mark Exchange) → ℕ → D → D → X → X → List Slot → List ℕ → List ℕ → Turned → Type 0
+AnswersSo tells does limits past c start now x y slots bytes out (Holds at wanted) = (at ≤ length bytes) × IsBegun limits (drop at bytes) wanted × Turns (IsAnswered limits (drop at bytes)) tells does limits past c start now x y slots out
+AnswersSo tells does limits past c start now x y slots bytes out Closes = Turns (IsOver limits) tells does limits past c start now x y slots out
 
 -- what a slot holds behind a turn
 abbrev pub seen_after : List ℕ → Turned → Seen

@@ -3,7 +3,8 @@ ghost use Rattle.std.specs.Prelude.{◌≡◌, ℕ, List, [], ◌∷◌, ◌++�
 ghost use Rattle.lanes.specs.declared.slots.Slot.{Slot};
 ghost use Rattle.lanes.specs.Lanes.{Frame, marks};
 ghost use Rattle.lanes.specs.Slots.{IsAnswered, Replaces};
-ghost use Rattle.lanes.specs.Calls.{Left};
+ghost use Rattle.lanes.specs.Marks.{Mark};
+ghost use Rattle.lanes.specs.Calls.{Exchange, Left};
 ghost use Rattle.lanes.specs.Turns.{Says, Stands, Turns, Faulty, AnswersSo, seen_after, goes_on, closing, IsWithin};
 
 use crate::duplex::Duplex;
@@ -101,8 +102,8 @@ fn answer_all<D: Duplex, S: Service>(
     spans: &mut Vec<Span>,
     out: &mut Vec<u8>,
 ) -> Result<Turned, LaneFault>
-    ensures answered { IfOk result (λ t. (start : D) (x : S) (slots : List Slot) → Turns (IsAnswered limits bytes.now) D.tells S.does limits connection start duplex.old x service.old slots out.old.items → AnswersSo D.tells S.does limits connection start duplex.new x service.new slots bytes.now out.new.items t) }
-    ensures begun { OnErr result ((start : D) (x : S) (slots : List Slot) → Turns (IsAnswered limits bytes.now) D.tells S.does limits connection start duplex.old x service.old slots out.old.items → Faulty D.tells S.does limits start duplex.new x) }
+    ensures answered { IfOk result (λ t. (start : D) (x : S) (past : List (Mark Exchange)) (slots : List Slot) → Turns (IsAnswered limits bytes.now) D.tells S.does limits past connection start duplex.old x service.old slots out.old.items → AnswersSo D.tells S.does limits past connection start duplex.new x service.new slots bytes.now out.new.items t) }
+    ensures begun { OnErr result ((start : D) (x : S) (past : List (Mark Exchange)) (slots : List Slot) → Turns (IsAnswered limits bytes.now) D.tells S.does limits past connection start duplex.old x service.old slots out.old.items → Faulty D.tells S.does limits past start duplex.new x) }
     ensures within { IfOk result (λ t. IsWithin (length bytes.now) t) }
     ensures limits { D.limits duplex.new ≡ D.limits duplex.old }
 {
@@ -159,8 +160,8 @@ pub(crate) fn answer<D: Duplex, S: Service>(
     out: &mut Vec<u8>,
 ) -> Result<Turned, LaneFault>
     requires { out.old.items ≡ [] }
-    ensures stands { IfOk result (λ t. (start : D) (x : S) (slots after : List Slot) → Turns (IsAnswered limits bytes.now) D.tells S.does limits connection start duplex.old x service.old slots [] → Replaces connection (seen_after bytes.now t) slots after → Stands D.tells S.does limits start duplex.new x service.new after) }
-    ensures begun { (start : D) (x : S) (slots : List Slot) → Turns (IsAnswered limits bytes.now) D.tells S.does limits connection start duplex.old x service.old slots [] → Faulty D.tells S.does limits start duplex.new x }
+    ensures stands { IfOk result (λ t. (start : D) (x : S) (past : List (Mark Exchange)) (slots after : List Slot) → Turns (IsAnswered limits bytes.now) D.tells S.does limits past connection start duplex.old x service.old slots [] → Replaces connection (seen_after bytes.now t) slots after → Stands D.tells S.does limits past start duplex.new x service.new after) }
+    ensures begun { (start : D) (x : S) (past : List (Mark Exchange)) (slots : List Slot) → Turns (IsAnswered limits bytes.now) D.tells S.does limits past connection start duplex.old x service.old slots [] → Faulty D.tells S.does limits past start duplex.new x }
     ensures within { IfOk result (λ t. IsWithin (length bytes.now) t) }
     ensures empty { OnOk result (out.new.items ≡ []) }
     ensures limits { D.limits duplex.new ≡ D.limits duplex.old }

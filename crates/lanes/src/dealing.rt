@@ -1,7 +1,8 @@
 //! What a lane does with a frame of a connection.
 ghost use Rattle.std.specs.Prelude.{◌≡◌, ◌<◌, ◌≤◌, ℕ, List, [], false, vec_len, length, drop, IfOk, OnOk};
 ghost use Rattle.lanes.specs.declared.slots.Slot.{Slot};
-ghost use Rattle.lanes.specs.Marks.{Piece, Stop};
+ghost use Rattle.lanes.specs.Marks.{Mark, Piece, Stop};
+ghost use Rattle.lanes.specs.Calls.{Exchange, Awake};
 ghost use Rattle.lanes.specs.Lanes.{mark_of};
 ghost use Rattle.lanes.specs.Slots.{slot_at, OthersSame, IsAnswered};
 ghost use Rattle.lanes.specs.Turns.{Stands, Comes, Turns, Faulty};
@@ -45,8 +46,8 @@ fn answer_frame<D: Duplex, S: Service>(
     requires room { connection < vec_len slots.old }
     requires nothing { held.items ≡ [] }
     requires empty { out.old.items ≡ [] }
-    ensures stands { OnOk result ((start : D) (x : S) (before : List Slot) → Turns (IsAnswered limits frame.now) D.tells S.does limits connection start duplex.old x service.old before [] → OthersSame connection before slots.old.items → Stands D.tells S.does limits start duplex.new x service.new slots.new.items) }
-    ensures begun { (start : D) (x : S) (before : List Slot) → Turns (IsAnswered limits frame.now) D.tells S.does limits connection start duplex.old x service.old before [] → Faulty D.tells S.does limits start duplex.new x }
+    ensures stands { OnOk result ((start : D) (x : S) (past : List (Mark Exchange)) (before : List Slot) → Turns (IsAnswered limits frame.now) D.tells S.does limits past connection start duplex.old x service.old before [] → OthersSame connection before slots.old.items → Stands D.tells S.does limits past start duplex.new x service.new slots.new.items) }
+    ensures begun { (start : D) (x : S) (past : List (Mark Exchange)) (before : List Slot) → Turns (IsAnswered limits frame.now) D.tells S.does limits past connection start duplex.old x service.old before [] → Faulty D.tells S.does limits past start duplex.new x }
     ensures empty { OnOk result (out.new.items ≡ []) }
     ensures limits { D.limits duplex.new ≡ D.limits duplex.old }
 {
@@ -90,8 +91,8 @@ fn answer_held<D: Duplex, S: Service>(
 ) -> Result<(), LaneFault>
     requires room { connection < vec_len slots.old }
     requires empty { out.old.items ≡ [] }
-    ensures stands { OnOk result ((start : D) (x : S) (before : List Slot) → Turns (IsAnswered limits held.items) D.tells S.does limits connection start duplex.old x service.old before [] → OthersSame connection before slots.old.items → Stands D.tells S.does limits start duplex.new x service.new slots.new.items) }
-    ensures begun { (start : D) (x : S) (before : List Slot) → Turns (IsAnswered limits held.items) D.tells S.does limits connection start duplex.old x service.old before [] → Faulty D.tells S.does limits start duplex.new x }
+    ensures stands { OnOk result ((start : D) (x : S) (past : List (Mark Exchange)) (before : List Slot) → Turns (IsAnswered limits held.items) D.tells S.does limits past connection start duplex.old x service.old before [] → OthersSame connection before slots.old.items → Stands D.tells S.does limits past start duplex.new x service.new slots.new.items) }
+    ensures begun { (start : D) (x : S) (past : List (Mark Exchange)) (before : List Slot) → Turns (IsAnswered limits held.items) D.tells S.does limits past connection start duplex.old x service.old before [] → Faulty D.tells S.does limits past start duplex.new x }
     ensures empty { OnOk result (out.new.items ≡ []) }
     ensures limits { D.limits duplex.new ≡ D.limits duplex.old }
 {
@@ -144,8 +145,8 @@ fn take_bytes<D: Duplex, S: Service>(
     requires room { connection < vec_len slots.old }
     requires runs { (slot_at slots.old.items connection).over ≡ false }
     requires empty { out.old.items ≡ [] }
-    ensures stands { OnOk result ((start : D) (x : S) → Comes D.tells S.does limits start duplex.old x service.old slots.old.items (Piece connection frame.now) → Stands D.tells S.does limits start duplex.new x service.new slots.new.items) }
-    ensures begun { (start : D) (x : S) → Comes D.tells S.does limits start duplex.old x service.old slots.old.items (Piece connection frame.now) → Faulty D.tells S.does limits start duplex.new x }
+    ensures stands { OnOk result ((start : D) (x : S) (past : List (Mark Exchange)) → Comes D.tells S.does limits past start duplex.old x service.old slots.old.items (Piece connection frame.now) → Stands D.tells S.does limits past start duplex.new x service.new slots.new.items) }
+    ensures begun { (start : D) (x : S) (past : List (Mark Exchange)) → Comes D.tells S.does limits past start duplex.old x service.old slots.old.items (Piece connection frame.now) → Faulty D.tells S.does limits past start duplex.new x }
     ensures empty { OnOk result (out.new.items ≡ []) }
     ensures limits { D.limits duplex.new ≡ D.limits duplex.old }
 {
@@ -186,8 +187,8 @@ fn take_close<D: Duplex, S: Service>(
     slots: &mut Vec<Slot>,
     connection: u32,
 ) -> Result<(), LaneFault>
-    ensures stands { OnOk result ((start : D) (x : S) → Comes D.tells S.does limits start duplex.old x service.old slots.old.items (Stop connection) → Stands D.tells S.does limits start duplex.new x service.new slots.new.items) }
-    ensures begun { (start : D) (x : S) → Comes D.tells S.does limits start duplex.old x service.old slots.old.items (Stop connection) → Faulty D.tells S.does limits start duplex.new x }
+    ensures stands { OnOk result ((start : D) (x : S) (past : List (Mark Exchange)) → Comes D.tells S.does limits past start duplex.old x service.old slots.old.items (Stop connection) → Stands D.tells S.does limits past start duplex.new x service.new slots.new.items) }
+    ensures begun { (start : D) (x : S) (past : List (Mark Exchange)) → Comes D.tells S.does limits past start duplex.old x service.old slots.old.items (Stop connection) → Faulty D.tells S.does limits past start duplex.new x }
     ensures limits { D.limits duplex.new ≡ D.limits duplex.old }
 {
     match state_at(slots.as_slice(), connection) {
@@ -219,8 +220,8 @@ fn take_data<D: Duplex, S: Service>(
     out: &mut Vec<u8>,
 ) -> Result<(), LaneFault>
     requires empty { out.old.items ≡ [] }
-    ensures stands { OnOk result ((start : D) (x : S) → Comes D.tells S.does limits start duplex.old x service.old slots.old.items (Piece connection frame.now) → Stands D.tells S.does limits start duplex.new x service.new slots.new.items) }
-    ensures begun { (start : D) (x : S) → Comes D.tells S.does limits start duplex.old x service.old slots.old.items (Piece connection frame.now) → Faulty D.tells S.does limits start duplex.new x }
+    ensures stands { OnOk result ((start : D) (x : S) (past : List (Mark Exchange)) → Comes D.tells S.does limits past start duplex.old x service.old slots.old.items (Piece connection frame.now) → Stands D.tells S.does limits past start duplex.new x service.new slots.new.items) }
+    ensures begun { (start : D) (x : S) (past : List (Mark Exchange)) → Comes D.tells S.does limits past start duplex.old x service.old slots.old.items (Piece connection frame.now) → Faulty D.tells S.does limits past start duplex.new x }
     ensures empty { OnOk result (out.new.items ≡ []) }
     ensures limits { D.limits duplex.new ≡ D.limits duplex.old }
 {
@@ -246,9 +247,10 @@ pub(crate) fn take_frame<D: Duplex, S: Service>(
     out: &mut Vec<u8>,
 ) -> Result<Woken, LaneFault>
     requires empty { out.old.items ≡ [] }
-    ensures stands { OnOk result ((start : D) (x : S) → Comes D.tells S.does limits start duplex.old x service.old slots.old.items (mark_of head.kind head.connection frame.now) → Stands D.tells S.does limits start duplex.new x service.new slots.new.items) }
-    ensures begun { (start : D) (x : S) → Comes D.tells S.does limits start duplex.old x service.old slots.old.items (mark_of head.kind head.connection frame.now) → Faulty D.tells S.does limits start duplex.new x }
+    ensures stands { OnOk result ((start : D) (x : S) (past : List (Mark Exchange)) → Comes D.tells S.does limits past start duplex.old x service.old slots.old.items (mark_of head.kind head.connection frame.now) → Stands D.tells S.does limits past start duplex.new x service.new slots.new.items) }
+    ensures begun { (start : D) (x : S) (past : List (Mark Exchange)) → Comes D.tells S.does limits past start duplex.old x service.old slots.old.items (mark_of head.kind head.connection frame.now) → Faulty D.tells S.does limits past start duplex.new x }
     ensures leaves { IfOk result (λ w. w ≡ Woken.Leave → duplex.new ≡ duplex.old) }
+    ensures woken { IfOk result (λ w. w ≡ Woken.Leave → S.does service.old (Awake Woken.Leave) service.new) }
     ensures empty { OnOk result (out.new.items ≡ []) }
     ensures limits { D.limits duplex.new ≡ D.limits duplex.old }
 {

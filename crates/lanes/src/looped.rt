@@ -1,28 +1,37 @@
 //! A lane's loop.
-ghost use Rattle.std.specs.Prelude.{◌≡◌, ℕ, List, [], OnOk, OnErr};
+ghost use Rattle.std.specs.Prelude.{◌≡◌, ℕ, List, [], IfOk, OnOk, OnErr};
+ghost use Rattle.lanes.specs.Marks.{Mark};
+ghost use Rattle.lanes.specs.Calls.{Exchange, Awake};
 ghost use Rattle.lanes.specs.Lanes.{Frame};
 ghost use Rattle.lanes.specs.Served.{Served, Begun};
+ghost use Rattle.lanes.specs.Standing.{Standing, GoesOnBy};
+ghost use Rattle.lanes.specs.Turns.{Faulty};
 
 use crate::dealing::take_frame;
 use crate::duplex::Duplex;
 use crate::fault::LaneFault;
+use crate::holds::{Holds, Pause};
 use crate::service::{Service, Woken};
-use crate::slots::Slot;
 use std::alloc::Global;
 
-/// Reads frames until there are no more, or the service leaves at a wake. The requests of each connection are answered in
-/// order, and the replies are written before it reads on.
-pub fn serve<D: Duplex, S: Service>(
+/// Reads frames until there are no more, or the service leaves at a wake, from where an earlier service left. The requests of
+/// each connection are answered in order, and the replies are written before it reads on. Where the service leaves, another
+/// may go on over the same frames with what is held.
+pub fn serve_on<D: Duplex, S: Service>(
     alloc: Global,
     duplex: &mut D,
     service: &mut S,
-) -> Result<(), LaneFault>
-    requires { D.tells duplex.old duplex.old [] [] }
-    ensures served { OnOk result ((came : List Frame) × (sent : List Frame) × D.tells duplex.old duplex.new came sent × Served S.does (D.limits duplex.old) service.old service.new came sent × D.whole duplex.new) }
-    ensures fault { OnErr result ((came : List Frame) × (sent : List Frame) × D.tells duplex.old duplex.new came sent × Begun S.does (D.limits duplex.old) service.old came sent) }
+    holds: Holds,
+) -> Result<(Pause, Holds), LaneFault>
+    requires { (start : D) × (past : List (Mark Exchange)) × Standing D.tells (D.limits duplex.old) start duplex.old holds past }
+    ensures stood { IfOk result (λ left. GoesOnBy D.tells S.does (D.limits duplex.old) duplex.old duplex.new service.old service.new holds left.1) }
+    ensures woken { IfOk result (λ left. left.0 ≡ Pause.Wake → (before : S) × S.does before (Awake Woken.Leave) service.new) }
+    ensures whole { OnOk result (D.whole duplex.new) }
+    ensures fault { OnErr result ((start : D) (past : List (Mark Exchange)) → Standing D.tells (D.limits duplex.old) start duplex.old holds past → Faulty D.tells S.does (D.limits duplex.old) past start duplex.new service.old) }
+    ensures limits { D.limits duplex.new ≡ D.limits duplex.old }
 {
     let limits = duplex.limits();
-    let mut slots: Vec<Slot> = Vec::new(alloc);
+    let Holds { mut slots } = holds;
     let mut frame = Vec::new(alloc);
     let mut spans = Vec::new(alloc);
     let mut out = Vec::new(alloc);
@@ -30,7 +39,7 @@ pub fn serve<D: Duplex, S: Service>(
         let _ = round;
         let head = match duplex.read(&mut frame) {
             Ok(Some(head)) => head,
-            Ok(None) => return Ok(()),
+            Ok(None) => return Ok((Pause::End, Holds { slots })),
             Err(fault) => return Err(LaneFault::Frame(fault)),
         };
         match take_frame(
@@ -45,9 +54,23 @@ pub fn serve<D: Duplex, S: Service>(
             &mut out,
         ) {
             Ok(Woken::Stay) => {}
-            Ok(Woken::Leave) => return Ok(()),
+            Ok(Woken::Leave) => return Ok((Pause::Wake, Holds { slots })),
             Err(fault) => return Err(fault),
         }
     }
     Err(LaneFault::Counted)
+}
+
+/// Serves all frames, or those before the service leaves at a wake: what is held then is forgotten.
+pub fn serve<D: Duplex, S: Service>(
+    alloc: Global,
+    duplex: &mut D,
+    service: &mut S,
+) -> Result<(), LaneFault>
+    requires { D.tells duplex.old duplex.old [] [] }
+    ensures served { OnOk result ((came : List Frame) × (sent : List Frame) × D.tells duplex.old duplex.new came sent × Served S.does (D.limits duplex.old) service.old service.new came sent × D.whole duplex.new) }
+    ensures fault { OnErr result ((came : List Frame) × (sent : List Frame) × D.tells duplex.old duplex.new came sent × Begun S.does (D.limits duplex.old) service.old came sent) }
+{
+    let _left = serve_on(alloc, duplex, service, Holds::none(alloc))?;
+    Ok(())
 }

@@ -1,6 +1,6 @@
 //! A reader and a writer as the frames that come and go.
 ghost use Rattle.std.specs.Prelude.{◌≡◌, [], false};
-ghost use Rattle.lanes.specs.Frames.{TellsRead, TellsWritten};
+ghost use Rattle.lanes.specs.Frames.{WireTells};
 
 use crate::duplex::Duplex;
 use crate::fault::FrameFault;
@@ -38,7 +38,7 @@ impl<R: BufRead, W: Write> Wire<R, W> {
 }
 
 impl<R: BufRead, W: Write> Duplex for Wire<R, W> {
-    ghost tells = { λ v w came sent. TellsRead (R.remaining v.input) (R.remaining w.input) w.broken came × TellsWritten (W.contents v.output) (W.contents w.output) w.broken sent };
+    ghost tells = { λ v w came sent. WireTells R.remaining W.contents v w came sent };
 
     ghost whole = { λ w. w.broken ≡ false };
 

@@ -7,6 +7,7 @@ mod file_devices;
 mod file_disks;
 mod file_runs;
 mod folders;
+mod handovers;
 mod labels;
 mod logs;
 mod many;

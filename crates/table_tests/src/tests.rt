@@ -7,6 +7,7 @@ mod closing;
 mod crowd;
 mod desk;
 mod devices;
+mod draining;
 mod evicting;
 mod expect;
 mod failing;

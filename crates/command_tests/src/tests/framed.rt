@@ -8,22 +8,22 @@ use std::alloc::{AllocError, Global};
 use std::fmt::Debug;
 use std::process::Abort;
 
-const DATA: u8 = 0;
+pub(super) const DATA: u8 = 0;
 
-const OPEN: u8 = 1;
+pub(super) const OPEN: u8 = 1;
 
-const CLOSE: u8 = 2;
+pub(super) const CLOSE: u8 = 2;
 
-const WAKE: u8 = 3;
+pub(super) const WAKE: u8 = 3;
 
-const LIMITS: Limits = Limits {
+pub(super) const LIMITS: Limits = Limits {
     arguments: 16,
     bytes: 100,
     line: 64,
 };
 
 /// The first argument.
-fn first<'a>(bytes: &'a [u8], spans: &[Span]) -> &'a [u8]
+pub(super) fn first<'a>(bytes: &'a [u8], spans: &[Span]) -> &'a [u8]
     requires within { AreWithin (length bytes.now) spans.now }
     requires some { 0 < length spans.now }
 {
@@ -44,7 +44,7 @@ fn next_behind(said: &[u8]) -> Next {
 
 /// Says the first argument again, and leaves at a wake.
 #[derive(Drop)]
-struct Echo;
+pub(super) struct Echo;
 
 impl Service for Echo {
     ghost does = { λ s call t. Unit {0} };
@@ -75,9 +75,9 @@ impl Service for Echo {
 }
 
 /// A kind, a connection below 256, and fewer than 256 bytes.
-type Frame<'a> = (u8, u8, &'a [u8]);
+pub(super) type Frame<'a> = (u8, u8, &'a [u8]);
 
-fn made<T, E: Debug + Drop>(rt: &impl Abort, answered: Result<T, E>) -> T {
+pub(super) fn made<T, E: Debug + Drop>(rt: &impl Abort, answered: Result<T, E>) -> T {
     match answered {
         Ok(it) => it,
         Err(fault) => panic!(rt; "{fault:?}"),
@@ -92,7 +92,7 @@ fn push_frame(rt: &impl Abort, bytes: &mut Vec<u8>, frame: Frame<'_>) {
     made(rt, bytes.extend_from_slice(data));
 }
 
-fn bytes_of(rt: &impl Abort, alloc: Global, frames: &[Frame<'_>]) -> Vec<u8> {
+pub(super) fn bytes_of(rt: &impl Abort, alloc: Global, frames: &[Frame<'_>]) -> Vec<u8> {
     let mut bytes = Vec::new(alloc);
     for frame in frames {
         push_frame(rt, &mut bytes, *frame);

@@ -52,6 +52,16 @@ fn are_apart<K: FarObject, V: FarObject, J: Naming, H: PassHolder<K, V, J>>(
 }
 
 impl<K: FarObject, V: FarObject, J: Naming> Words<K, V, J> {
+    /// How many names may still be drawn, at a moment of the call: a hint, of which no clause says anything.
+    pub fn names_left(&self) -> u64 {
+        let mut mark = self.start.again();
+        let mut none = Tally::none();
+        let mut no_name = Tally::none();
+        let at = self.sizes.buckets as usize;
+        let drawn = self.look_at(at, &mut mark, &mut none, &mut no_name);
+        self.sizes.names.saturating_sub(drawn)
+    }
+
     /// One front, at which the passes that are handed in are all that were drawn, and each has just the calls that it made.
     /// They come in any order.
     ///

@@ -34,11 +34,11 @@ requests-preserved g c =
     record {
       limits = c.in-Ok-true.ensures.limits ∙ c.requests.invariant.limits;
       within = omega (arith, w.within, length-drop at bytes, c.requests.invariant.within);
-      turns = λ start x slots entered.
-          let t = c.requests.invariant.turns start x slots entered in
-          let u = turn_more g.D.Duplex.tells g.S.Service.does c.args.limits c.args.connection start c.requests.duplex x c.requests.service c.take_one.new.service slots bytes out made at n c.in-Ok-Whole.next goes w t in
+      turns = λ start x past slots entered.
+          let t = c.requests.invariant.turns start x past slots entered in
+          let u = turn_more g.D.Duplex.tells g.S.Service.does c.args.limits past c.args.connection start c.requests.duplex x c.requests.service c.take_one.new.service slots bytes out made at n c.in-Ok-Whole.next goes w t in
           let wrote = c.in-Ok-true.ensures.goes start u.came u.sent u.told in
-          turn_wrote (IsAnswered c.args.limits (drop (at + n) bytes)) g.D.Duplex.tells g.S.Service.does c.args.limits c.args.connection start c.requests.duplex c.go_on.new.duplex x c.take_one.new.service slots made wrote.1 c.go_on.new.out.items wrote.4 u wrote.0 wrote.2 wrote.3;
+          turn_wrote (IsAnswered c.args.limits (drop (at + n) bytes)) g.D.Duplex.tells g.S.Service.does c.args.limits past c.args.connection start c.requests.duplex c.go_on.new.duplex x c.take_one.new.service slots made wrote.1 c.go_on.new.out.items wrote.4 u wrote.0 wrote.2 wrote.3;
     }
 
 pub returns-in-Ok-false-clause-answered : goal.returns-in-Ok-false-clause-answered
@@ -53,11 +53,11 @@ returns-in-Ok-false-clause-answered g c =
     let N : Next → Type 0 = λ e. TakesWhole g.S.Service.does c.args.limits c.args.connection c.requests.service c.take_one.new.service (drop at bytes) n e out made in
     let off : goes_on c.in-Ok-Whole.next ≡ false = sym c.in-Ok-false.ensures.next ∙ c.in-Ok-false.field-0-test in
     let w = subst N (is_end c.in-Ok-Whole.next off) (subst L (take_rest bytes at) (subst P c.in-Ok-Whole.field-0-is c.in-Ok-Whole.ensures)) in
-    λ start x slots entered.
-    let t = c.requests.invariant.turns start x slots entered in
-    let u = turn_last g.D.Duplex.tells g.S.Service.does c.args.limits c.args.connection start c.requests.duplex x c.requests.service c.take_one.new.service slots (drop at bytes) out made n w t in
+    λ start x past slots entered.
+    let t = c.requests.invariant.turns start x past slots entered in
+    let u = turn_last g.D.Duplex.tells g.S.Service.does c.args.limits past c.args.connection start c.requests.duplex x c.requests.service c.take_one.new.service slots (drop at bytes) out made n w t in
     let wrote = c.in-Ok-false.ensures.goes start u.came u.sent u.told in
-    turn_wrote (IsOver c.args.limits) g.D.Duplex.tells g.S.Service.does c.args.limits c.args.connection start c.requests.duplex c.go_on.new.duplex x c.take_one.new.service slots made wrote.1 c.go_on.new.out.items wrote.4 u wrote.0 wrote.2 wrote.3
+    turn_wrote (IsOver c.args.limits) g.D.Duplex.tells g.S.Service.does c.args.limits past c.args.connection start c.requests.duplex c.go_on.new.duplex x c.take_one.new.service slots made wrote.1 c.go_on.new.out.items wrote.4 u wrote.0 wrote.2 wrote.3
 
 pub overflow_add-wanted : goal.overflow_add-wanted
 overflow_add-wanted g c =
@@ -78,18 +78,18 @@ returns-in-Ok-Short-clause-answered g c =
     let S : List ℕ → Type 0 = λ l. Lacks command (IsAdmitted c.args.limits) l c.in-Ok-Short.missing in
     let wanted : length bytes - at + c.in-Ok-Short.missing ≡ length (drop at bytes) + c.in-Ok-Short.missing = omega (arith, length-drop at bytes) in
     let begun = begun_rest c.args.limits (drop at bytes) c.in-Ok-Short.missing (length bytes - at + c.in-Ok-Short.missing) (subst S (take_rest bytes at) h.1) wanted (omega (arith, h.2, ap length (take_rest bytes at))) in
-    λ start x slots entered.
-    let t = c.requests.invariant.turns start x slots entered in
-    let Y = λ (y : g.row.S.Denot). Turns (IsAnswered c.args.limits (drop at bytes)) g.D.Duplex.tells g.S.Service.does c.args.limits c.args.connection start c.requests.duplex x y slots out in
-    let O : List ℕ → Type 0 = λ l. Turns (IsAnswered c.args.limits (drop at bytes)) g.D.Duplex.tells g.S.Service.does c.args.limits c.args.connection start c.requests.duplex x c.take_one.new.service slots l in
+    λ start x past slots entered.
+    let t = c.requests.invariant.turns start x past slots entered in
+    let Y = λ (y : g.row.S.Denot). Turns (IsAnswered c.args.limits (drop at bytes)) g.D.Duplex.tells g.S.Service.does c.args.limits past c.args.connection start c.requests.duplex x y slots out in
+    let O : List ℕ → Type 0 = λ l. Turns (IsAnswered c.args.limits (drop at bytes)) g.D.Duplex.tells g.S.Service.does c.args.limits past c.args.connection start c.requests.duplex x c.take_one.new.service slots l in
     (c.requests.invariant.within, begun, subst O (sym h.3) (subst Y h.0 t))
 
 pub returns-in-Err-go_on-clause-begun : goal.returns-in-Err-go_on-clause-begun
 returns-in-Err-go_on-clause-begun g c =
-    λ start x slots entered.
-    let t = c.requests.invariant.turns start x slots entered in
+    λ start x past slots entered.
+    let t = c.requests.invariant.turns start x past slots entered in
     let rest = drop c.requests.at c.args.bytes.now in
-    turn_faulty (IsAnswered c.args.limits rest) g.D.Duplex.tells g.S.Service.does c.args.limits c.args.connection start c.requests.duplex c.go_on.new.duplex x c.requests.service slots c.requests.out.items (begun_answered c.args.limits rest) t (c.in-Err-go_on.ensures.failed start t.came t.sent t.told)
+    turn_faulty (IsAnswered c.args.limits rest) g.D.Duplex.tells g.S.Service.does c.args.limits past c.args.connection start c.requests.duplex c.go_on.new.duplex x c.requests.service slots c.requests.out.items (begun_answered c.args.limits rest) t (c.in-Err-go_on.ensures.failed start t.came t.sent t.told)
 
 pub returns-in-Ok-Bad-clause-answered : goal.returns-in-Ok-Bad-clause-answered
 returns-in-Ok-Bad-clause-answered g c =
@@ -101,14 +101,14 @@ returns-in-Ok-Bad-clause-answered g c =
     let b : (c.requests.service ≡ c.take_one.new.service) × (i : ℕ) × (fault : Fault) × Spoilt command (IsAdmitted c.args.limits) (take (length bytes - at) (drop at bytes)) i × IsCause c.args.limits (take (length bytes - at) (drop at bytes)) i fault × (made ≡ out ++ protocol_error fault) = subst P c.in-Ok-Bad.field-0-is c.in-Ok-Bad.ensures in
     let S : List ℕ → Type 0 = λ l. Spoilt command (IsAdmitted c.args.limits) l b.1 in
     let C : List ℕ → Type 0 = λ l. IsCause c.args.limits l b.1 b.2 in
-    λ start x slots entered.
-    let t = c.requests.invariant.turns start x slots entered in
-    let Y = λ (y : g.row.S.Denot). Turns (IsOver c.args.limits) g.D.Duplex.tells g.S.Service.does c.args.limits c.args.connection start c.requests.duplex x y slots made in
-    subst Y b.0 (turn_bad g.D.Duplex.tells g.S.Service.does c.args.limits c.args.connection start c.requests.duplex x c.requests.service slots (drop at bytes) out made b.1 b.2 (subst S (take_rest bytes at) b.3) (subst C (take_rest bytes at) b.4) b.5 t)
+    λ start x past slots entered.
+    let t = c.requests.invariant.turns start x past slots entered in
+    let Y = λ (y : g.row.S.Denot). Turns (IsOver c.args.limits) g.D.Duplex.tells g.S.Service.does c.args.limits past c.args.connection start c.requests.duplex x y slots made in
+    subst Y b.0 (turn_bad g.D.Duplex.tells g.S.Service.does c.args.limits past c.args.connection start c.requests.duplex x c.requests.service slots (drop at bytes) out made b.1 b.2 (subst S (take_rest bytes at) b.3) (subst C (take_rest bytes at) b.4) b.5 t)
 
 pub returns-in-Err-clause-begun : goal.returns-in-Err-clause-begun
 returns-in-Err-clause-begun g c =
-    λ start x slots entered.
-    let t = c.requests.invariant.turns start x slots entered in
+    λ start x past slots entered.
+    let t = c.requests.invariant.turns start x past slots entered in
     let rest = drop c.requests.at c.args.bytes.now in
-    turn_faulty (IsAnswered c.args.limits rest) g.D.Duplex.tells g.S.Service.does c.args.limits c.args.connection start c.requests.duplex c.requests.duplex x c.requests.service slots c.requests.out.items (begun_answered c.args.limits rest) t t.told
+    turn_faulty (IsAnswered c.args.limits rest) g.D.Duplex.tells g.S.Service.does c.args.limits past c.args.connection start c.requests.duplex c.requests.duplex x c.requests.service slots c.requests.out.items (begun_answered c.args.limits rest) t t.told

@@ -13,49 +13,49 @@ rest_of-requires g c =
 
 pub returns-in-Ok-clause-stands : goal.returns-in-Ok-clause-stands
 returns-in-Ok-clause-stands g c =
-    λ start x before entered others.
-    let T = λ (l : List ℕ). Turns (IsAnswered c.args.limits l) g.D.Duplex.tells g.S.Service.does c.args.limits c.args.connection start c.args.duplex.now x c.args.service.now before [] in
+    λ start x past before entered others.
+    let T = λ (l : List ℕ). Turns (IsAnswered c.args.limits l) g.D.Duplex.tells g.S.Service.does c.args.limits past c.args.connection start c.args.duplex.now x c.args.service.now before [] in
     let e = subst T (sym c.as_slice.ensures.value) entered in
     let at = c.in-Ok-Holds.at in
     let after = c.set_slot.new.slots.items in
     let R : Turned → Type 0 = λ t. Replaces c.args.connection (seen_after c.as_slice.result.now t) before after in
     let is : c.in-Ok.rest.items ≡ drop at c.as_slice.result.now = c.in-Ok.ensures ∙ ap (drop at) (sym c.as_slice.ensures.value) in
     let same = ap {A = List ℕ} {B = Seen} (λ l. record { over = false; held = l; wanted = c.in-Ok-Holds.wanted }) is in
-    c.in-Ok-Holds.ensures.stands start x before after e (subst R (sym c.in-Ok-Holds.field-0-is) (placed c.args.connection _ _ before c.args.slots.now.items after others c.set_slot.ensures same))
+    c.in-Ok-Holds.ensures.stands start x past before after e (subst R (sym c.in-Ok-Holds.field-0-is) (placed c.args.connection _ _ before c.args.slots.now.items after others c.set_slot.ensures same))
 
 pub returns-in-Ok-clause-begun : goal.returns-in-Ok-clause-begun
 returns-in-Ok-clause-begun g c =
-    λ start x before entered.
-    let T = λ (l : List ℕ). Turns (IsAnswered c.args.limits l) g.D.Duplex.tells g.S.Service.does c.args.limits c.args.connection start c.args.duplex.now x c.args.service.now before [] in
+    λ start x past before entered.
+    let T = λ (l : List ℕ). Turns (IsAnswered c.args.limits l) g.D.Duplex.tells g.S.Service.does c.args.limits past c.args.connection start c.args.duplex.now x c.args.service.now before [] in
     let e = subst T (sym c.as_slice.ensures.value) entered in
-    c.in-Ok-Holds.ensures.begun start x before e
+    c.in-Ok-Holds.ensures.begun start x past before e
 
 pub returns-in-Err-rest_of-clause-begun : goal.returns-in-Err-rest_of-clause-begun
 returns-in-Err-rest_of-clause-begun g c =
-    λ start x before entered.
-    let T = λ (l : List ℕ). Turns (IsAnswered c.args.limits l) g.D.Duplex.tells g.S.Service.does c.args.limits c.args.connection start c.args.duplex.now x c.args.service.now before [] in
+    λ start x past before entered.
+    let T = λ (l : List ℕ). Turns (IsAnswered c.args.limits l) g.D.Duplex.tells g.S.Service.does c.args.limits past c.args.connection start c.args.duplex.now x c.args.service.now before [] in
     let e = subst T (sym c.as_slice.ensures.value) entered in
-    c.in-Ok-Holds.ensures.begun start x before e
+    c.in-Ok-Holds.ensures.begun start x past before e
 
 pub returns-in-Ok-Closes-clause-stands : goal.returns-in-Ok-Closes-clause-stands
 returns-in-Ok-Closes-clause-stands g c =
-    λ start x before entered others.
-    let T = λ (l : List ℕ). Turns (IsAnswered c.args.limits l) g.D.Duplex.tells g.S.Service.does c.args.limits c.args.connection start c.args.duplex.now x c.args.service.now before [] in
+    λ start x past before entered others.
+    let T = λ (l : List ℕ). Turns (IsAnswered c.args.limits l) g.D.Duplex.tells g.S.Service.does c.args.limits past c.args.connection start c.args.duplex.now x c.args.service.now before [] in
     let e = subst T (sym c.as_slice.ensures.value) entered in
     let after = c.set_slot-in-Ok-Closes.new.slots.items in
     let R : Turned → Type 0 = λ t. Replaces c.args.connection (seen_after c.as_slice.result.now t) before after in
-    c.in-Ok-Closes.ensures.stands start x before after e (subst R (sym c.in-Ok-Closes.field-0-is) (placed c.args.connection _ _ before c.args.slots.now.items after others c.set_slot-in-Ok-Closes.ensures c.new.ensures))
+    c.in-Ok-Closes.ensures.stands start x past before after e (subst R (sym c.in-Ok-Closes.field-0-is) (placed c.args.connection _ _ before c.args.slots.now.items after others c.set_slot-in-Ok-Closes.ensures c.new.ensures))
 
 pub returns-in-Ok-Closes-clause-begun : goal.returns-in-Ok-Closes-clause-begun
 returns-in-Ok-Closes-clause-begun g c =
-    λ start x before entered.
-    let T = λ (l : List ℕ). Turns (IsAnswered c.args.limits l) g.D.Duplex.tells g.S.Service.does c.args.limits c.args.connection start c.args.duplex.now x c.args.service.now before [] in
+    λ start x past before entered.
+    let T = λ (l : List ℕ). Turns (IsAnswered c.args.limits l) g.D.Duplex.tells g.S.Service.does c.args.limits past c.args.connection start c.args.duplex.now x c.args.service.now before [] in
     let e = subst T (sym c.as_slice.ensures.value) entered in
-    c.in-Ok-Closes.ensures.begun start x before e
+    c.in-Ok-Closes.ensures.begun start x past before e
 
 pub returns-in-Err-clause-begun : goal.returns-in-Err-clause-begun
 returns-in-Err-clause-begun g c =
-    λ start x before entered.
-    let T = λ (l : List ℕ). Turns (IsAnswered c.args.limits l) g.D.Duplex.tells g.S.Service.does c.args.limits c.args.connection start c.args.duplex.now x c.args.service.now before [] in
+    λ start x past before entered.
+    let T = λ (l : List ℕ). Turns (IsAnswered c.args.limits l) g.D.Duplex.tells g.S.Service.does c.args.limits past c.args.connection start c.args.duplex.now x c.args.service.now before [] in
     let e = subst T (sym c.as_slice.ensures.value) entered in
-    c.in-Err.ensures.begun start x before e
+    c.in-Err.ensures.begun start x past before e

@@ -24,7 +24,7 @@ returns-then-is_empty-clause-stands g c =
     let is : slot_at slots k ≡ record { over = false; held = H; wanted = wanted } = c.take_held-held.ensures.held ∙ seen_over_is H wanted _ false c.requires.runs in
     let none : length H ≡ 0 = search rules in
     let free : slot_at slots k ≡ record { over = false; held = []; wanted = wanted } = is ∙ ap (λ (l : List ℕ). let s : Seen = record { over = false; held = l; wanted = wanted } in s) (nil_from_length H none) in
-    ok_map c.answer_frame.result _ _ (λ p start x h. p start x slots (comes_turns g.D.Duplex.tells g.S.Service.does c.args.limits k start c.args.duplex.now x c.args.service.now slots [] c.args.frame.now wanted free h) c.take_held-held.ensures.others) c.answer_frame.ensures.stands
+    ok_map c.answer_frame.result _ _ (λ p start x past h. p start x past slots (comes_turns g.D.Duplex.tells g.S.Service.does c.args.limits past k start c.args.duplex.now x c.args.service.now slots [] c.args.frame.now wanted free h) c.take_held-held.ensures.others) c.answer_frame.ensures.stands
 
 pub returns-then-is_empty-clause-begun : goal.returns-then-is_empty-clause-begun
 returns-then-is_empty-clause-begun g c =
@@ -35,11 +35,11 @@ returns-then-is_empty-clause-begun g c =
     let is : slot_at slots k ≡ record { over = false; held = H; wanted = wanted } = c.take_held-held.ensures.held ∙ seen_over_is H wanted _ false c.requires.runs in
     let none : length H ≡ 0 = search rules in
     let free : slot_at slots k ≡ record { over = false; held = []; wanted = wanted } = is ∙ ap (λ (l : List ℕ). let s : Seen = record { over = false; held = l; wanted = wanted } in s) (nil_from_length H none) in
-    λ start x h. c.answer_frame.ensures.begun start x slots (comes_turns g.D.Duplex.tells g.S.Service.does c.args.limits k start c.args.duplex.now x c.args.service.now slots [] c.args.frame.now wanted free h)
+    λ start x past h. c.answer_frame.ensures.begun start x past slots (comes_turns g.D.Duplex.tells g.S.Service.does c.args.limits past k start c.args.duplex.now x c.args.service.now slots [] c.args.frame.now wanted free h)
 
 pub returns-in-Err-clause-begun : goal.returns-in-Err-clause-begun
 returns-in-Err-clause-begun g c =
-    λ start x h. comes_faulty g.D.Duplex.tells g.S.Service.does c.args.limits start c.args.duplex.now c.args.duplex.now x c.args.service.now c.args.slots.now.items (Piece c.args.connection c.args.frame.now) (λ came sent told. told) h
+    λ start x past h. comes_faulty g.D.Duplex.tells g.S.Service.does c.args.limits past start c.args.duplex.now c.args.duplex.now x c.args.service.now c.args.slots.now.items (Piece c.args.connection c.args.frame.now) (λ came sent told. told) h
 
 pub returns-then-len-wanted-clause-stands : goal.returns-then-len-wanted-clause-stands
 returns-then-len-wanted-clause-stands g c =
@@ -53,11 +53,11 @@ returns-then-len-wanted-clause-stands g c =
     let less : length c.extend_from_slice.new.self.items < wanted = first_of (search rules, omega arith) in
     let L : List ℕ → Type 0 = λ l. length l < wanted in
     let same = ap (λ (l : List ℕ). let s : Seen = record { over = false; held = l; wanted = wanted } in s) items in
-    λ start x h. comes_waits g.D.Duplex.tells g.S.Service.does c.args.limits k start c.args.duplex.now x c.args.service.now slots after H c.args.frame.now wanted is (subst L items less) (placed k _ _ slots c.take_held-held.new.slots.items after c.take_held-held.ensures.others c.set_slot.ensures same) h
+    λ start x past h. comes_waits g.D.Duplex.tells g.S.Service.does c.args.limits past k start c.args.duplex.now x c.args.service.now slots after H c.args.frame.now wanted is (subst L items less) (placed k _ _ slots c.take_held-held.new.slots.items after c.take_held-held.ensures.others c.set_slot.ensures same) h
 
 pub returns-then-len-wanted-clause-begun : goal.returns-then-len-wanted-clause-begun
 returns-then-len-wanted-clause-begun g c =
-    λ start x h. comes_faulty g.D.Duplex.tells g.S.Service.does c.args.limits start c.args.duplex.now c.args.duplex.now x c.args.service.now c.args.slots.now.items (Piece c.args.connection c.args.frame.now) (λ came sent told. told) h
+    λ start x past h. comes_faulty g.D.Duplex.tells g.S.Service.does c.args.limits past start c.args.duplex.now c.args.duplex.now x c.args.service.now c.args.slots.now.items (Piece c.args.connection c.args.frame.now) (λ came sent told. told) h
 
 pub returns-clause-stands : goal.returns-clause-stands
 returns-clause-stands g c =
@@ -68,9 +68,9 @@ returns-clause-stands g c =
     let is : slot_at slots k ≡ record { over = false; held = H; wanted = wanted } = c.take_held-held.ensures.held ∙ seen_over_is H wanted _ false c.requires.runs in
     let items : c.extend_from_slice.new.self.items ≡ H ++ c.args.frame.now = c.in-Ok.ensures.items in
     ok_map c.answer_held.result _ _
-    (λ p start x h.
-    let T = λ (l : List ℕ). Turns (IsAnswered c.args.limits l) g.D.Duplex.tells g.S.Service.does c.args.limits k start c.args.duplex.now x c.args.service.now slots [] in
-    p start x slots (subst T (sym items) (comes_turns g.D.Duplex.tells g.S.Service.does c.args.limits k start c.args.duplex.now x c.args.service.now slots H c.args.frame.now wanted is h)) c.take_held-held.ensures.others)
+    (λ p start x past h.
+    let T = λ (l : List ℕ). Turns (IsAnswered c.args.limits l) g.D.Duplex.tells g.S.Service.does c.args.limits past k start c.args.duplex.now x c.args.service.now slots [] in
+    p start x past slots (subst T (sym items) (comes_turns g.D.Duplex.tells g.S.Service.does c.args.limits past k start c.args.duplex.now x c.args.service.now slots H c.args.frame.now wanted is h)) c.take_held-held.ensures.others)
     c.answer_held.ensures.stands
 
 pub returns-clause-begun : goal.returns-clause-begun
@@ -81,6 +81,6 @@ returns-clause-begun g c =
     let wanted = c.take_held-held.result.1 in
     let is : slot_at slots k ≡ record { over = false; held = H; wanted = wanted } = c.take_held-held.ensures.held ∙ seen_over_is H wanted _ false c.requires.runs in
     let items : c.extend_from_slice.new.self.items ≡ H ++ c.args.frame.now = c.in-Ok.ensures.items in
-    λ start x h.
-    let T = λ (l : List ℕ). Turns (IsAnswered c.args.limits l) g.D.Duplex.tells g.S.Service.does c.args.limits k start c.args.duplex.now x c.args.service.now slots [] in
-    c.answer_held.ensures.begun start x slots (subst T (sym items) (comes_turns g.D.Duplex.tells g.S.Service.does c.args.limits k start c.args.duplex.now x c.args.service.now slots H c.args.frame.now wanted is h))
+    λ start x past h.
+    let T = λ (l : List ℕ). Turns (IsAnswered c.args.limits l) g.D.Duplex.tells g.S.Service.does c.args.limits past k start c.args.duplex.now x c.args.service.now slots [] in
+    c.answer_held.ensures.begun start x past slots (subst T (sym items) (comes_turns g.D.Duplex.tells g.S.Service.does c.args.limits past k start c.args.duplex.now x c.args.service.now slots H c.args.frame.now wanted is h))

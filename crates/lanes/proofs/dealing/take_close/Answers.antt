@@ -21,7 +21,7 @@ set_slot-requires-in-Over g c =
 
 pub returns-in-Free-clause-begun : goal.returns-in-Free-clause-begun
 returns-in-Free-clause-begun g c =
-    λ start x h. comes_faulty g.D.Duplex.tells g.S.Service.does c.args.limits start c.args.duplex.now c.args.duplex.now x c.args.service.now c.args.slots.now.items (Stop c.args.connection) (λ came sent told. told) h
+    λ start x past h. comes_faulty g.D.Duplex.tells g.S.Service.does c.args.limits past start c.args.duplex.now c.args.duplex.now x c.args.service.now c.args.slots.now.items (Stop c.args.connection) (λ came sent told. told) h
 
 pub returns-in-Ok-clause-stands : goal.returns-in-Ok-clause-stands
 returns-in-Ok-clause-stands g c =
@@ -31,15 +31,15 @@ returns-in-Ok-clause-stands g c =
     let o : (slot_at slots k).over ≡ false = subst V c.as_slice.ensures.value c.state_at.ensures.over ∙ ap is_over c.in-Running.is in
     let after = c.set_slot.new.slots.items in
     let R : Seen → Type 0 = λ s. Replaces k s slots after in
-    λ start x h. comes_closed g.D.Duplex.tells g.S.Service.does c.args.limits k start c.args.duplex.now c.leave.new.duplex x c.args.service.now c.leave.new.service slots after (slot_at slots k).held (slot_at slots k).wanted (seen_over (slot_at slots k) false o) c.in-Ok.ensures.left.0 h (c.in-Ok.ensures.left.1 start h.came h.sent h.told) (subst R c.new.ensures c.set_slot.ensures)
+    λ start x past h. comes_closed g.D.Duplex.tells g.S.Service.does c.args.limits past k start c.args.duplex.now c.leave.new.duplex x c.args.service.now c.leave.new.service slots after (slot_at slots k).held (slot_at slots k).wanted (seen_over (slot_at slots k) false o) c.in-Ok.ensures.left.0 h (c.in-Ok.ensures.left.1 start h.came h.sent h.told) (subst R c.new.ensures c.set_slot.ensures)
 
 pub returns-in-Ok-clause-begun : goal.returns-in-Ok-clause-begun
 returns-in-Ok-clause-begun g c =
-    λ start x h. closed_faulty g.D.Duplex.tells g.S.Service.does c.args.limits c.args.connection start c.args.duplex.now c.leave.new.duplex x c.args.service.now c.args.slots.now.items (λ came sent told. c.in-Ok.ensures.left.1 start came sent told) h
+    λ start x past h. closed_faulty g.D.Duplex.tells g.S.Service.does c.args.limits past c.args.connection start c.args.duplex.now c.leave.new.duplex x c.args.service.now c.args.slots.now.items (λ came sent told. c.in-Ok.ensures.left.1 start came sent told) h
 
 pub returns-in-Err-clause-begun : goal.returns-in-Err-clause-begun
 returns-in-Err-clause-begun g c =
-    λ start x h. comes_faulty g.D.Duplex.tells g.S.Service.does c.args.limits start c.args.duplex.now c.leave.new.duplex x c.args.service.now c.args.slots.now.items (Stop c.args.connection) (λ came sent told. c.in-Err.ensures.failed start came sent told) h
+    λ start x past h. comes_faulty g.D.Duplex.tells g.S.Service.does c.args.limits past start c.args.duplex.now c.leave.new.duplex x c.args.service.now c.args.slots.now.items (Stop c.args.connection) (λ came sent told. c.in-Err.ensures.failed start came sent told) h
 
 pub returns-in-Over-clause-stands : goal.returns-in-Over-clause-stands
 returns-in-Over-clause-stands g c =
@@ -49,8 +49,8 @@ returns-in-Over-clause-stands g c =
     let o : (slot_at slots k).over ≡ true = subst V c.as_slice.ensures.value c.state_at.ensures.over ∙ ap is_over c.in-Over.is in
     let after = c.set_slot-in-Over.new.slots.items in
     let R : Seen → Type 0 = λ s. Replaces k s slots after in
-    λ start x h. comes_closed_too g.D.Duplex.tells g.S.Service.does c.args.limits k start c.args.duplex.now x c.args.service.now slots after (slot_at slots k).held (slot_at slots k).wanted (seen_over (slot_at slots k) true o) h (subst R c.new-in-Over.ensures c.set_slot-in-Over.ensures)
+    λ start x past h. comes_closed_too g.D.Duplex.tells g.S.Service.does c.args.limits past k start c.args.duplex.now x c.args.service.now slots after (slot_at slots k).held (slot_at slots k).wanted (seen_over (slot_at slots k) true o) h (subst R c.new-in-Over.ensures c.set_slot-in-Over.ensures)
 
 pub returns-in-Over-clause-begun : goal.returns-in-Over-clause-begun
 returns-in-Over-clause-begun g c =
-    λ start x h. comes_faulty g.D.Duplex.tells g.S.Service.does c.args.limits start c.args.duplex.now c.args.duplex.now x c.args.service.now c.args.slots.now.items (Stop c.args.connection) (λ came sent told. told) h
+    λ start x past h. comes_faulty g.D.Duplex.tells g.S.Service.does c.args.limits past start c.args.duplex.now c.args.duplex.now x c.args.service.now c.args.slots.now.items (Stop c.args.connection) (λ came sent told. told) h

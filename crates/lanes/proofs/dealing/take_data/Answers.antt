@@ -23,7 +23,7 @@ take_bytes-requires-clause-runs g c =
 
 pub returns-in-Free-clause-begun : goal.returns-in-Free-clause-begun
 returns-in-Free-clause-begun g c =
-    λ start x h. comes_faulty g.D.Duplex.tells g.S.Service.does c.args.limits start c.args.duplex.now c.args.duplex.now x c.args.service.now c.args.slots.now.items (Piece c.args.connection c.args.frame.now) (λ came sent told. told) h
+    λ start x past h. comes_faulty g.D.Duplex.tells g.S.Service.does c.args.limits past start c.args.duplex.now c.args.duplex.now x c.args.service.now c.args.slots.now.items (Piece c.args.connection c.args.frame.now) (λ came sent told. told) h
 
 pub returns-in-Over-clause-stands : goal.returns-in-Over-clause-stands
 returns-in-Over-clause-stands g c =
@@ -31,11 +31,11 @@ returns-in-Over-clause-stands g c =
     let k = c.args.connection in
     let V = λ (l : List Slot). (slot_at l k).over ≡ is_over c.state_at.result in
     let o : (slot_at slots k).over ≡ true = subst V c.as_slice.ensures.value c.state_at.ensures.over ∙ ap is_over c.in-Over.is in
-    λ start x h. comes_over g.D.Duplex.tells g.S.Service.does c.args.limits k start c.args.duplex.now x c.args.service.now slots (slot_at slots k).held c.args.frame.now (slot_at slots k).wanted (seen_over (slot_at slots k) true o) h
+    λ start x past h. comes_over g.D.Duplex.tells g.S.Service.does c.args.limits past k start c.args.duplex.now x c.args.service.now slots (slot_at slots k).held c.args.frame.now (slot_at slots k).wanted (seen_over (slot_at slots k) true o) h
 
 pub returns-in-Over-clause-begun : goal.returns-in-Over-clause-begun
 returns-in-Over-clause-begun g c =
-    λ start x h. comes_faulty g.D.Duplex.tells g.S.Service.does c.args.limits start c.args.duplex.now c.args.duplex.now x c.args.service.now c.args.slots.now.items (Piece c.args.connection c.args.frame.now) (λ came sent told. told) h
+    λ start x past h. comes_faulty g.D.Duplex.tells g.S.Service.does c.args.limits past start c.args.duplex.now c.args.duplex.now x c.args.service.now c.args.slots.now.items (Piece c.args.connection c.args.frame.now) (λ came sent told. told) h
 
 pub returns-in-Running-clause-stands : goal.returns-in-Running-clause-stands
 returns-in-Running-clause-stands g c = c.take_bytes.ensures.stands

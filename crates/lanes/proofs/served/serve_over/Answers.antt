@@ -1,8 +1,9 @@
-use Rattle.std.proofs.Common.{◌≡◌, ℕ, List, [], ◌++◌, sym, subst, ap, ◌∙◌, append-nil}
+use Rattle.std.proofs.Common.{sym, subst}
 use Rattle.std.specs.Io.KnownBytes.{Consumes, Appends}
 use Rattle.resp.specs.declared.limits.Limits.{Limits}
 use Rattle.lanes.specs.Served.{Served}
-use Rattle.lanes.specs.Frames.{frames_bytes, TellsRead, TellsWritten}
+use Rattle.lanes.specs.Frames.{frames_bytes}
+use Rattle.lanes.proofs.Known.{wire_told}
 use Rattle.lanes.proofs.served.serve_over.Goals as goal
 
 pub returns-in-Ok : goal.returns-in-Ok
@@ -10,13 +11,7 @@ returns-in-Ok g c =
     let s = c.in-Ok.ensures.served in
     let start = c.new-wire.result in
     let now = c.serve.new.duplex in
-    let t : TellsRead (g.R.Read.remaining start.input) (g.R.Read.remaining now.input) now.broken s.0 × TellsWritten (g.W.Write.contents start.output) (g.W.Write.contents now.output) now.broken s.1 = s.2 in
-    let none : t.0.0 ≡ [] = t.0.1 s.4 in
-    let none_too : t.1.0 ≡ [] = t.1.1 s.4 in
-    let E : List ℕ → Type 0 = λ l. Consumes (g.R.Read.remaining start.input) (g.R.Read.remaining now.input) l in
-    let F : List ℕ → Type 0 = λ l. Appends (g.W.Write.contents start.output) (g.W.Write.contents now.output) l in
-    let came : Consumes (g.R.Read.remaining start.input) (g.R.Read.remaining now.input) (frames_bytes s.0) = subst E (ap (λ (l : List ℕ). frames_bytes s.0 ++ l) none ∙ append-nil (frames_bytes s.0)) t.0.2 in
-    let sent : Appends (g.W.Write.contents start.output) (g.W.Write.contents now.output) (frames_bytes s.1) = subst F (ap (λ (l : List ℕ). frames_bytes s.1 ++ l) none_too ∙ append-nil (frames_bytes s.1)) t.1.2 in
+    let t = wire_told g.R.Read.remaining g.W.Write.contents start now s.0 s.1 s.4 s.2 in
     let A = λ (r : g.row.R.Denot). Consumes (g.R.Read.remaining r) (g.R.Read.remaining now.input) (frames_bytes s.0) in
     let B = λ (r : g.row.R.Denot). Consumes (g.R.Read.remaining c.args.input) (g.R.Read.remaining r) (frames_bytes s.0) in
     let C = λ (w : g.row.W.Denot). Appends (g.W.Write.contents w) (g.W.Write.contents now.output) (frames_bytes s.1) in
@@ -24,7 +19,7 @@ returns-in-Ok g c =
     let L : Limits → Type 0 = λ l. Served g.S.Service.does l c.args.service.now c.serve.new.service s.0 s.1 in (
       s.0,
       s.1,
-      subst B (sym c.into_parts.ensures.0) (subst A c.new-wire.ensures.parts.0 came),
-      subst D (sym c.into_parts.ensures.1) (subst C c.new-wire.ensures.parts.1 sent),
+      subst B (sym c.into_parts.ensures.0) (subst A c.new-wire.ensures.parts.0 t.0),
+      subst D (sym c.into_parts.ensures.1) (subst C c.new-wire.ensures.parts.1 t.1),
       subst L c.new-wire.ensures.limits s.3,
     )

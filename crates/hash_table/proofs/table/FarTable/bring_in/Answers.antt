@@ -1,4 +1,4 @@
-use Rattle.std.proofs.Common.{◌≡◌, List, subst}
+use Rattle.std.proofs.Common.{◌≡◌, subst}
 use Rattle.std.specs.Prelude.{IfSome}
 use Rattle.table_core.specs.declared.operation.Operation.TheVariants.{Get}
 use Rattle.hash_table.proofs.Fronts.{one_more_begins}

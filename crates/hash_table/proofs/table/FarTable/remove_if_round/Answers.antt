@@ -1,9 +1,5 @@
-use Rattle.std.proofs.Common.{◌≡◌, Option, None, sym, subst}
-use Rattle.std.specs.Option.{MatchOption}
 use Rattle.table_core.specs.declared.operation.Operation.TheVariants as op
-use Rattle.version_words.specs.Views.{Goes}
-use Rattle.hash_table.specs.declared.removing.Removal.{Removal}
-use Rattle.hash_table.specs.Steps.{IsOfFrame, MayGiveUp, IsInstalled}
+use Rattle.hash_table.specs.Steps.{IsOfFrame}
 use Rattle.hash_table.proofs.Fronts.{goes_trans, finished_from}
 use Rattle.hash_table.proofs.Steps.{installed_from, may_give_up}
 use Rattle.hash_table.proofs.table.FarTable.remove_if_round.Goals.{in-Ok-settle, in-Err-settle+in-Ok-again-2, in-Err-settle+in-Err-again-2}
