@@ -7,3 +7,5 @@ pub mod Again
 pub mod Removals
 pub mod Visits
 pub mod Several
+pub mod Carrying
+pub mod Generating

@@ -1,5 +1,5 @@
 -- Workers that have ended, and the end of their run.
-use Rattle.std.proofs.Common.{◌≡◌, ◌≢◌, ℕ, suc, ◌+◌, ◌<◌, ◌==◌, Bool, true, false, List, [], ◌∷◌, ◌++◌, Option, None, Result, Ok, Err, IfOk, length, map, refl, ap, sym, ◌∙◌, subst, arith, length-append}
+use Rattle.std.proofs.Common.{◌≡◌, ◌≢◌, ℕ, suc, ◌+◌, ◌<◌, ◌==◌, Bool, true, false, List, [], ◌∷◌, ◌++◌, Option, None, Result, Ok, Err, IfOk, IfErr, length, map, refl, ap, sym, ◌∙◌, subst, arith, length-append}
 use Rattle.std.specs.Prelude.{slice_index_or, ⊤}
 use Rattle.std.proofs.lemmas.Bool.Decides.{nat_tests}
 use Rattle.std.proofs.lemmas.List.{map-append}
@@ -19,7 +19,11 @@ use Rattle.far_map.specs.declared.fault.RunFault.{RunFault}
 use Rattle.far_map.specs.Ends.{IsClosedBy, IsBundledBy, IsHandedBy}
 use Rattle.far_map.specs.declared.fault.RunFault.TheVariants as run
 use Rattle.far_map.specs.declared.settings.Setting.{Setting}
-use Rattle.far_map.specs.Faults.{IsLater, IsEarlyFault, IsRunFault, IsHandingFault}
+use Rattle.hash_table.specs.declared.refusal.OpenFault.{OpenFault}
+use Rattle.hash_table.specs.declared.refusal.OpenFault.TheVariants as opened
+use Rattle.hash_table.specs.Openings.{IsOpenFault, IsNamedFault}
+use Rattle.far_map.specs.Faults.{of_opening, IsOfEntering, IsLater, IsEarlyFault, IsRunFault, IsHandingFault}
+use Rattle.far_map.specs.Generations.{IsFrontBy}
 use Rattle.far_map.specs.Runs.{IsNew, Served, IsServed, AreServed, Worked, IsEnd, IsEndInOrder, AreSeen, IsLeft, IsWorked, IsRun, IsRunBundled, IsRunApart, IsRunThrough, EndsSo}
 
 module _ {V Out : Type 0} (Done : ℕ → SessionView V → SessionView V → Out → Type 0) (limit : ℕ) where
@@ -71,7 +75,7 @@ apart_front : {V : Type 0} (xs ys : List (View V)) → AreApart (xs ++ ys) → A
 apart_front [] ys h = tt
 apart_front (x ∷ xs) ys h = (none_front x xs ys h.0, apart_front xs ys h.1)
 
-none_of : {V : Type 0} (pass : View V) (xs : List (View V)) (e : View V) → AreNone pass xs → pass.number ≢ e.number → AreNone pass (xs ++ e ∷ [])
+pub none_of : {V : Type 0} (pass : View V) (xs : List (View V)) (e : View V) → AreNone pass xs → pass.number ≢ e.number → AreNone pass (xs ++ e ∷ [])
 none_of pass [] e h other = (other, tt)
 none_of pass (x ∷ xs) e h other = (h.0, none_of pass xs e h.1 other)
 
@@ -79,9 +83,17 @@ all_front : {A : Type 0} (P : A → Type 0) (xs ys : List A) → AllByRecursion 
 all_front P [] ys h = tt
 all_front P (x ∷ xs) ys h = (h.0, all_front P xs ys h.1)
 
-last_of : {A : Type 0} (P : A → Type 0) (xs : List A) (y : A) → AllByRecursion P (xs ++ y ∷ []) → P y
+pub last_of : {A : Type 0} (P : A → Type 0) (xs : List A) (y : A) → AllByRecursion P (xs ++ y ∷ []) → P y
 last_of P [] y h = h.0
 last_of P (x ∷ xs) y h = last_of P xs y h.1
+
+-- a lawful log has the calls of these passes, each as it made them, and no others
+pub record IsFrontIn {V : Type 0} (ev : V → List ℕ) (l : Limits) (passes : List (View V)) (log : Log V) : Type 0 where
+  pub lawful : IsLawful enc_text ev l log
+  pub all : passes_of log ≡ length passes + 1
+  pub apart : AreApart passes
+  pub whole : AllByRecursion (λ pass. IsWhole log pass) passes
+  pub no_other : (pass : View V) → AreNone pass passes → calls_of pass.number log ≡ []
 
 module _ {V J : Type 0} where
   abbrev pass_of : Caller (List ℕ) V J → View V
@@ -134,6 +146,17 @@ module _ {V J : Type 0} where
       let closed : IsClosed enc_text ev l (callers ++ h.own ∷ []) all =
       record { log = h.closed.log; lawful = front.lawful; all = front.all; apart = front.apart; whole = front.whole; no_other = front.no_other; pairs_are = λ honest. refl } in
       record { all = all; ended = ended ev l callers all (record { own = h.own; no_calls = h.no_calls; closed = closed }); in_order = h.closed.in_order }
+
+module _ {V J : Type 0} (ev : V → List ℕ) (l : Limits) where
+  -- a front of these callers and the map's own is one of their passes
+  pub front_in : (callers : List (Caller (List ℕ) V J)) (log : Log V) → IsFrontBy ev l callers log → IsFrontIn ev l (map (λ c. c.pass) callers) log
+  unfolding ended
+  front_in callers log h =
+      let all : Pairs V = map_of enc_text ev (history log) in
+      let front = h.front in
+      let closed : IsClosed enc_text ev l (callers ++ h.own ∷ []) all = record { log = log; lawful = front.lawful; all = front.all; apart = front.apart; whole = front.whole; no_other = front.no_other; pairs_are = λ honest. refl } in
+      let e = ended ev l callers all (record { own = h.own; no_calls = h.no_calls; closed = closed }) in
+      record { lawful = e.lawful; all = e.all; apart = e.apart; whole = e.whole; no_other = e.no_other }
 
 module _ {V J : Type 0} (ev : V → List ℕ) (l : Limits) (callers all : List (Caller (List ℕ) V J)) (own : Caller (List ℕ) V J) (pairs : Pairs V) (is : all ≡ callers ++ own ∷ []) (none : calls own.pass ≡ []) where
   -- a table that these callers and the map's own closed
@@ -239,3 +262,29 @@ early_fault is_honest first run.Device h = h
 early_fault is_honest first run.Damaged h = absurd h
 early_fault is_honest first run.Missed h = absurd h
 early_fault is_honest first run.Stopped h = absurd h
+
+-- a fault as sessions enter, which may come later too
+pub entering_fault : (is_honest : Bool) (fault : RunFault) → IsOfEntering fault → IsLater is_honest fault
+entering_fault is_honest (run.BadSetting s) h = absurd h
+entering_fault is_honest run.PassesSpent h = tt
+entering_fault is_honest run.Memory h = tt
+entering_fault is_honest run.Device h = absurd h
+entering_fault is_honest run.Damaged h = absurd h
+entering_fault is_honest run.Missed h = absurd h
+entering_fault is_honest run.Stopped h = absurd h
+
+-- a later fault of what was asked for where no setting is bad
+pub later_faults : {R : Type 0} (result : Result R RunFault) (is_honest honest : Bool) → is_honest ≡ honest → IfErr result (IsLater is_honest) → IfErr result (IsRunFault honest None)
+later_faults (Ok r) is_honest honest same h = tt
+later_faults (Err fault) is_honest honest same h = late_fault honest None fault refl (subst (λ (b : Bool). IsLater b fault) same h)
+
+-- the table's faults as it is opened, where no setting is bad
+pub opened_badly : (is_honest : Bool) (first : Option ℕ) (fault : OpenFault) → first ≡ None → IsOpenFault first fault → IsRunFault is_honest None (of_opening fault)
+opened_badly is_honest first (opened.BadConfig n) none h = absurd (cc (sym none ∙ h))
+opened_badly is_honest first opened.Memory none h = refl
+opened_badly is_honest first opened.Device none h = absurd h
+
+pub named_badly : (is_honest : Bool) (fault : OpenFault) → IsNamedFault fault → IsRunFault is_honest None (of_opening fault)
+named_badly is_honest (opened.BadConfig n) h = absurd h
+named_badly is_honest opened.Memory h = refl
+named_badly is_honest opened.Device h = refl

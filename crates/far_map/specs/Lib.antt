@@ -12,3 +12,5 @@ pub mod Visits
 pub mod Ends
 pub mod Runs
 pub mod Many
+pub mod Loads
+pub mod Generations

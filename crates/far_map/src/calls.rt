@@ -153,6 +153,9 @@ pub trait Calls<V: Value> {
         ensures goes { Goes (shown self.old).pass (shown self.new).pass }
         ensures same { ((shown self.new).limit ≡ (shown self.old).limit) × ((shown self.new).stats ≡ (shown self.old).stats) };
 
+    /// How many names may still be drawn: a hint, of which no clause says anything.
+    fn names_left(&self) -> u64;
+
     /// How many buckets the map has.
     fn buckets(&self) -> u32
         ensures { result ≡ limits.buckets };
@@ -291,6 +294,10 @@ impl<'m, V: Value, J: Naming, B: QueueNaming, D: Device> Calls<V> for Session<'m
         visit: &mut F,
     ) -> Result<(), Refusal> {
         self.visit_all(rt, visit)
+    }
+
+    fn names_left(&self) -> u64 {
+        self.map.table.names_left()
     }
 
     fn buckets(&self) -> u32 {

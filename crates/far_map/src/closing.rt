@@ -1,5 +1,5 @@
 //! The end of a map.
-ghost use Rattle.std.specs.Prelude.{◌≡◌, ◌++◌, ◌∷◌, [], ℕ, IfOk, OnOk, IfErr, map};
+ghost use Rattle.std.specs.Prelude.{◌≡◌, ◌++◌, ◌∷◌, [], ℕ, IfOk, OnOk, IfErr, map, vec_len};
 ghost use Rattle.far_object.specs.Encodings.{enc_text};
 ghost use Rattle.far_pairs.specs.Bundles.{all_of};
 ghost use Rattle.table_core.specs.Lawful.{IsLawful};
@@ -9,6 +9,7 @@ ghost use Rattle.far_map.specs.declared.fault.RunFault.TheVariants.{Memory};
 ghost use Rattle.far_map.specs.Ends.{IsClosedBy, IsBundledBy, IsHandedBy};
 ghost use Rattle.far_map.specs.Faults.{IsLater, IsHandingFault};
 ghost use Rattle.far_map.specs.Runs.{AreSeen, IsLeft};
+ghost use Rattle.far_map.specs.Generations.{IsFrontBy, IsDrainedBy};
 
 use crate::fault::{RunFault, of_closing, of_handing};
 use crate::map::FarMap;
@@ -16,19 +17,20 @@ use crate::values::Value;
 use far_device::Device;
 use far_object::Text;
 use far_pairs::Bundle;
-use hash_table::{Caller, CloseFault, FarTable, TakesPairs};
+use handover::Handover;
+use hash_table::{Caller, CloseFault, Drained, FarTable, TakesPairs};
 use std::alloc::Global;
 use std::sync::Wait;
 use std::thread::Threads;
 use swapper::QueueNaming;
-use version_words::Naming;
+use version_words::{Mark, Naming};
 
 /// How many times a map is closed before what a frame or a lane does not give is taken for lost: no thread works any more, and
 /// only a device whose bytes come late may give it still.
 const MOST_CLOSES: u32 = 1_000;
 
-/// The callers, and the map's own behind them.
-fn with_own<V: Value, J: Naming>(
+/// The callers, and one of the map's own behind them.
+pub(crate) fn with_own<V: Value, J: Naming>(
     mut callers: Vec<Caller<Text, V, J>>,
     own: Caller<Text, V, J>,
 ) -> Result<Vec<Caller<Text, V, J>>, RunFault>
@@ -127,6 +129,48 @@ impl<V: Value, J: Naming, B: QueueNaming, D: Device> FarMap<V, J, B, D> {
         match table.close_through(rt, alloc, all, taker) {
             Ok(()) => Ok(()),
             Err((fault, _table, _callers)) => Err(of_handing::<V, J, T>(fault)),
+        }
+    }
+
+    /// Ends the map, where all sessions have left, and drops what it holds: a front at which these are all. The map is dropped at a
+    /// fault too.
+    pub(crate) fn end(
+        self,
+        alloc: Global,
+        callers: Vec<Caller<Text, V, J>>,
+    ) -> Result<Mark<Text, V, J>, RunFault>
+        ensures front { IfOk result (λ m. IsFrontBy V.enc J.limits callers.items m) }
+        ensures fault { IfErr result (IsLater J.limits.honest) }
+    {
+        let FarMap { table, evictor, .. } = self;
+        let mut all = with_own(callers, evictor.into_inner().into_caller())?;
+        match table.gather(alloc, &mut all) {
+            Ok(mark) => Ok(mark),
+            Err(fault) => Err(of_closing(fault)),
+        }
+    }
+
+    /// Ends the map, where all sessions have left, and hands over what it holds. What can't be read is passed over. The map is dropped at
+    /// a fault.
+    pub(crate) fn drain<R: Wait>(
+        self,
+        rt: &R,
+        alloc: Global,
+        callers: Vec<Caller<Text, V, J>>,
+        rest: &mut Handover<Text, V, D>,
+    ) -> Result<Drained<D>, RunFault>
+        ensures drained { IfOk result (λ left. IsDrainedBy V.enc J.limits callers.items rest.old rest.new left.lost) }
+        ensures devices { IfOk result (λ left. vec_len left.devices ≡ self.table.lanes) }
+        ensures fault { IfErr result (IsLater J.limits.honest) }
+    {
+        let FarMap { table, evictor, .. } = self;
+        let all = match with_own(callers, evictor.into_inner().into_caller()) {
+            Ok(all) => all,
+            Err(fault) => return Err(fault),
+        };
+        match table.drain(rt, alloc, all, rest) {
+            Ok(left) => Ok(left),
+            Err(fault) => Err(of_closing(fault)),
         }
     }
 

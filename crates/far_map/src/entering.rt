@@ -1,5 +1,6 @@
 //! Sessions enter. Their passes are drawn before any worker begins, so that a run for which there are too few does nothing.
 ghost use Rattle.std.specs.Prelude.{◌≡◌, ◌<◌, ◌^◌, [], vec_len, IfOk, IfErr};
+ghost use mathlib.Core.List.{IsPrefix};
 ghost use Rattle.version_words.specs.Views.{calls};
 ghost use Rattle.far_map.specs.Counts.{no_calls};
 ghost use Rattle.far_map.specs.Faults.{IsOfEntering};
@@ -16,7 +17,7 @@ use hash_table::{Caller, FarTable};
 use std::alloc::Global;
 use std::sync::Wait;
 use swapper::{QueueNaming, QueueSeat, RoomMaker};
-use version_words::{EnterFault, Naming};
+use version_words::{EnterFault, Mark, Naming};
 
 /// A session that has not begun.
 #[derive(Drop)]
@@ -96,6 +97,28 @@ impl<V: Value, J: Naming, B: QueueNaming, D: Device> FarMap<V, J, B, D> {
         ensures stats { result.stats ≡ no_calls }
     {
         let Newcomer { seated } = newcomer;
+        Session {
+            map: self,
+            alloc,
+            seated,
+            stats: Stats::new(),
+        }
+    }
+
+    /// The same, where the session has seen what the mark has.
+    pub(crate) fn begin_behind(
+        &self,
+        alloc: Global,
+        newcomer: Newcomer<V, J, B>,
+        mark: &Mark<Text, V, J>,
+    ) -> Session<'_, V, J, B, D>
+        ensures new { calls result.pass ≡ [] }
+        ensures limit { result.limit ≡ self.now.table.limit }
+        ensures stats { result.stats ≡ no_calls }
+        ensures behind { IsPrefix mark.now result.pass.front }
+    {
+        let Newcomer { mut seated } = newcomer;
+        self.table.learn(&mut seated.caller, mark);
         Session {
             map: self,
             alloc,

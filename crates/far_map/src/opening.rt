@@ -39,6 +39,7 @@ pub(crate) fn map_over<V: Value, J: Naming, B: QueueNaming, D: Device, R: Wait>(
     requires buckets { config.buckets ≡ J.limits.buckets }
     requires frames { 0 < config.frames }
     ensures limit { IfOk result (λ r. r.0.table.limit ≡ table.limit) }
+    ensures lanes { IfOk result (λ r. r.0.table.lanes ≡ table.lanes) }
     ensures each { IfOk result (λ r. vec_len r.1 ≡ workers) }
     ensures fault { IfErr result IsOfEntering }
 {

@@ -22,7 +22,7 @@ use version_words::Naming;
 pub(crate) type Ended<V, J, T> = (Vec<Caller<Text, V, J>>, Vec<T>);
 
 /// The worker's caller and what it gave back, behind those of the others.
-fn with_last<V: Value, J: Naming, T: Drop>(
+pub(crate) fn with_last<V: Value, J: Naming, T: Drop>(
     others: Ended<V, J, T>,
     last: (Caller<Text, V, J>, T),
 ) -> Result<Ended<V, J, T>, RunFault>

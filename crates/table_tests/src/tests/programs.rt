@@ -10,6 +10,7 @@ mod numbers;
 mod planets;
 mod refusals;
 mod removals;
+mod renewals;
 mod through;
 mod updates;
 mod visits;

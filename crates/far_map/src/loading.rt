@@ -1,0 +1,149 @@
+//! What the last generation of a map left is put into the next, before any worker is at work.
+//!
+//! # What is lost
+//!
+//! A part of the handover that can't be taken, and a pair whose put is refused, are passed over and counted: a far store may have
+//! lost an object, and a map of many pairs is not to end for one.
+ghost use Rattle.std.specs.Prelude.{◌≡◌, [], ◌∷◌, ◌++◌, IfSome, IfNone};
+ghost use Rattle.std.specs.Bool.{OnFalse};
+ghost use Rattle.version_words.specs.Views.{Goes};
+ghost use Rattle.handover.specs.Parts.{Takes, Loses};
+ghost use Rattle.far_map.specs.Loads.{PutsEach, IsLoading, Loads, lost_of};
+ghost use Rattle.far_map.specs.Views.{View, Pairs};
+
+use crate::calls::Calls;
+use crate::entering::Newcomer;
+use crate::map::FarMap;
+use crate::stints::Carried;
+use crate::values::Value;
+use far_device::Device;
+use far_object::Text;
+use handover::{Handover, Untaken};
+use hash_table::Caller;
+use std::alloc::Global;
+use std::sync::Wait;
+use swapper::QueueNaming;
+use version_words::Naming;
+
+/// How many times a part is asked for that is refused its memory.
+const MOST_TRIES: u32 = 1_000;
+
+/// Another part of the pairs, or none of its pairs where it is lost. Where it is refused its memory an object is moved to a device,
+/// and it is asked for again, 1,000 times in all.
+fn next_part<V: Value, S: Calls<V>, D: Device, R: Wait>(
+    rt: &R,
+    alloc: Global,
+    me: &mut S,
+    rest: &mut Handover<Text, V, D>,
+) -> Option<Option<Vec<(Text, V)>>>
+    ensures goes { Goes (S.shown me.old).pass (S.shown me.new).pass }
+    ensures all { IfNone result (rest.old ≡ []) }
+    ensures none { IfNone result (rest.new ≡ []) }
+    ensures taken { IfSome result (λ part. IfSome part (λ pairs. Takes D.HONEST rest.old rest.new pairs.items)) }
+    ensures lost { IfSome result (λ part. IfNone part (Loses rest.old rest.new)) }
+{
+    for _ in 0..MOST_TRIES {
+        match rest.take(alloc) {
+            None => return None,
+            Some(Ok(pairs)) => return Some(Some(pairs)),
+            Some(Err(Untaken::Lost)) => return Some(None),
+            Some(Err(Untaken::Memory)) => {
+                let _ = me.evict(rt);
+            }
+        }
+    }
+    rest.pass_over();
+    Some(None)
+}
+
+/// Puts a pair behind others, of which so many were refused, and answers how many are by now.
+fn put_one<V: Value, S: Calls<V>, R: Wait>(
+    rt: &R,
+    me: &mut S,
+    key: &Text,
+    value: &V,
+    refused: u64,
+) -> u64
+    ensures { (pairs : Pairs V) (first : View V) → PutsEach pairs first (S.shown me.old).pass refused → PutsEach (pairs ++ (key.now, value.now) ∷ []) first (S.shown me.new).pass result }
+{
+    match me.put(rt, key, value) {
+        Ok(_before) => refused,
+        Err(_refusal) => refused.saturating_add(1),
+    }
+}
+
+/// Puts these pairs, and answers how many were refused.
+fn put_each<V: Value, S: Calls<V>, R: Wait>(rt: &R, me: &mut S, pairs: Vec<(Text, V)>) -> u64
+    ensures { PutsEach pairs.items (S.shown me.old).pass (S.shown me.new).pass result }
+{
+    let mut refused = 0u64;
+    for (key, value) in pairs {
+        refused = put_one(rt, me, &key, &value, refused);
+    }
+    refused
+}
+
+/// Puts another part of the pairs, and answers whether there was one.
+fn put_part<V: Value, S: Calls<V>, D: Device, R: Wait>(
+    rt: &R,
+    alloc: Global,
+    me: &mut S,
+    rest: &mut Handover<Text, V, D>,
+    carried: &mut Carried,
+) -> bool
+    ensures loads { (waited : Pairs V) (first : View V) → IsLoading D.HONEST waited rest.old first (S.shown me.old).pass (lost_of carried.old) → IsLoading D.HONEST waited rest.new first (S.shown me.new).pass (lost_of carried.new) }
+    ensures counted { lost_of carried.new ≡ 0 → lost_of carried.old ≡ 0 }
+    ensures empty { OnFalse result (rest.new ≡ []) }
+{
+    let Some(part) = next_part(rt, alloc, me, rest) else {
+        return false;
+    };
+    let Some(pairs) = part else {
+        carried.lost_buckets = carried.lost_buckets.saturating_add(1);
+        return true;
+    };
+    let count = pairs.len() as u64;
+    let refused = put_each(rt, me, pairs);
+    carried.pairs = carried.pairs.saturating_add(count.saturating_sub(refused));
+    carried.lost_pairs = carried.lost_pairs.saturating_add(refused);
+    true
+}
+
+/// Puts all pairs of the handover. What was lost before them is counted already.
+fn put_all<V: Value, S: Calls<V>, D: Device, R: Wait>(
+    rt: &R,
+    alloc: Global,
+    me: &mut S,
+    rest: &mut Handover<Text, V, D>,
+    before: Carried,
+) -> Carried
+    ensures loads { IsLoading D.HONEST rest.old rest.new (S.shown me.old).pass (S.shown me.new).pass (lost_of result) }
+    ensures empty { rest.new ≡ [] }
+    ensures counted { lost_of result ≡ 0 → lost_of before ≡ 0 }
+{
+    let mut carried = before;
+    for _ in rt.forever() {
+        if !put_part(rt, alloc, me, rest, &mut carried) {
+            return carried;
+        }
+    }
+    unreachable!()
+}
+
+/// A session that puts all pairs of the handover, from its beginning to its end.
+pub(crate) fn load<V: Value, J: Naming, B: QueueNaming, D: Device, R: Wait>(
+    rt: &R,
+    alloc: Global,
+    far: &FarMap<V, J, B, D>,
+    newcomer: Newcomer<V, J, B>,
+    rest: &mut Handover<Text, V, D>,
+    before: Carried,
+) -> (Caller<Text, V, J>, Carried)
+    ensures loads { Loads D.HONEST rest.old result.0.pass (lost_of result.1) }
+    ensures empty { rest.new ≡ [] }
+    ensures counted { lost_of result.1 ≡ 0 → lost_of before ≡ 0 }
+{
+    let mut me = far.begin(alloc, newcomer);
+    let carried = put_all(rt, alloc, &mut me, rest, before);
+    (me.leave(), carried)
+}

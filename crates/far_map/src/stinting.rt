@@ -1,0 +1,167 @@
+//! One stint of each worker, side by side as far as threads can be started, and beside the evictor.
+//!
+//! # What a stint sees
+//!
+//! Before its session begins each worker learns the mark of what was put before, so that its first call already stands behind all of
+//! that. And no clause says of a stint that it leaves its session in place, so the pass's number is looked at.
+ghost use Rattle.std.specs.Prelude.{◌≡◌, ◌<◌, ◌^◌, map, vec_len, IfOk, IfErr};
+ghost use Rattle.std.specs.Thread.{IsSync, IsSend};
+ghost use Rattle.far_map.specs.declared.fault.RunFault.TheVariants.{PassesSpent};
+ghost use Rattle.far_map.specs.Faults.{IsOfEntering};
+ghost use Rattle.far_map.specs.Generations.{IsStint, AreStints};
+
+use crate::entering::Newcomer;
+use crate::fault::RunFault;
+use crate::map::FarMap;
+use crate::session::Session;
+use crate::sharing::{Ended, with_last};
+use crate::stints::Stints;
+use crate::values::Value;
+use far_device::Device;
+use far_object::Text;
+use hash_table::Caller;
+use std::alloc::Global;
+use std::sync::Wait;
+use std::thread::{Threads, join};
+use swapper::QueueNaming;
+use version_words::{Mark, Naming, PassHolder};
+
+/// The number of the caller's pass.
+fn number_of<V: Value, J: Naming>(caller: &Caller<Text, V, J>) -> u32
+    ensures { result ≡ caller.now.pass.number }
+{
+    caller.pass().number()
+}
+
+impl<'m, V: Value, J: Naming, B: QueueNaming, D: Device> Session<'m, V, J, B, D> {
+    /// The number of its pass.
+    fn number(&self) -> u32
+        ensures { result ≡ self.now.pass.number }
+    {
+        number_of(&self.seated.caller)
+    }
+}
+
+/// One worker's stint, behind the mark. `PassesSpent` comes where it left another session than it was handed.
+fn one<V, J, B, D, W, R>(
+    rt: &R,
+    alloc: Global,
+    far: &FarMap<V, J, B, D>,
+    mark: &Mark<Text, V, J>,
+    work: &W,
+    newcomer: Newcomer<V, J, B>,
+    state: W::State,
+    worker: u32,
+) -> Result<(Caller<Text, V, J>, W::State), RunFault>
+where
+    V: Value,
+    J: Naming,
+    B: QueueNaming,
+    D: Device,
+    W: Stints<V>,
+    R: Wait,
+    ensures stint { IfOk result (λ r. IsStint (λ begun ended before after. W.done work.now worker J.limits begun ended before after) far.now.table.limit mark.now r.0.pass state r.1) }
+    ensures fault { IfErr result (λ fault. fault ≡ PassesSpent) }
+{
+    let mut me = far.begin_behind(alloc, newcomer, mark);
+    let number = me.number();
+    let kept = work.stint(rt, alloc, worker, &mut me, state);
+    let caller = me.leave();
+    if number_of(&caller) != number {
+        return Err(RunFault::PassesSpent);
+    }
+    Ok((caller, kept))
+}
+
+/// A stint for each newcomer, from the state of its place: the last on a thread of its own, and the others on this one and theirs.
+/// `Memory` comes where a growth is refused.
+fn stints<V, J, B, D, W, R>(
+    rt: &R,
+    alloc: Global,
+    far: &FarMap<V, J, B, D>,
+    mark: &Mark<Text, V, J>,
+    work: &W,
+    mut newcomers: Vec<Newcomer<V, J, B>>,
+    mut states: Vec<W::State>,
+) -> Result<Ended<V, J, W::State>, RunFault>
+where
+    V: Value + Send + Sync,
+    J: Naming + Send + Sync,
+    B: QueueNaming + Send + Sync,
+    D: Device + Send,
+    W: Stints<V>,
+    R: Threads + Wait + Sync,
+    requires few { vec_len newcomers < 2 ^ 32 }
+    requires each { vec_len states ≡ vec_len newcomers }
+    ensures worked { IfOk result (λ r. AreStints (λ worker begun ended before after. W.done work.now worker J.limits begun ended before after) far.now.table.limit mark.now 0 (map (λ c. c.pass) r.0.items) states.items r.1.items) }
+    ensures fault { IfErr result IsOfEntering }
+{
+    let Some(newcomer) = newcomers.pop() else {
+        return Ok((Vec::new(alloc), Vec::new(alloc)));
+    };
+    let Some(state) = states.pop() else {
+        unreachable!();
+    };
+    let last = newcomers.len() as u32;
+    if last == 0 {
+        let alone = one(rt, alloc, far, mark, work, newcomer, state, 0)?;
+        return with_last((Vec::new(alloc), Vec::new(alloc)), alone);
+    }
+    let (own, others) = join(
+        rt,
+        || -> Result<(Caller<Text, V, J>, W::State), RunFault>
+            requires { IsSync R.row }
+            ensures stint { IfOk result (λ r. IsStint (λ begun ended before after. W.done work.entry.now last J.limits begun ended before after) far.entry.now.table.limit mark.entry.now r.0.pass state r.1) }
+            ensures fault { IfErr result (λ fault. fault ≡ PassesSpent) }
+        { one(rt, alloc, far, mark, work, newcomer, state, last) },
+        || -> Result<Ended<V, J, W::State>, RunFault>
+            requires { IsSync R.row × IsSend V.row × IsSync V.row × IsSend J.row × IsSync J.row × IsSend B.row × IsSync B.row × IsSend D.row × IsSync W.row × IsSend W.State.row × (vec_len newcomers < 2 ^ 32) × (vec_len states ≡ vec_len newcomers) }
+            ensures worked { IfOk result (λ r. AreStints (λ worker begun ended before after. W.done work.entry.now worker J.limits begun ended before after) far.entry.now.table.limit mark.entry.now 0 (map (λ c. c.pass) r.0.items) states.items r.1.items) }
+            ensures fault { IfErr result IsOfEntering }
+        { stints(rt, alloc, far, mark, work, newcomers, states) },
+    );
+    let others = others?;
+    let own = own?;
+    with_last(others, own)
+}
+
+/// The stints beside the evictor's thread, where there are several, as `sharing::serve`.
+pub(crate) fn serve_stints<V, J, B, D, W, R>(
+    rt: &R,
+    alloc: Global,
+    far: &FarMap<V, J, B, D>,
+    mark: &Mark<Text, V, J>,
+    work: &W,
+    newcomers: Vec<Newcomer<V, J, B>>,
+    states: Vec<W::State>,
+) -> Result<Ended<V, J, W::State>, RunFault>
+where
+    V: Value + Send + Sync,
+    J: Naming + Send + Sync,
+    B: QueueNaming + Send + Sync,
+    D: Device + Send,
+    W: Stints<V>,
+    R: Threads + Wait + Sync,
+    requires few { vec_len newcomers < 2 ^ 32 }
+    requires each { vec_len states ≡ vec_len newcomers }
+    ensures worked { IfOk result (λ r. AreStints (λ worker begun ended before after. W.done work.now worker J.limits begun ended before after) far.now.table.limit mark.now 0 (map (λ c. c.pass) r.0.items) states.items r.1.items) }
+    ensures fault { IfErr result IsOfEntering }
+{
+    if newcomers.len() < 2 {
+        return stints(rt, alloc, far, mark, work, newcomers, states);
+    }
+    let (_, done) = join(
+        rt,
+        || far.evict(rt),
+        || -> Result<Ended<V, J, W::State>, RunFault>
+            requires { IsSync R.row × IsSend V.row × IsSync V.row × IsSend J.row × IsSync J.row × IsSend B.row × IsSync B.row × IsSend D.row × IsSync W.row × IsSend W.State.row × (vec_len newcomers < 2 ^ 32) × (vec_len states ≡ vec_len newcomers) }
+            ensures worked { IfOk result (λ r. AreStints (λ worker begun ended before after. W.done work.entry.now worker J.limits begun ended before after) far.entry.now.table.limit mark.entry.now 0 (map (λ c. c.pass) r.0.items) states.items r.1.items) }
+            ensures fault { IfErr result IsOfEntering }
+        {
+            let done = stints(rt, alloc, far, mark, work, newcomers, states);
+            far.stop_evicting();
+            done
+        },
+    );
+    done
+}
