@@ -24,7 +24,7 @@ use Rattle.hash_table.specs.Drains.{Drains}
 use Rattle.far_map.specs.Views.{View, Log, Pairs, Call, SessionView}
 use Rattle.far_map.specs.Counts.{no_calls}
 use Rattle.far_map.specs.Loads.{Comes, Loads, puts, summed}
-use Rattle.far_map.specs.Generations.{calls_by, IsStint, AreStints, IsFrontBy, IsDrainedBy, IsGeneration, IsTurn, Waits, Reached}
+use Rattle.far_map.specs.Generations.{calls_by, IsStint, AreStints, IsFrontBy, IsDrainedBy, IsGeneration, IsTurn, Waits, Reached, IsRenewed}
 use Rattle.far_map.specs.Generations.Reached.{Next}
 use Rattle.far_map.proofs.Working.{IsFrontIn, front_in, last_of, none_of}
 use Rattle.far_map.proofs.Carrying.{comes_on}
@@ -270,13 +270,12 @@ module _ {V T : Type 0} (ev : V → List ℕ) (Done : ℕ → Limits → Session
     kept_count left waiting lost states kept next h =
         let g = h.generation in stints_kept (λ worker begun ended (before after : T). Done worker l begun ended before after) limit g.loader.front 0 g.passes states kept g.worked
 
-    -- one more generation
-    pub reached_more : {D : Type 0} (first states kept : List T) (lost more total before : ℕ) (left waiting waiting' : Pairs V) (next : Option (Drained D))
-        → Reached ev Done l limit first states lost left → (IsTrue l.honest → Comes left waiting before) → (t : IsTurn ev Done l limit waiting waiting' more states kept next) → (more ≡ 0 → before ≡ 0) → total ≡ summed lost more
-        → Reached ev Done l limit first kept total (map_of enc_text ev (history t.log))
-    reached_more first states kept lost more total before left waiting waiting' next h came t counted is =
+    -- a generation that begins with what came of the map that the one before left
+    behind : {D : Type 0} (states kept : List T) (more before : ℕ) (left waiting waiting' : Pairs V) (next : Option (Drained D))
+        → (IsTrue l.honest → Comes left waiting before) → (t : IsTurn ev Done l limit waiting waiting' more states kept next) → (more ≡ 0 → before ≡ 0)
+        → IsGeneration ev Done l limit left more states kept t.log
+    behind states kept more before left waiting waiting' next came t counted =
         let g = t.generation in
-        let generation : IsGeneration ev Done l limit left more states kept t.log =
         record {
           loader = g.loader;
           loaded = g.loaded;
@@ -289,8 +288,29 @@ module _ {V T : Type 0} (ev : V → List ℕ) (Done : ℕ → Limits → Session
           apart = g.apart;
           whole = g.whole;
           no_other = g.no_other;
-        } in
-        subst (λ (n : ℕ). Reached ev Done l limit first kept n (map_of enc_text ev (history t.log))) (sym is) (Next h generation)
+        }
+
+    -- one more generation
+    pub reached_more : {D : Type 0} (first states kept : List T) (lost more total before : ℕ) (left waiting waiting' : Pairs V) (next : Option (Drained D))
+        → Reached ev Done l limit first states lost left → (IsTrue l.honest → Comes left waiting before) → (t : IsTurn ev Done l limit waiting waiting' more states kept next) → (more ≡ 0 → before ≡ 0) → total ≡ summed lost more
+        → Reached ev Done l limit first kept total (map_of enc_text ev (history t.log))
+    reached_more first states kept lost more total before left waiting waiting' next h came t counted is =
+        subst (λ (n : ℕ). Reached ev Done l limit first kept n (map_of enc_text ev (history t.log))) (sym is) (Next h (behind states kept more before left waiting waiting' next came t counted))
+
+    -- the last one
+    pub renewed : {D : Type 0} (first states kept : List T) (lost more total before : ℕ) (left waiting waiting' : Pairs V) (next : Option (Drained D))
+        → Reached ev Done l limit first states lost left → (IsTrue l.honest → Comes left waiting before) → (t : IsTurn ev Done l limit waiting waiting' more states kept next) → (more ≡ 0 → before ≡ 0) → total ≡ summed lost more
+        → IsRenewed ev Done l limit first kept total
+    renewed first states kept lost more total before left waiting waiting' next h came t counted is = record {
+      mid = states;
+      before = lost;
+      left = left;
+      reached = h;
+      more = more;
+      log = t.log;
+      generation = behind states kept more before left waiting waiting' next came t counted;
+      lost_is = is;
+    }
 
 -- nothing waits for the first generation
 pub none_waits : {A : Type 0} (xs : List A) (lost : ℕ) → xs ≡ [] → Comes [] xs lost

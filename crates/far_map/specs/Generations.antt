@@ -78,12 +78,19 @@ module _ {V T : Type 0} (ev : V → List ℕ) (Done : ℕ → Limits → Session
     pub generation : IsGeneration left lost states kept log
     pub waits : Waits ev l log waiting next
 
-  -- Generations so far: from what each worker kept first to what it keeps now, what was lost between them, and the map that the last one
-  -- left. The first begins with no pairs, and each other one with what the one before it left.
+  -- Generations so far, if any: from what each worker kept first to what it keeps now, what was lost between them, and the map that the
+  -- last one left. The first begins with no pairs, and each other one with what the one before it left.
   pub data Reached (states : List T) : List T → ℕ → Pairs V → Type 0 where
     First : Reached states states 0 []
     Next : {mid kept : List T} {lost more : ℕ} {left : Pairs V} {log : Log V} → Reached states mid lost left → IsGeneration left more mid kept log → Reached states kept (summed lost more) (map_of enc_text ev (history log))
 
-  -- generations that led from what each worker kept first to what it keeps at last, and what was lost
-  abbrev pub IsRenewed : List T → List T → ℕ → Type 0
-  IsRenewed states kept lost = (left : Pairs V) × Reached states kept lost left
+  -- one generation or more, that led from what each worker kept first to what it keeps at last, and what was lost
+  pub record IsRenewed (states kept : List T) (lost : ℕ) : Type 0 where
+    pub mid : List T
+    pub before : ℕ
+    pub left : Pairs V
+    pub reached : Reached states mid before left
+    pub more : ℕ
+    pub log : Log V
+    pub generation : IsGeneration left more mid kept log
+    pub lost_is : lost ≡ summed before more

@@ -8,7 +8,7 @@ use Rattle.hash_table.specs.Configs.{sizes_of}
 use Rattle.far_map.specs.Settings.{config_of}
 use Rattle.far_map.specs.Generations.Reached.{First}
 use Rattle.far_map.proofs.Carrying.{some_is}
-use Rattle.far_map.proofs.Generating.{none_waits, waits_some, turn_over, reached_more, kept_count}
+use Rattle.far_map.proofs.Generating.{none_waits, waits_some, turn_over, reached_more, renewed, kept_count}
 use Rattle.far_map.proofs.renewing.run_renewed.Goals as goal
 
 pub loop-init : goal.loop-init
@@ -19,11 +19,9 @@ returns-in-None-next-clause-ran g c =
     let inv = c.loop.invariant in
     let ended = c.in-Ok-over_devices.generation in
     let config = config_of c.args.settings (vec_len c.args.devices) in
-    let t = turn_over g.V.FarObject.enc (g.W.Stints.done c.args.work.now) g.D.Device.HONEST c.in-Ok.config config c.loop.rest c.over_devices.new.rest ended.lost c.loop.states.items ended.kept.items ended.next c.in-Ok.ensures.config c.in-Ok-over_devices.ensures.ran in (
-      map_of enc_text g.V.FarObject.enc (history t.log),
-      reached_more g.V.FarObject.enc (g.W.Stints.done c.args.work.now) (limits_of (sizes_of config) g.D.Device.HONEST) c.args.settings.limit c.args.states.items c.loop.states.items ended.kept.items c.loop.lost ended.lost c.saturating_add-lost.result
-          c.loop.left.lost inv.0 c.loop.rest c.over_devices.new.rest ended.next inv.1 inv.2 t (λ none. c.behind-before.ensures (c.in-Ok-over_devices.ensures.counted none)) c.saturating_add-lost.ensures,
-    )
+    let t = turn_over g.V.FarObject.enc (g.W.Stints.done c.args.work.now) g.D.Device.HONEST c.in-Ok.config config c.loop.rest c.over_devices.new.rest ended.lost c.loop.states.items ended.kept.items ended.next c.in-Ok.ensures.config c.in-Ok-over_devices.ensures.ran in
+    renewed g.V.FarObject.enc (g.W.Stints.done c.args.work.now) (limits_of (sizes_of config) g.D.Device.HONEST) c.args.settings.limit c.args.states.items c.loop.states.items ended.kept.items c.loop.lost ended.lost c.saturating_add-lost.result
+    c.loop.left.lost inv.0 c.loop.rest c.over_devices.new.rest ended.next inv.1 inv.2 t (λ none. c.behind-before.ensures (c.in-Ok-over_devices.ensures.counted none)) c.saturating_add-lost.ensures
 
 pub loop-preserved : goal.loop-preserved
 loop-preserved g c =
