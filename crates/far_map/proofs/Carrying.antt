@@ -1,15 +1,15 @@
 -- Pairs that are put, part after part, and those that are lost on the way.
-use Rattle.std.proofs.Common.{◌≡◌, ℕ, ◌+◌, ◌-◌, ◌^◌, min, Bool, IsTrue, List, [], ◌∷◌, ◌++◌, Option, Some, None, IfSome, IfNone, map, refl, ap, sym, ◌∙◌, subst, arith, append_assoc}
+use Rattle.std.proofs.Common.{◌≡◌, ℕ, Bool, IsTrue, List, [], ◌∷◌, ◌++◌, Option, Some, None, IfSome, IfNone, refl, ap, sym, ◌∙◌, subst, arith, append_assoc}
 use Rattle.std.proofs.lemmas.List.{append-nil, map-append}
 use Rattle.std.specs.List.Sorted.{IsPermutation}
-use Rattle.std.proofs.lemmas.List.Sorted.{IsPermutation-refl, IsPermutation-sym, IsPermutation-trans, IsPermutation-append, IsPermutation-append_left, IsPermutation-append_right, IsPermutation-append_comm}
+use Rattle.std.proofs.lemmas.List.Sorted.{IsPermutation-refl, IsPermutation-trans, IsPermutation-append, IsPermutation-append_left, IsPermutation-append_right, IsPermutation-append_comm}
 use Rattle.table_core.specs.declared.limits.Limits.{Limits}
 use Rattle.table_core.specs.declared.operation.Operation.TheVariants as op
 use Rattle.version_words.specs.Views.{Goes, calls}
 use Rattle.handover.specs.Parts.{Takes, Loses}
 use Rattle.far_map.specs.declared.refusal.Refusal.{Refusal}
-use Rattle.far_map.specs.Answers.{IsRefused, IsDone, AnswersBy}
-use Rattle.far_map.specs.Loads.{IsPart, Comes, puts, summed, PutsEach, IsLoading, Loads}
+use Rattle.far_map.specs.Answers.{IsRefused, IsDone}
+use Rattle.far_map.specs.Loads.{Comes, puts, summed, PutsEach, IsLoading, Loads}
 use Rattle.far_map.specs.Views.{View, Pairs, Call}
 
 -- ---- sums

@@ -1,18 +1,16 @@
 -- Generations of a map: workers that did their stints behind what was loaded, and one log with all calls.
 use Rattle.std.proofs.Common.{◌≡◌, ◌≢◌, ℕ, ◌+◌, ◌==◌, Bool, true, false, cond, IsTrue, List, [], ◌∷◌, ◌++◌, Option, Some, None, Result, Ok, Err, IfOk, length, map, refl, ap, sym, ◌∙◌, subst, arith, length-append}
-use Rattle.std.specs.Prelude.{⊤}
 use Rattle.std.proofs.lemmas.Bool.Decides.{nat_tests}
 use Rattle.std.proofs.lemmas.List.{append-nil, map-append}
 use Rattle.std.proofs.lemmas.List.Sorted.{IsPermutation-refl, IsPermutation-trans, IsPermutation-append_left}
-use Rattle.std.specs.List.{AllByRecursion, filter}
+use Rattle.std.specs.List.{filter}
 use Rattle.std.specs.List.Sorted.{IsPermutation}
 use mathlib.Core.List.{IsPrefix}
 use Rattle.far_object.specs.Encodings.{enc_text}
 use Rattle.table_core.specs.declared.limits.Limits.{Limits}
 use Rattle.table_core.specs.Maps.{map_of}
 use Rattle.table_core.specs.Logs.{history, passes_of}
-use Rattle.table_core.specs.Lawful.{IsLawful}
-use Rattle.version_words.specs.Views.{IsWhole, AreNone, AreApart, calls, calls_of}
+use Rattle.version_words.specs.Views.{IsWhole, AreNone, calls, calls_of}
 use Rattle.version_words.proofs.Calling.{calls-append}
 use Rattle.version_words.specs.Rows.{limits_of}
 use Rattle.hash_table.specs.declared.caller.Caller.{Caller}
@@ -23,7 +21,7 @@ use Rattle.hash_table.specs.Closes.{IsFrontOf}
 use Rattle.hash_table.specs.Drains.{Drains}
 use Rattle.far_map.specs.Views.{View, Log, Pairs, Call, SessionView}
 use Rattle.far_map.specs.Counts.{no_calls}
-use Rattle.far_map.specs.Loads.{Comes, Loads, puts, summed}
+use Rattle.far_map.specs.Loads.{Comes, Loads, summed}
 use Rattle.far_map.specs.Generations.{calls_by, IsStint, AreStints, IsFrontBy, IsDrainedBy, IsGeneration, IsTurn, Waits, Reached, IsRenewed}
 use Rattle.far_map.specs.Generations.Reached.{Next}
 use Rattle.far_map.proofs.Working.{IsFrontIn, front_in, last_of, none_of}

@@ -1,5 +1,6 @@
 pub mod Trying
 pub mod Working
+pub mod Serving
 pub mod Settling
 pub mod Losses
 pub mod Turning

@@ -1,4 +1,4 @@
--- Workers that have ended, and the end of their run.
+-- The end of a run whose workers have ended.
 use Rattle.std.proofs.Common.{◌≡◌, ◌≢◌, ℕ, suc, ◌+◌, ◌<◌, ◌==◌, Bool, true, false, List, [], ◌∷◌, ◌++◌, Option, None, Result, Ok, Err, IfOk, IfErr, length, map, refl, ap, sym, ◌∙◌, subst, arith, length-append}
 use Rattle.std.specs.Prelude.{slice_index_or, ⊤}
 use Rattle.std.proofs.lemmas.Bool.Decides.{nat_tests}
@@ -24,48 +24,7 @@ use Rattle.hash_table.specs.declared.refusal.OpenFault.TheVariants as opened
 use Rattle.hash_table.specs.Openings.{IsOpenFault, IsNamedFault}
 use Rattle.far_map.specs.Faults.{of_opening, IsOfEntering, IsLater, IsEarlyFault, IsRunFault, IsHandingFault}
 use Rattle.far_map.specs.Generations.{IsFrontBy}
-use Rattle.far_map.specs.Runs.{IsNew, Served, IsServed, AreServed, Worked, IsEnd, IsEndInOrder, AreSeen, IsLeft, IsWorked, IsRun, IsRunBundled, IsRunApart, IsRunThrough, EndsSo}
-
-module _ {V Out : Type 0} (Done : ℕ → SessionView V → SessionView V → Out → Type 0) (limit : ℕ) where
-  served_more : (n : ℕ) (all : List (Served V Out)) (s : Served V Out) → AreServed Done limit n all → s.worker ≡ n + length all → IsNew limit s.begun → Done s.worker s.begun s.ended s.out
-      → AreServed Done limit n (all ++ s ∷ [])
-  served_more n [] s h is new done = (omega (arith, is), new, done, tt)
-  served_more n (t ∷ all) s h is new done = (h.0, h.1, h.2, served_more (n + 1) all s h.3 (omega (arith, is)) new done)
-
-  pub nothing : (count : ℕ) (passes : List (View V)) (outs : List Out) → count ≡ 0 → passes ≡ [] → outs ≡ [] → Worked Done limit count passes outs
-  nothing count passes outs c p o = record { all = []; count_is = sym c; passes_are = sym p; outs_are = sym o; served = tt }
-
-  more : (count last : ℕ) (passes new_passes : List (View V)) (outs new_outs : List Out) (pass : View V) (out : Out)
-      → count ≡ last + 1 → new_passes ≡ passes ++ pass ∷ [] → new_outs ≡ outs ++ out ∷ []
-      → Worked Done limit last passes outs → IsServed (Done last) limit pass out → Worked Done limit count new_passes new_outs
-  more count last passes new_passes outs new_outs pass out c p o w s =
-      let one : Served V Out = record { worker = last; begun = s.begun; ended = s.ended; out = out } in
-      record {
-        all = w.all ++ one ∷ [];
-        count_is = length-append w.all (one ∷ []) ∙ (ap (λ (n : ℕ). n + 1) w.count_is ∙ sym c);
-        passes_are = map-append (λ (t : Served V Out). t.ended.pass) w.all (one ∷ []) ∙ (ap (λ (x : List (View V)). x ++ s.ended.pass ∷ []) w.passes_are ∙ (ap (λ (v : View V). passes ++ v ∷ []) s.pass_is ∙ sym p));
-        outs_are = map-append (λ (t : Served V Out). t.out) w.all (one ∷ []) ∙ (ap (λ (x : List Out). x ++ out ∷ []) w.outs_are ∙ sym o);
-        served = served_more 0 w.all one w.served (omega (arith, w.count_is)) s.new s.done;
-      }
-
-  -- the same of what was answered, where it was
-  pub more_ok : {R E : Type 0} (result : Result R E) (passes_of : R → List (View V)) (outs_of : R → List Out) (count last : ℕ) (passes : List (View V)) (outs : List Out) (pass : View V) (out : Out)
-      → count ≡ last + 1 → IfOk result (λ r. passes_of r ≡ passes ++ pass ∷ []) → IfOk result (λ r. outs_of r ≡ outs ++ out ∷ [])
-      → Worked Done limit last passes outs → IsServed (Done last) limit pass out → IfOk result (λ r. Worked Done limit count (passes_of r) (outs_of r))
-  more_ok (Ok r) passes_of outs_of count last passes outs pass out c p o w s = more count last passes (passes_of r) outs (outs_of r) pass out c p o w s
-  more_ok (Err e) passes_of outs_of count last passes outs pass out c p o w s = tt
-
-  -- the same behind others, where they were answered
-  pub more_behind : {R A E F : Type 0} (result : Result R F) (passes_of : R → List (View V)) (outs_of : R → List Out) (their_passes : A → List (View V)) (their_outs : A → List Out)
-      (others : Result A E) (a : A) (count last before : ℕ) (pass : View V) (out : Out)
-      → others ≡ Ok a → IfOk others (λ x. Worked Done limit before (their_passes x) (their_outs x)) → IsServed (Done last) limit pass out
-      → before ≡ last → count ≡ last + 1 → IfOk result (λ z. passes_of z ≡ their_passes a ++ pass ∷ []) → IfOk result (λ z. outs_of z ≡ their_outs a ++ out ∷ [])
-      → IfOk result (λ z. Worked Done limit count (passes_of z) (outs_of z))
-  more_behind {R} {A} {E} result passes_of outs_of their_passes their_outs others a count last before pass out made w s alike c p o =
-      more_ok result passes_of outs_of count last (their_passes a) (their_outs a) pass out c p o
-      (subst (λ (n : ℕ). Worked Done limit n (their_passes a) (their_outs a)) alike (subst (λ (r : Result A E). IfOk r (λ x. Worked Done limit before (their_passes x) (their_outs x))) made w)) s
-
--- ---- the end
+use Rattle.far_map.specs.Runs.{Worked, IsEnd, IsEndInOrder, AreSeen, IsLeft, IsWorked, IsRun, IsRunBundled, IsRunApart, IsRunThrough, EndsSo}
 
 none_front : {V : Type 0} (pass : View V) (xs ys : List (View V)) → AreNone pass (xs ++ ys) → AreNone pass xs
 none_front pass [] ys h = tt

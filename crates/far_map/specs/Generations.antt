@@ -1,7 +1,6 @@
 -- Generations of a map: each begins with what the one before it left, and no worker sees anything else of that one.
 use Rattle.std.specs.Prelude.{◌≡◌, ℕ, ◌+◌, IsTrue, List, [], ◌∷◌, ◌++◌, length, map, ⊤, Option, Some, None}
 use Rattle.std.specs.List.{AllByRecursion}
-use Rattle.std.specs.List.Sorted.{IsPermutation}
 use mathlib.Core.List.{IsPrefix}
 use Rattle.far_object.specs.Encodings.{enc_text}
 use Rattle.table_core.specs.declared.limits.Limits.{Limits}

@@ -34,14 +34,6 @@ pub record Served (V Out : Type 0) : Type 0 where
   pub ended : SessionView V
   pub out : Out
 
--- a worker did its work by a new session, which ended with this pass, and gave this back
-pub record IsServed {V Out : Type 0} (Done : SessionView V → SessionView V → Out → Type 0) (limit : ℕ) (pass : View V) (out : Out) : Type 0 where
-  pub begun : SessionView V
-  pub ended : SessionView V
-  pub new : IsNew limit begun
-  pub done : Done begun ended out
-  pub pass_is : ended.pass ≡ pass
-
 module _ {V Out : Type 0} (Done : ℕ → SessionView V → SessionView V → Out → Type 0) (limit : ℕ) where
   -- each did its work by a new session; they are counted from here on
   abbrev pub AreServed : ℕ → List (Served V Out) → Type 0

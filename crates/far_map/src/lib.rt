@@ -3,8 +3,8 @@
 //! # One put, from here to the table
 //!
 //! A program writes one `impl` of `Work` (`work.rt`), and hands it to `run` (`running.rt`): that opens the table, the queue of spares
-//! and the evictor, picks their names in types, has each worker do the work on a thread of its own (`sharing.rt`) beside the
-//! evictor's (`evicting.rt`), and closes the map (`closing.rt`). A worker has a session, which it sees through `Calls` (`calls.rt`).
+//! and the evictor, picks their names in types, has each worker do the work (`single.rt`) on a thread of its own (`sharing.rt`) beside
+//! the evictor's (`evicting.rt`), and closes the map (`closing.rt`). A worker has a session, which it sees through `Calls` (`calls.rt`).
 //! The session's put (`session.rt`) is one call of the table (`asked.rt`), tried again where room has to be made first
 //! (`answering.rt`, `room.rt`); behind it the spare that it left is reclaimed (`keeping.rt`), and the call is counted
 //! (`stats.rt`). A value is read where it lies by `reading.rt`.
@@ -35,8 +35,8 @@ mod running;
 mod session;
 mod settings;
 mod sharing;
+mod single;
 mod stats;
-mod stinting;
 mod stints;
 mod texts;
 mod updating;

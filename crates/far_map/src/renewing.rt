@@ -25,7 +25,7 @@ use crate::fault::{RunFault, of_opening};
 use crate::loading::load;
 use crate::opening::map_over;
 use crate::settings::{Settings, setting_of};
-use crate::stinting::serve_stints;
+use crate::sharing::serve_stints;
 use crate::stints::{After, Carried, Stints};
 use crate::values::Value;
 use far_device::Device;

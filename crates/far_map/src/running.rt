@@ -11,7 +11,7 @@ use crate::ending::{End, Given, NoTaker};
 use crate::fault::{RunFault, of_opening};
 use crate::opening::map_over;
 use crate::settings::{Settings, setting_of};
-use crate::sharing::serve;
+use crate::single::serve;
 use crate::values::Value;
 use crate::work::Work;
 use far_device::Device;

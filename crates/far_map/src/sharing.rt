@@ -1,14 +1,21 @@
-//! One worker after another, side by side as far as threads can be started, and beside the evictor.
+//! One stint of each worker, side by side as far as threads can be started, and beside the evictor.
+//!
+//! # What a stint sees
+//!
+//! Before its session begins each worker learns the mark of what was put before, so that its first call already stands behind all of
+//! that. And no clause says of a stint that it leaves its session in place, so the pass's number is looked at.
 ghost use Rattle.std.specs.Prelude.{◌≡◌, ◌<◌, ◌^◌, ◌++◌, ◌∷◌, [], map, vec_len, IfOk, IfErr};
 ghost use Rattle.std.specs.Thread.{IsSync, IsSend};
-ghost use Rattle.far_map.specs.declared.fault.RunFault.TheVariants.{Memory};
-ghost use Rattle.far_map.specs.Runs.{IsServed, Worked};
+ghost use Rattle.far_map.specs.declared.fault.RunFault.TheVariants.{Memory, PassesSpent};
+ghost use Rattle.far_map.specs.Faults.{IsOfEntering};
+ghost use Rattle.far_map.specs.Generations.{IsStint, AreStints};
 
 use crate::entering::Newcomer;
 use crate::fault::RunFault;
 use crate::map::FarMap;
+use crate::session::Session;
+use crate::stints::Stints;
 use crate::values::Value;
-use crate::work::Work;
 use far_device::Device;
 use far_object::Text;
 use hash_table::Caller;
@@ -16,13 +23,13 @@ use std::alloc::Global;
 use std::sync::Wait;
 use std::thread::{Threads, join};
 use swapper::QueueNaming;
-use version_words::Naming;
+use version_words::{Mark, Naming, PassHolder};
 
 /// The callers of workers that have ended, and what they gave back, in the order of the workers.
 pub(crate) type Ended<V, J, T> = (Vec<Caller<Text, V, J>>, Vec<T>);
 
 /// The worker's caller and what it gave back, behind those of the others.
-pub(crate) fn with_last<V: Value, J: Naming, T: Drop>(
+fn with_last<V: Value, J: Naming, T: Drop>(
     others: Ended<V, J, T>,
     last: (Caller<Text, V, J>, T),
 ) -> Result<Ended<V, J, T>, RunFault>
@@ -38,105 +45,140 @@ pub(crate) fn with_last<V: Value, J: Naming, T: Drop>(
     Ok((callers, outs))
 }
 
-/// One worker: its session, from its beginning to its end.
+/// The number of the caller's pass.
+fn number_of<V: Value, J: Naming>(caller: &Caller<Text, V, J>) -> u32
+    ensures { result ≡ caller.now.pass.number }
+{
+    caller.pass().number()
+}
+
+impl<'m, V: Value, J: Naming, B: QueueNaming, D: Device> Session<'m, V, J, B, D> {
+    /// The number of its pass.
+    fn number(&self) -> u32
+        ensures { result ≡ self.now.pass.number }
+    {
+        number_of(&self.seated.caller)
+    }
+}
+
+/// One worker's stint, behind the mark. `PassesSpent` comes where it left another session than it was handed.
 fn one<V, J, B, D, W, R>(
     rt: &R,
     alloc: Global,
     far: &FarMap<V, J, B, D>,
+    mark: &Mark<Text, V, J>,
     work: &W,
     newcomer: Newcomer<V, J, B>,
+    state: W::State,
     worker: u32,
-) -> (Caller<Text, V, J>, W::Out)
+) -> Result<(Caller<Text, V, J>, W::State), RunFault>
 where
     V: Value,
     J: Naming,
     B: QueueNaming,
     D: Device,
-    W: Work<V>,
+    W: Stints<V>,
     R: Wait,
-    ensures { IsServed (λ begun ended out. W.done work.now worker J.limits begun ended out) far.now.table.limit result.0.pass result.1 }
+    ensures stint { IfOk result (λ r. IsStint (λ begun ended before after. W.done work.now worker J.limits begun ended before after) far.now.table.limit mark.now r.0.pass state r.1) }
+    ensures fault { IfErr result (λ fault. fault ≡ PassesSpent) }
 {
-    let mut me = far.begin(alloc, newcomer);
-    let out = work.work(rt, alloc, worker, &mut me);
-    (me.leave(), out)
+    let mut me = far.begin_behind(alloc, newcomer, mark);
+    let number = me.number();
+    let kept = work.stint(rt, alloc, worker, &mut me, state);
+    let caller = me.leave();
+    if number_of(&caller) != number {
+        return Err(RunFault::PassesSpent);
+    }
+    Ok((caller, kept))
 }
 
-/// A worker for each newcomer: the last on a thread of its own, and the others on this one and theirs. `Memory` comes where a
-/// growth is refused.
-fn workers<V, J, B, D, W, R>(
+/// A stint for each newcomer, from the state of its place: the last on a thread of its own, and the others on this one and theirs.
+/// `Memory` comes where a growth is refused.
+fn stints<V, J, B, D, W, R>(
     rt: &R,
     alloc: Global,
     far: &FarMap<V, J, B, D>,
+    mark: &Mark<Text, V, J>,
     work: &W,
     mut newcomers: Vec<Newcomer<V, J, B>>,
-) -> Result<Ended<V, J, W::Out>, RunFault>
+    mut states: Vec<W::State>,
+) -> Result<Ended<V, J, W::State>, RunFault>
 where
     V: Value + Send + Sync,
     J: Naming + Send + Sync,
     B: QueueNaming + Send + Sync,
     D: Device + Send,
-    W: Work<V>,
+    W: Stints<V>,
     R: Threads + Wait + Sync,
     requires few { vec_len newcomers < 2 ^ 32 }
-    ensures worked { IfOk result (λ r. Worked (λ worker begun ended out. W.done work.now worker J.limits begun ended out) far.now.table.limit (vec_len newcomers) (map (λ c. c.pass) r.0.items) r.1.items) }
-    ensures fault { IfErr result (λ fault. fault ≡ Memory) }
+    requires each { vec_len states ≡ vec_len newcomers }
+    ensures worked { IfOk result (λ r. AreStints (λ worker begun ended before after. W.done work.now worker J.limits begun ended before after) far.now.table.limit mark.now 0 (map (λ c. c.pass) r.0.items) states.items r.1.items) }
+    ensures fault { IfErr result IsOfEntering }
 {
     let Some(newcomer) = newcomers.pop() else {
         return Ok((Vec::new(alloc), Vec::new(alloc)));
     };
+    let Some(state) = states.pop() else {
+        unreachable!();
+    };
     let last = newcomers.len() as u32;
     if last == 0 {
-        let alone = one(rt, alloc, far, work, newcomer, 0);
+        let alone = one(rt, alloc, far, mark, work, newcomer, state, 0)?;
         return with_last((Vec::new(alloc), Vec::new(alloc)), alone);
     }
     let (own, others) = join(
         rt,
-        || -> (Caller<Text, V, J>, W::Out)
+        || -> Result<(Caller<Text, V, J>, W::State), RunFault>
             requires { IsSync R.row }
-            ensures { IsServed (λ begun ended out. W.done work.entry.now last J.limits begun ended out) far.entry.now.table.limit result.0.pass result.1 }
-        { one(rt, alloc, far, work, newcomer, last) },
-        || -> Result<Ended<V, J, W::Out>, RunFault>
-            requires { IsSync R.row × IsSend V.row × IsSync V.row × IsSend J.row × IsSync J.row × IsSend B.row × IsSync B.row × IsSend D.row × IsSync W.row × IsSend W.Out.row × (vec_len newcomers < 2 ^ 32) }
-            ensures worked { IfOk result (λ r. Worked (λ worker begun ended out. W.done work.entry.now worker J.limits begun ended out) far.entry.now.table.limit (vec_len newcomers) (map (λ c. c.pass) r.0.items) r.1.items) }
-            ensures fault { IfErr result (λ fault. fault ≡ Memory) }
-        { workers(rt, alloc, far, work, newcomers) },
+            ensures stint { IfOk result (λ r. IsStint (λ begun ended before after. W.done work.entry.now last J.limits begun ended before after) far.entry.now.table.limit mark.entry.now r.0.pass state r.1) }
+            ensures fault { IfErr result (λ fault. fault ≡ PassesSpent) }
+        { one(rt, alloc, far, mark, work, newcomer, state, last) },
+        || -> Result<Ended<V, J, W::State>, RunFault>
+            requires { IsSync R.row × IsSend V.row × IsSync V.row × IsSend J.row × IsSync J.row × IsSend B.row × IsSync B.row × IsSend D.row × IsSync W.row × IsSend W.State.row × (vec_len newcomers < 2 ^ 32) × (vec_len states ≡ vec_len newcomers) }
+            ensures worked { IfOk result (λ r. AreStints (λ worker begun ended before after. W.done work.entry.now worker J.limits begun ended before after) far.entry.now.table.limit mark.entry.now 0 (map (λ c. c.pass) r.0.items) states.items r.1.items) }
+            ensures fault { IfErr result IsOfEntering }
+        { stints(rt, alloc, far, mark, work, newcomers, states) },
     );
     let others = others?;
+    let own = own?;
     with_last(others, own)
 }
 
-/// The workers beside the evictor's thread, where there are several. Where that can't be started its loop begins when all workers
+/// The stints beside the evictor's thread, where there are several. Where that can't be started its loop begins when all workers
 /// have ended, and ends at once: sessions make room by themselves.
-pub(crate) fn serve<V, J, B, D, W, R>(
+pub(crate) fn serve_stints<V, J, B, D, W, R>(
     rt: &R,
     alloc: Global,
     far: &FarMap<V, J, B, D>,
+    mark: &Mark<Text, V, J>,
     work: &W,
     newcomers: Vec<Newcomer<V, J, B>>,
-) -> Result<Ended<V, J, W::Out>, RunFault>
+    states: Vec<W::State>,
+) -> Result<Ended<V, J, W::State>, RunFault>
 where
     V: Value + Send + Sync,
     J: Naming + Send + Sync,
     B: QueueNaming + Send + Sync,
     D: Device + Send,
-    W: Work<V>,
+    W: Stints<V>,
     R: Threads + Wait + Sync,
     requires few { vec_len newcomers < 2 ^ 32 }
-    ensures worked { IfOk result (λ r. Worked (λ worker begun ended out. W.done work.now worker J.limits begun ended out) far.now.table.limit (vec_len newcomers) (map (λ c. c.pass) r.0.items) r.1.items) }
-    ensures fault { IfErr result (λ fault. fault ≡ Memory) }
+    requires each { vec_len states ≡ vec_len newcomers }
+    ensures worked { IfOk result (λ r. AreStints (λ worker begun ended before after. W.done work.now worker J.limits begun ended before after) far.now.table.limit mark.now 0 (map (λ c. c.pass) r.0.items) states.items r.1.items) }
+    ensures fault { IfErr result IsOfEntering }
 {
     if newcomers.len() < 2 {
-        return workers(rt, alloc, far, work, newcomers);
+        return stints(rt, alloc, far, mark, work, newcomers, states);
     }
     let (_, done) = join(
         rt,
         || far.evict(rt),
-        || -> Result<Ended<V, J, W::Out>, RunFault>
-            requires { IsSync R.row × IsSend V.row × IsSync V.row × IsSend J.row × IsSync J.row × IsSend B.row × IsSync B.row × IsSend D.row × IsSync W.row × IsSend W.Out.row × (vec_len newcomers < 2 ^ 32) }
-            ensures worked { IfOk result (λ r. Worked (λ worker begun ended out. W.done work.entry.now worker J.limits begun ended out) far.entry.now.table.limit (vec_len newcomers) (map (λ c. c.pass) r.0.items) r.1.items) }
-            ensures fault { IfErr result (λ fault. fault ≡ Memory) }
+        || -> Result<Ended<V, J, W::State>, RunFault>
+            requires { IsSync R.row × IsSend V.row × IsSync V.row × IsSend J.row × IsSync J.row × IsSend B.row × IsSync B.row × IsSend D.row × IsSync W.row × IsSend W.State.row × (vec_len newcomers < 2 ^ 32) × (vec_len states ≡ vec_len newcomers) }
+            ensures worked { IfOk result (λ r. AreStints (λ worker begun ended before after. W.done work.entry.now worker J.limits begun ended before after) far.entry.now.table.limit mark.entry.now 0 (map (λ c. c.pass) r.0.items) states.items r.1.items) }
+            ensures fault { IfErr result IsOfEntering }
         {
-            let done = workers(rt, alloc, far, work, newcomers);
+            let done = stints(rt, alloc, far, mark, work, newcomers, states);
             far.stop_evicting();
             done
         },

@@ -1,4 +1,4 @@
-use Rattle.std.proofs.Common.{◌≡◌, List, arith}
+use Rattle.std.proofs.Common.{arith}
 use Rattle.handover.specs.Parts.{Takes}
 use Rattle.far_map.specs.Loads.{lost_of}
 use Rattle.far_map.proofs.Carrying.{none_is, some_is, loading_less, loading_more}

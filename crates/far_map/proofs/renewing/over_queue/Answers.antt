@@ -1,4 +1,4 @@
-use Rattle.std.proofs.Common.{◌≡◌, ℕ, sym, ◌∙◌, subst}
+use Rattle.std.proofs.Common.{ℕ, sym, subst}
 use Rattle.far_map.specs.Loads.{Loads}
 use Rattle.far_map.proofs.Working.{entering_fault}
 use Rattle.far_map.proofs.Generating.{last_turn, next_turn}

@@ -1,4 +1,4 @@
-use Rattle.std.proofs.Common.{ℕ, List, [], ◌∷◌, ◌++◌, length, Option, Ok, Err, sym, ap, subst, ◌∙◌, inr, arith}
+use Rattle.std.proofs.Common.{ℕ, List, [], ◌∷◌, ◌++◌, Option, Ok, Err, sym, ap, subst, ◌∙◌, inr, arith}
 use Rattle.std.proofs.lemmas.List.{length-append}
 use Rattle.table_core.specs.declared.operation.Operation.TheVariants.{Get}
 use Rattle.far_map.specs.Many.{AreGot}

@@ -1,5 +1,5 @@
 use Rattle.std.proofs.Common.{length}
-use Rattle.far_map.proofs.stinting.+fn-stints-join+arg3+stints.Given as goal
+use Rattle.far_map.proofs.sharing.+fn-stints-join+arg3+stints.Given as goal
 
 abbrev pub decreases-join+arg3 : goal.decreases-join+arg3
 decreases-join+arg3 g l = length l.newcomers.items

@@ -1,6 +1,5 @@
-use Rattle.std.proofs.Common.{rules, ◌≡◌}
 use Rattle.far_map.proofs.Generating.{stint_of}
-use Rattle.far_map.proofs.stinting.one.Goals as goal
+use Rattle.far_map.proofs.sharing.one.Goals as goal
 
 pub returns-clause-stint : goal.returns-clause-stint
 returns-clause-stint g c =

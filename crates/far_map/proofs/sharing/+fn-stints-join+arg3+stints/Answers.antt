@@ -1,6 +1,6 @@
 use Rattle.std.proofs.Common.{rules, map, arith}
 use Rattle.far_map.proofs.Generating.{stint_behind}
-use Rattle.far_map.proofs.stinting.+fn-stints-join+arg3+stints.Goals as goal
+use Rattle.far_map.proofs.sharing.+fn-stints-join+arg3+stints.Goals as goal
 
 pub returns-clause-worked : goal.returns-clause-worked
 returns-clause-worked g t c =
