@@ -7,7 +7,7 @@ LOAD is the program of bench/load, FOLDER has the scratch files. Over the last h
 - open files of each: always as many;
 - p99 of the gets of small values: its median in the last quarter is at most 1.5 times that in the third.
 
-No more values may be lost than INFO says were evicted.
+No more values may be lost than INFO says were evicted, and none by a renewal of the map.
 """
 import json
 import os
@@ -26,6 +26,8 @@ MOST_RISE = 0.5
 MOST_P99 = 1.5
 MEMORY = "64m"
 LIMIT = "192m"
+# So few that the map is renewed every few minutes.
+NAMES = 5_000_000
 MEBIBYTE = 1 << 20
 # Both together have 260 MB of keys and values, which is more than memory and disk hold.
 SMALL = ["--keys", "300000", "--value", "512", "--gets", "80", "--draw", "zipf", "--connections", "12", "--threads", "1"]
@@ -37,7 +39,8 @@ SIZES = [300 << step for step in range(9)]
 SIZED = 8
 GROWING = ("program, MiB", "front, MiB", "disk, MiB")
 FILES = ("its files", "front's files")
-COLUMNS = ("minute", *GROWING, *FILES, "far objects", "clients", "calls/s", "p99, µs", "hits, %", "checked/s", "lost", "evicted", "errors")
+COLUMNS = ("minute", *GROWING, *FILES, "far objects", "clients", "calls/s", "p99, µs", "hits, %", "checked/s", "lost", "evicted", "errors",
+           "renewals", "pause, ms")
 
 
 class Failed(Exception):
@@ -88,9 +91,11 @@ class Soak:
         told = self.control.info()
         if lost > int(told["evicted_keys"]):
             raise Failed(f"{lost} values are lost, and {told['evicted_keys']} were evicted")
+        if {told["renewal_lost_pairs"], told["renewal_lost_buckets"]} != {"0"}:
+            raise Failed(f"a renewal lost {told['renewal_lost_pairs']} pairs and {told['renewal_lost_buckets']} buckets")
         return {"program, MiB": resident(program), "front, MiB": resident(front), "disk, MiB": int(told["far_bytes"]) / MEBIBYTE,
                 "its files": self.server.files("farserve"), "front's files": self.server.files("front"),
-                "far objects": int(told["far_objects"]), "clients": int(told["connected_clients"]), "lost": lost, "evicted": int(told["evicted_keys"])}
+                "far objects": int(told["far_objects"]), "clients": int(told["connected_clients"]), "lost": lost, "evicted": int(told["evicted_keys"]), "renewals": int(told["renewals"]), "pause, ms": int(told["renewal_last_ms"])}
 
     def line(self):
         """Runs both loads for ten seconds, and prints a line."""
@@ -157,12 +162,13 @@ def judge(rows):
     is_flat = last <= MOST_P99 * third
     is_well &= is_flat
     slope = growth(half, "p99, µs")[2]
+    print(f"{half[-1]['renewals'] - half[0]['renewals']} renewals, the longest pause {max(it['pause, ms'] for it in half)} ms")
     print(f"p99: {slope:+.1f} µs a minute, {third:.0f} µs and then {last:.0f}, {'flat' if is_flat else 'GROWS'} (at most {MOST_P99} times)")
     return is_well
 
 
 def main(load, folder, minutes):
-    words = ["--far-limit", LIMIT, "--policy", "allkeys"]
+    words = ["--far-limit", LIMIT, "--policy", "allkeys", "--names", NAMES]
     with Farserve(folder, *words, memory=MEMORY) as server:
         soak = Soak(load, server, float(minutes))
         try:

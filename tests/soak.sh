@@ -1,11 +1,12 @@
 #!/usr/bin/env bash
 # Runs bin/farserve for long under mixed load and looks whether it grows: soak.sh [--minutes N], 60 if not given.
 #
-# It has 64 MiB of memory, a bound of its disk and `--policy allkeys`, and more data than both: values are evicted all along. Two
-# of bench/load's loads, which begin anew every ten seconds, and connections of redis-py with expiry, INCR, APPEND, DEL, MGET and
-# pipelines check that no value is wrong. soak.py prints a line every ten seconds: resident memory, open files, disk, clients,
-# calls a second, p99. At the end it says whether memory, files, disk and p99 stayed flat over the last half; the bounds stand
-# in its head. It is no part of bin/test. On a machine with other work p99 may fail a short run.
+# It has 64 MiB of memory, a bound of its disk and `--policy allkeys`, and more data than both: values are evicted all along. Its
+# names are few, so that its map is renewed every few minutes. Two of bench/load's loads, which begin anew every ten seconds, and
+# connections of redis-py with expiry, INCR, APPEND, DEL, MGET and pipelines check that no value is wrong. soak.py prints a line
+# every ten seconds: resident memory, open files, disk, clients, calls a second, p99, renewals. At the end it says whether memory,
+# files, disk and p99 stayed flat over the last half; the bounds stand in its head. It is no part of bin/test. On a machine with
+# other work p99 may fail a short run.
 #
 # The status is 1 where one has grown, a value was wrong, or the server failed; and 77 where something is missing that it needs:
 # python3-redis of Debian, and rustc. The scratch files lie in FAR_DIR, /var/tmp if not set, which should be on a disk.

@@ -8,3 +8,4 @@ mod Placing
 mod Executing
 mod Passing
 mod Stepping
+mod Stints

@@ -10,4 +10,5 @@ pub mod Logins
 pub mod Runs
 pub mod Answers
 pub mod Services
+pub mod Left
 pub mod Serving

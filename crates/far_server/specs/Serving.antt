@@ -1,38 +1,96 @@
--- What a lane does, from the bytes that it reads to those that it writes.
-use Rattle.std.specs.Prelude.{◌≡◌, ℕ, ◌<◌, ◌≤◌, List, Option, IfOk}
+-- What a lane does, from the bytes that it reads to those that it writes, and from one map to the next.
+use Rattle.std.specs.Prelude.{◌≡◌, ◌⊎◌, ℕ, ◌<◌, ◌≤◌, List, [], ◌++◌, map, replicate, Option, Ok, Err, ⊤}
 use Rattle.std.specs.Io.KnownBytes.{Consumes, Appends}
 use Rattle.table_core.specs.declared.limits.Limits.{Limits}
 use Rattle.resp.specs.declared.limits.Limits.{Limits as LimitsOfRequests}
-use Rattle.lanes.specs.Lanes.{Frame}
-use Rattle.lanes.specs.Served.{Served}
-use Rattle.lanes.specs.Frames.{frames_bytes}
+use Rattle.lanes.specs.declared.over.Wire.{Wire}
+use Rattle.lanes.specs.Marks.{Mark, said, stops}
+use Rattle.lanes.specs.Calls.{Exchange, Step, step_marks, Run}
+use Rattle.lanes.specs.Lanes.{Frame, marks, IsSettledAt}
+use Rattle.lanes.specs.Frames.{frames_bytes, WireTells}
+use Rattle.lanes.specs.Standing.{Standing}
 use Rattle.far_server.specs.Sessions.{Session}
-use Rattle.far_server.specs.Services.{Lane, IsNew, Acts}
+use Rattle.far_server.specs.Services.{Lane, lane_of, IsNew, Acts}
 use Rattle.far_server.specs.Sweeps.{Sweeps}
+use Rattle.far_server.specs.Left.{LeftView}
 use Rattle.far_server.specs.declared.settings.ServerSettings.{ServerSettings}
-use Rattle.far_server.specs.declared.lane.WorkerEnd.{WorkerEnd}
-use Rattle.far_server.specs.declared.lane.WorkerEnd.TheVariants as worker_end
+use Rattle.far_server.specs.declared.ending.WorkerEnd.{WorkerEnd}
+use Rattle.far_server.specs.declared.ending.WorkerEnd.TheVariants as worker_end
+use Rattle.far_server.specs.declared.states.WorkerState.{WorkerState}
+use Rattle.far_server.specs.declared.states.WorkerState.TheVariants as state
 
-module _ {In Out : Type 0} (remaining : In → Option (List ℕ)) (contents : Out → Option (List ℕ)) (Opens : In → Out → Type 0) where
-  -- From the reader and the writer that were opened for it a lane took frames, and sent frames: on each connection the replies to the
-  -- requests that came, in order. It knew no connection at first, and all calls are those of its session, from its first to its last.
-  pub record Serves (l : Limits) (password : Option (List ℕ)) (most : ℕ) (limits : LimitsOfRequests) (old new : Session) (input_left : In) (output_left : Out) : Type 0 where
-    pub input : In
-    pub output : Out
-    pub opened : Opens input output
+module _ {In Out : Type 0} where
+  -- so many workers that have not begun
+  abbrev pub all_fresh : ℕ → List (WorkerState In Out)
+  all_fresh count = replicate count state.Fresh
+
+  -- workers that have ended so
+  abbrev pub all_ended : List (WorkerEnd In Out) → List (WorkerState In Out)
+  all_ended ends = map state.Ended ends
+
+  -- what a lane knows of its connections by what it keeps
+  abbrev pub Knows : Limits → Option (List ℕ) → ℕ → WorkerState In Out → Lane → Type 0
+  Knows l password most state.Fresh lane = IsNew l password most lane
+  Knows l password most (state.Left left) lane = lane ≡ lane_of password lane.session left.connections
+  Knows l password most (state.Ended end) lane = ⊤
+
+module _ {In Out : Type 0} (remaining : In → Option (List ℕ)) (contents : Out → Option (List ℕ)) where
+  -- From this reader and this writer on a lane took frames, and sent frames, to their end: on each connection the requests that came are
+  -- those of the exchanges that were said, in order, and what was sent are the replies to them.
+  pub record HasServed (limits : LimitsOfRequests) (input input_left : In) (output output_left : Out) (past : List (Mark Exchange)) : Type 0 where
     pub came : List Frame
     pub sent : List Frame
     pub consumed : Consumes (remaining input) (remaining input_left) (frames_bytes came)
     pub appended : Appends (contents output) (contents output_left) (frames_bytes sent)
-    pub first : Lane
-    pub last : Lane
-    pub unknown : IsNew l password most first
-    pub begun : first.session ≡ old
-    pub ended : last.session ≡ new
-    pub served : Served (Acts l password most) limits first last came sent
+    pub each : (c k : ℕ) → IsSettledAt limits c k (marks came) (marks sent) (said c k past)
+    pub left : (c : ℕ) → stops c past ≡ stops c (marks sent)
 
-  -- A worker of a server did its work: a lane served, or behind all lanes the sweep took keys out.
-  abbrev pub IsWork : Limits → ServerSettings → ℕ → Session → Session → WorkerEnd In Out → Type 0
-  IsWork l settings worker old new (worker_end.Lane served) =
-      (worker < settings.lanes) × IfOk served (λ parts. Serves l settings.password settings.longest_value settings.requests old new parts.0 parts.1)
-  IsWork l settings worker old new worker_end.Sweep = (settings.lanes ≤ worker) × Sweeps l settings.options.evicts old new
+  -- How a worker stands by what it keeps, whose frames began there: these exchanges were said on its connections, and no reply is owed.
+  abbrev pub StandsFrom : LimitsOfRequests → Wire In Out → WorkerState In Out → List (Mark Exchange) → Type 0
+  StandsFrom limits start state.Fresh past = ⊥
+  StandsFrom limits start (state.Left left) past = (left.wire.limits ≡ limits) × Standing (WireTells remaining contents) limits start left.wire left.views past
+  StandsFrom limits start (state.Ended (worker_end.Lane (Ok parts))) past = HasServed limits start.input parts.0 start.output parts.1 past
+  StandsFrom limits start (state.Ended other) past = ⊤
+
+  -- A stint of a lane that had left a map, by one session, from its first call to its last: wherever its frames began, and whatever was said
+  -- since, steps lead to how it stands now, and what is said then are their exchanges, too. What it knows of its connections goes on.
+  pub record IsGoing (l : Limits) (password : Option (List ℕ)) (most : ℕ) (old new : Session) (left : LeftView In Out) (after : WorkerState In Out) : Type 0 where
+    pub last : Lane
+    pub ended : last.session ≡ new
+    pub knows : Knows l password most after last
+    pub went_on : (start : Wire In Out) (past : List (Mark Exchange)) → Standing (WireTells remaining contents) left.wire.limits start left.wire left.views past
+        → (steps : List Step) × Run (Acts l password most) (lane_of password old left.connections) steps last × StandsFrom left.wire.limits start after (past ++ step_marks steps)
+
+  -- the same where no fault ends it
+  abbrev pub GoesOn : Limits → Option (List ℕ) → ℕ → Session → Session → LeftView In Out → WorkerState In Out → Type 0
+  GoesOn l password most old new left (state.Ended (worker_end.Lane (Err why))) = ⊤
+  GoesOn l password most old new left after = IsGoing l password most old new left after
+
+  module _ (Opens : In → Out → Type 0) where
+    -- The same of one that has not begun, by which nothing was said, or whose reader and writer were opened for it.
+    abbrev pub Stands : LimitsOfRequests → WorkerState In Out → List (Mark Exchange) → Type 0
+    Stands limits state.Fresh past = past ≡ []
+    Stands limits kept past = (start : Wire In Out) × Opens start.input start.output × StandsFrom limits start kept past
+
+    -- A stint of a lane, by one session, from its first call to its last: however the lane stood before, and whatever was said since its
+    -- beginning, steps lead to how it stands now, and what is said then are their exchanges, too. What it knows of its connections goes on.
+    pub record IsStintOfLane (l : Limits) (settings : ServerSettings) (old new : Session) (before after : WorkerState In Out) : Type 0 where
+      pub first : Lane
+      pub last : Lane
+      pub begun : first.session ≡ old
+      pub ended : last.session ≡ new
+      pub knew : Knows l settings.password settings.longest_value before first
+      pub knows : Knows l settings.password settings.longest_value after last
+      pub went_on : (past : List (Mark Exchange)) → Stands settings.requests before past
+          → (steps : List Step) × Run (Acts l settings.password settings.longest_value) first steps last × Stands settings.requests after (past ++ step_marks steps)
+
+    -- the same where no fault ends it
+    abbrev pub ServesOn : Limits → ServerSettings → Session → Session → WorkerState In Out → WorkerState In Out → Type 0
+    ServesOn l settings old new before (state.Ended (worker_end.Lane (Err why))) = ⊤
+    ServesOn l settings old new before after = IsStintOfLane l settings old new before after
+
+    -- a stint of a worker of a server: a lane serves, or behind all lanes the sweep takes keys out
+    abbrev pub IsStint : Limits → ServerSettings → ℕ → Session → Session → WorkerState In Out → WorkerState In Out → Type 0
+    IsStint l settings worker old new before after =
+        ((worker < settings.lanes) × ServesOn l settings old new before after)
+        ⊎ ((settings.lanes ≤ worker) × Sweeps l settings.options.evicts old new × (after ≡ state.Ended worker_end.Sweep))

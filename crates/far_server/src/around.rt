@@ -1,6 +1,7 @@
 //! What the connections of a lane share.
 
 use crate::deadlines::has_deadline;
+use crate::renewal::Renewal;
 use crate::settings::ServerSettings;
 use crate::tally::{Tallies, Tally, count};
 use crate::usage::FarUsage;
@@ -19,6 +20,7 @@ pub(crate) struct Around<'a, C, R> {
     pub(crate) settings: &'a ServerSettings,
     pub(crate) tallies: &'a Tallies,
     pub(crate) usage: &'a FarUsage,
+    pub(crate) renewal: &'a Renewal,
     /// Its number; that of the sweep is behind those of all lanes.
     pub(crate) lane: u32,
     /// When the server was started.
@@ -40,6 +42,10 @@ pub(crate) struct Desk {
     pub(crate) tally: Tally,
     /// What of that was told.
     pub(crate) told: Tally,
+    /// What was counted before the session began.
+    pub(crate) begun: Tally,
+    /// Whether a command could not read a bucket that only a renewed map is rid of.
+    pub(crate) is_stuck: bool,
     /// Bytes that objects in frames may have.
     pub(crate) most_in_frames: u64,
     /// Whether the sweep makes room, so that it is worth waiting for.
@@ -55,10 +61,19 @@ impl Desk {
             stored: Vec::new(alloc),
             tally,
             told: tally,
+            begun: tally,
+            is_stuck: false,
             most_in_frames: settings.map.bytes,
             is_swept: settings.options.evicts,
             bed: Parker::new(),
         }
+    }
+
+    /// Goes on from what was counted by earlier sessions.
+    pub(crate) fn begin(&mut self, counted: Tally) {
+        self.tally = counted;
+        self.told = counted;
+        self.begun = counted;
     }
 
     /// Counts a key that was set to what is stored here, and had none before or some.
@@ -71,7 +86,7 @@ impl Desk {
 
     /// Tells what was counted, and what the session has read and moved.
     pub(crate) fn tell<C, R>(&mut self, around: &Around<'_, C, R>, traffic: &Traffic) {
-        self.tally.see(traffic);
+        self.tally.see(&self.begun, traffic);
         around.tallies.tell(around.lane, &self.told, &self.tally);
         self.told = self.tally;
     }

@@ -1,48 +1,29 @@
-//! What each worker of a server does: it is a lane, or behind all lanes the sweep.
-ghost use Rattle.std.specs.Prelude.{◌≡◌, List, IfOk, OnOk};
-ghost use Rattle.std.specs.Io.KnownBytes.{Consumes, Appends};
-ghost use Rattle.lanes.specs.Lanes.{Frame};
-ghost use Rattle.lanes.specs.Frames.{frames_bytes};
-ghost use Rattle.lanes.specs.Served.{Served};
+//! What each worker of a server does, from one map to the next: it is a lane, or behind all lanes the sweep.
+ghost use Rattle.std.specs.Prelude.{◌≡◌, false, IfOk, OnOk};
+ghost use Rattle.lanes.specs.Frames.{WireTells};
+ghost use Rattle.lanes.specs.Standing.{GoesOnBy};
 ghost use Rattle.far_server.specs.Services.{Acts, lane_of};
-ghost use Rattle.far_server.specs.Serving.{Serves};
+ghost use Rattle.far_server.specs.Left.{HasStood};
+ghost use Rattle.far_server.specs.Serving.{GoesOn, ServesOn};
+ghost use Rattle.far_server.specs.declared.states.WorkerState.TheVariants as state;
 
 use crate::around::Around;
-use crate::pipes::{OpenFault, Pipes};
+use crate::ending::{LaneEnd, WorkerEnd};
+use crate::pipes::Pipes;
+use crate::renewal::Renewal;
 use crate::server::{Kept, Server};
 use crate::settings::ServerSettings;
+use crate::states::{LeftLane, WorkerState};
 use crate::sweeping::sweep;
 use crate::tally::Tallies;
 use crate::usage::FarUsage;
 use far_blob::Blob;
-use far_map::{Calls, Work};
-use lanes::{LaneFault, serve_over};
-use resp::Limits;
+use far_map::{After, Calls, Carried, Stints};
+use lanes::{Holds, LaneFault, Pause, Wire, serve_on};
 use std::alloc::Global;
 use std::io::{BufRead, Write};
 use std::rt::Clock;
 use std::sync::Wait;
-use thiserror::Error;
-
-/// Why a lane ended before its requests did.
-#[derive(Clone, Copy, Debug, PartialEq, Eq, Error)]
-pub enum LaneEnd {
-    /// Its pipes can't be opened.
-    #[error("{0}")]
-    Pipes(OpenFault),
-    /// It can't go on.
-    #[error("{0}")]
-    Lane(LaneFault),
-}
-
-/// What a worker of a server gives back.
-#[derive(Drop)]
-pub enum WorkerEnd<I: Drop, O: Drop> {
-    /// A lane: its reader and writer, where it served to their end.
-    Lane(Result<(I, O), LaneEnd>),
-    /// The sweep, which is the last worker.
-    Sweep,
-}
 
 /// The lanes of a server, and what they share.
 #[derive(Drop)]
@@ -50,73 +31,130 @@ pub(crate) struct Lanes<'a, P, C> {
     pub(crate) settings: &'a ServerSettings,
     pub(crate) tallies: &'a Tallies,
     pub(crate) usage: &'a FarUsage,
+    pub(crate) renewal: &'a Renewal,
     pub(crate) pipes: &'a P,
     pub(crate) clock: &'a C,
     pub(crate) started: u64,
 }
 
-/// Serves the frames of a reader to its end, by a server.
+/// Serves the frames of a lane from where it left, by a server.
 fn serve_frames<S: Calls<Blob>, C: Clock, R: Wait, I: BufRead + Drop, O: Write + Drop>(
     alloc: Global,
-    input: I,
-    output: O,
-    limits: Limits,
+    wire: &mut Wire<I, O>,
     server: &mut Server<'_, S, C, R, Kept>,
-) -> Result<(I, O), LaneFault>
+    holds: Holds,
+) -> Result<(Pause, Holds), LaneFault>
+    requires { HasStood I.remaining O.contents wire.old holds }
     ensures same_reference { OnOk result (server.new.me.ghost_name ≡ server.old.me.ghost_name) }
-    ensures served { IfOk result (λ parts. (came : List Frame) × (sent : List Frame) × Consumes (I.remaining input) (I.remaining parts.0) (frames_bytes came) × Appends (O.contents output) (O.contents parts.1) (frames_bytes sent)
-        × Served (Acts S.limits server.old.around.now.settings.now.password server.old.around.now.settings.now.longest_value) limits (lane_of server.old.around.now.settings.now.password (S.shown server.old.me.now) server.old.kept.connections.items) (lane_of server.old.around.now.settings.now.password (S.shown server.new.me.now) server.new.kept.connections.items) came sent) }
+    ensures went_on { IfOk result (λ left. GoesOnBy (WireTells I.remaining O.contents) (Acts S.limits server.old.around.now.settings.now.password server.old.around.now.settings.now.longest_value) wire.old.limits wire.old wire.new
+        (lane_of server.old.around.now.settings.now.password (S.shown server.old.me.now) server.old.kept.connections.items) (lane_of server.old.around.now.settings.now.password (S.shown server.new.me.now) server.new.kept.connections.items) holds left.1) }
+    ensures whole { OnOk result (wire.new.broken ≡ false) }
+    ensures limits { OnOk result (wire.new.limits ≡ wire.old.limits) }
 {
-    serve_over(alloc, input, output, limits, server)
+    serve_on(alloc, wire, server, holds)
 }
 
-/// Serves the requests of a lane, from their first to their last.
-fn serve<S: Calls<Blob>, P: Pipes, C: Clock, R: Wait>(
+/// Serves the requests of a lane from where it left to their end, or to the wake at which all lanes leave.
+fn serve<S: Calls<Blob>, C: Clock, R: Wait, I: BufRead + Drop, O: Write + Drop>(
     around: &Around<'_, C, R>,
     me: &mut S,
-    pipes: &P,
-) -> Result<(P::Input, P::Output), LaneEnd>
-    ensures { IfOk result (λ parts. Serves P.Input.remaining P.Output.contents (P.opens pipes.now around.now.lane) S.limits around.now.settings.now.password around.now.settings.now.longest_value around.now.settings.now.requests (S.shown me.old) (S.shown me.new) parts.0 parts.1) }
+    left: LeftLane<I, O>,
+) -> WorkerState<I, O>
+    ensures { GoesOn I.remaining O.contents S.limits around.now.settings.now.password around.now.settings.now.longest_value (S.shown me.old) (S.shown me.new) left result }
 {
-    let (input, output) = match pipes.open(around.alloc, around.lane) {
-        Ok(both) => both,
-        Err(fault) => return Err(LaneEnd::Pipes(fault)),
-    };
-    let mut server = Server::new(around, me);
-    match serve_frames(
-        around.alloc,
-        input,
-        output,
-        around.settings.requests,
-        &mut server,
-    ) {
-        Ok(parts) => {
-            server.finish();
-            Ok(parts)
+    let LeftLane {
+        mut wire,
+        holds,
+        kept,
+    } = left;
+    around.renewal.serve(around.clock);
+    let mut server = Server::new(around, me, kept);
+    match serve_frames(around.alloc, &mut wire, &mut server, holds) {
+        Ok((pause, holds)) => {
+            let kept = server.finish();
+            match pause {
+                Pause::Wake => WorkerState::Left(LeftLane { wire, holds, kept }),
+                Pause::End => WorkerState::Ended(WorkerEnd::Lane(Ok(wire.into_parts()))),
+            }
         }
-        Err(fault) => Err(LaneEnd::Lane(fault)),
+        Err(fault) => WorkerState::Ended(WorkerEnd::Lane(Err(LaneEnd::Lane(fault)))),
     }
 }
 
-impl<'a, P: Pipes + Sync, C: Clock + Sync> Work<Blob> for Lanes<'a, P, C>
+/// The same of a lane that has not begun: its pipes are opened first.
+fn begin<S: Calls<Blob>, P: Pipes, C: Clock, R: Wait>(
+    around: &Around<'_, C, R>,
+    me: &mut S,
+    pipes: &P,
+) -> WorkerState<P::Input, P::Output>
+    ensures { ServesOn P.Input.remaining P.Output.contents (P.opens pipes.now around.now.lane) S.limits around.now.settings.now (S.shown me.old) (S.shown me.new) state.Fresh result }
+{
+    let alloc = around.alloc;
+    let (input, output) = match pipes.open(alloc, around.lane) {
+        Ok(both) => both,
+        Err(fault) => return WorkerState::Ended(WorkerEnd::Lane(Err(LaneEnd::Pipes(fault)))),
+    };
+    let wire = Wire::new(alloc, input, output, around.settings.requests);
+    let holds = Holds::none(alloc);
+    let kept = Kept::new(alloc, around.settings);
+    serve(around, me, LeftLane { wire, holds, kept })
+}
+
+/// The stint of a lane, from what it kept. The sweep is told where it has left the map.
+fn serve_stint<S: Calls<Blob>, P: Pipes, C: Clock, R: Wait>(
+    around: &Around<'_, C, R>,
+    me: &mut S,
+    pipes: &P,
+    state: WorkerState<P::Input, P::Output>,
+) -> WorkerState<P::Input, P::Output>
+    ensures { ServesOn P.Input.remaining P.Output.contents (P.opens pipes.now around.now.lane) S.limits around.now.settings.now (S.shown me.old) (S.shown me.new) state result }
+{
+    match state {
+        WorkerState::Fresh => {
+            let after = begin(around, me, pipes);
+            around.tallies.leave();
+            after
+        }
+        WorkerState::Left(left) => {
+            let after = serve(around, me, left);
+            around.tallies.leave();
+            after
+        }
+        WorkerState::Ended(end) => WorkerState::Ended(end),
+    }
+}
+
+/// How many lanes have not ended.
+fn count_unended<I: BufRead + Drop, O: Write + Drop>(states: &[WorkerState<I, O>]) -> u32 {
+    let mut count = 0u32;
+    for state in states {
+        if !matches!(state, WorkerState::Ended(_)) {
+            count = count.saturating_add(1);
+        }
+    }
+    count
+}
+
+impl<'a, P: Pipes + Sync, C: Clock + Sync> Stints<Blob> for Lanes<'a, P, C>
 where
     P::Input: Send,
     P::Output: Send,
 {
-    ghost use Rattle.far_server.specs.Serving.{IsWork};
+    ghost use Rattle.far_server.specs.Serving.{IsStint};
 
-    type Out = WorkerEnd<P::Input, P::Output>;
+    type State = WorkerState<P::Input, P::Output>;
 
-    // On each connection the replies to its requests, by the calls of the lane's session and no others; and what the sweep may do.
-    ghost done = { λ lanes worker l begun ended end. IsWork P.Input.remaining P.Output.contents (P.opens lanes.pipes.now worker) l lanes.settings.now worker begun ended end };
+    // On each connection the replies to its requests, by the calls of the lane's sessions and no others; and what the sweep may do.
+    ghost done = { λ lanes worker l begun ended before after. IsStint P.Input.remaining P.Output.contents (P.opens lanes.pipes.now worker) l lanes.settings.now worker begun ended before after };
 
-    fn work<S: Calls<Blob>, R: Wait>(
+    fn stint<S: Calls<Blob>, R: Wait>(
         &self,
         rt: &R,
         alloc: Global,
         worker: u32,
         me: &mut S,
-    ) -> WorkerEnd<P::Input, P::Output> {
+        state: WorkerState<P::Input, P::Output>,
+    ) -> WorkerState<P::Input, P::Output> {
         let around = Around {
             rt,
             clock: self.clock,
@@ -124,15 +162,29 @@ where
             settings: self.settings,
             tallies: self.tallies,
             usage: self.usage,
+            renewal: self.renewal,
             lane: worker,
             started: self.started,
         };
-        if worker < self.settings.lanes {
-            let served = serve(&around, me, self.pipes);
-            self.tallies.end_lane();
-            return WorkerEnd::Lane(served);
+        if worker >= self.settings.lanes {
+            sweep(&around, me);
+            return WorkerState::Ended(WorkerEnd::Sweep);
         }
-        sweep(&around, me);
-        WorkerEnd::Sweep
+        serve_stint(&around, me, self.pipes, state)
+    }
+
+    fn begins(&self, carried: Carried) {
+        self.tallies.carry(carried.pairs);
+        self.renewal.begin(carried);
+    }
+
+    fn after(&self, states: &[WorkerState<P::Input, P::Output>]) -> After {
+        let lanes = count_unended(states);
+        self.tallies.begin(lanes);
+        if lanes > 0 {
+            After::Renewed
+        } else {
+            After::End
+        }
     }
 }

@@ -4,20 +4,36 @@ ghost use Rattle.std.specs.Prelude.{◌≡◌, []};
 use crate::around::{Around, Desk};
 use crate::connection::Connection;
 use crate::places::{answer_at, forget, make_places};
+use crate::settings::ServerSettings;
 use crate::tally::count;
 use commands::{Arguments, Span};
 use far_blob::Blob;
 use far_map::Calls;
 use lanes::{Next, Service, Woken};
-use std::alloc::AllocError;
+use std::alloc::{AllocError, Global};
 use std::rt::Clock;
 use std::sync::Wait;
 
-/// What a lane keeps from one request to the next.
+/// What a lane keeps from one request to the next, and from one map to the next.
 #[derive(Drop)]
 pub(crate) struct Kept {
     connections: Vec<Connection>,
     desk: Desk,
+    /// How many requests are answered before it is looked at how many names are left.
+    until_look: u32,
+}
+
+impl Kept {
+    /// What a lane keeps that knows no connection.
+    pub(crate) fn new(alloc: Global, settings: &ServerSettings) -> Kept
+        ensures { result.connections.items ≡ [] }
+    {
+        Kept {
+            connections: Vec::new(alloc),
+            desk: Desk::new(alloc, settings),
+            until_look: 1,
+        }
+    }
 }
 
 /// A lane's service. (A contract can say what its session is left as only where what owns memory beside it is of a type parameter.)
@@ -29,34 +45,60 @@ pub(crate) struct Server<'a, S: Calls<Blob>, C, R, T> {
 }
 
 impl<'a, S: Calls<Blob>, C, R, T: Drop> Server<'a, S, C, R, T> {
-    /// Lets the session go.
-    pub(crate) fn finish(self)
-        ensures { self.exit.0.now ≡ self.entry.me.now }
+    /// Lets the session go, and gives back what is kept.
+    pub(crate) fn finish(self) -> T
+        ensures session { self.exit.0.now ≡ self.entry.me.now }
+        ensures kept { result ≡ self.entry.kept }
     {
         let Server {
             me: _,
             around: _,
-            kept: _,
+            kept,
         } = self;
+        kept
     }
 }
 
 impl<'a, S: Calls<Blob>, C: Clock, R: Wait> Server<'a, S, C, R, Kept> {
-    /// One that knows no connection.
-    pub(crate) fn new(around: &'a Around<'a, C, R>, me: &'a mut S) -> Server<'a, S, C, R, Kept>
+    /// One that knows what was kept.
+    pub(crate) fn new(
+        around: &'a Around<'a, C, R>,
+        me: &'a mut S,
+        kept: Kept,
+    ) -> Server<'a, S, C, R, Kept>
         ensures same_reference { result.me.ghost_name ≡ me.entry.ghost_name }
         ensures session { result.me.now ≡ me.old }
         ensures around { result.around.now ≡ around.now }
-        ensures connections { result.kept.connections.items ≡ [] }
+        ensures connections { result.kept.connections.items ≡ kept.connections.items }
     {
-        Server {
-            me,
-            around,
-            kept: Kept {
-                connections: Vec::new(around.alloc),
-                desk: Desk::new(around.alloc, around.settings),
-            },
+        let mut kept = kept;
+        let counted = kept.desk.tally;
+        kept.desk.begin(counted);
+        Server { me, around, kept }
+    }
+
+    /// What comes behind a reply: where names are few, one lane has all woken, so that each leaves.
+    fn behind(&mut self, next: Next) -> Next
+        ensures same_reference { self.new.me.ghost_name ≡ self.old.me.ghost_name }
+        ensures session { self.new.me.now ≡ self.old.me.now }
+        ensures around { self.new.around.now ≡ self.old.around.now }
+        ensures connections { self.new.kept.connections.items ≡ self.old.kept.connections.items }
+    {
+        let renewal = self.around.renewal;
+        self.kept.until_look = self.kept.until_look.saturating_sub(1);
+        if self.kept.until_look == 0 {
+            self.kept.until_look = renewal.every();
+            renewal.look(self.me.names_left());
         }
+        if self.kept.desk.is_stuck {
+            self.kept.desk.is_stuck = false;
+            renewal.ask();
+        }
+        // A lane that closes the connection leaves it to the next reply.
+        if next == Next::GoOn && renewal.is_due(self.around.clock) {
+            return Next::WakeAll;
+        }
+        next
     }
 
     /// Tells what was counted.
@@ -104,7 +146,7 @@ impl<'a, S: Calls<Blob>, C: Clock, R: Wait> Service for Server<'a, S, C, R, Kept
         ) {
             Ok(next) => {
                 self.tell();
-                Ok(next)
+                Ok(self.behind(next))
             }
             Err(refused) => Err(refused),
         }
@@ -127,6 +169,9 @@ impl<'a, S: Calls<Blob>, C: Clock, R: Wait> Service for Server<'a, S, C, R, Kept
 
     fn wake(&mut self) -> Result<Woken, AllocError> {
         self.me.settle(self.around.rt);
+        if self.around.renewal.leaves() {
+            return Ok(Woken::Leave);
+        }
         Ok(Woken::Stay)
     }
 }

@@ -333,17 +333,35 @@ fn turn<S: Calls<Blob>, C: Clock, R: Wait>(
     false
 }
 
-/// Sweeps until all lanes have ended.
+/// The same, unless names are few: those are left to the lanes.
+fn sparing_turn<S: Calls<Blob>, C: Clock, R: Wait>(
+    around: &Around<'_, C, R>,
+    me: &mut S,
+    hand: &mut Hand,
+    desk: &mut Desk,
+) -> bool
+    ensures { Sweeps S.limits around.now.settings.now.options.evicts (S.shown me.old) (S.shown me.new) }
+{
+    let left = me.names_left();
+    around.renewal.look(left);
+    if around.renewal.spares(left) {
+        return false;
+    }
+    turn(around, me, hand, desk)
+}
+
+/// Sweeps until all lanes have left the map.
 pub(crate) fn sweep<S: Calls<Blob>, C: Clock, R: Wait>(around: &Around<'_, C, R>, me: &mut S)
     ensures { Sweeps S.limits around.now.settings.now.options.evicts (S.shown me.old) (S.shown me.new) }
 {
     let mut desk = Desk::new(around.alloc, around.settings);
+    desk.begin(around.tallies.told_by(around.lane));
     let mut hand = Hand::new(me.buckets());
     for _ in around.rt.forever() {
         if !around.tallies.is_serving() {
             break;
         }
-        let goes_on = turn(around, me, &mut hand, &mut desk);
+        let goes_on = sparing_turn(around, me, &mut hand, &mut desk);
         desk.tell(around, &me.traffic());
         if !goes_on {
             desk.bed.park_timeout(around.rt, Duration::from_millis(NAP));

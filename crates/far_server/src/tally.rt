@@ -23,8 +23,6 @@ pub(crate) struct Tally {
     pub(crate) evicted: u64,
     /// Values with a deadline that were set.
     pub(crate) dated: u64,
-    /// Calls of the map, and moves, that drew a name.
-    pub(crate) names: u64,
     pub(crate) local_reads: u64,
     pub(crate) far_reads: u64,
     pub(crate) swap_ins: u64,
@@ -36,7 +34,7 @@ pub(crate) struct Tally {
 }
 
 /// How many numbers a tally has.
-const NUMBERS: usize = 19;
+const NUMBERS: usize = 18;
 
 /// One more.
 pub(crate) fn count(number: &mut u64) {
@@ -44,18 +42,17 @@ pub(crate) fn count(number: &mut u64) {
 }
 
 impl Tally {
-    /// Takes over what a session has counted of reads and moves.
-    pub(crate) fn see(&mut self, traffic: &Traffic) {
-        self.local_reads = traffic.local_reads;
-        self.far_reads = traffic.far_reads;
-        self.swap_ins = traffic.swap_ins;
-        self.swap_outs = traffic.swap_outs;
-        self.device_failures = traffic.device_failures;
+    /// Takes over what a session has counted of reads and moves, which began when so much was counted.
+    pub(crate) fn see(&mut self, begun: &Tally, traffic: &Traffic) {
+        self.local_reads = begun.local_reads.wrapping_add(traffic.local_reads);
+        self.far_reads = begun.far_reads.wrapping_add(traffic.far_reads);
+        self.swap_ins = begun.swap_ins.wrapping_add(traffic.swap_ins);
+        self.swap_outs = begun.swap_outs.wrapping_add(traffic.swap_outs);
+        self.device_failures = begun.device_failures.wrapping_add(traffic.device_failures);
     }
 
     /// Counts a key that was set, and had none before or some.
     pub(crate) fn count_set(&mut self, was_none: bool) {
-        count(&mut self.names);
         if was_none {
             count(&mut self.gained);
         }
@@ -64,7 +61,6 @@ impl Tally {
     /// Counts a key that was taken out.
     pub(crate) fn count_removal(&mut self, is_done: bool) {
         if is_done {
-            count(&mut self.names);
             count(&mut self.lost);
         }
     }
@@ -106,7 +102,6 @@ impl Tally {
             self.expired,
             self.evicted,
             self.dated,
-            self.names,
             self.local_reads,
             self.far_reads,
             self.swap_ins,
@@ -130,15 +125,14 @@ impl Tally {
             expired: numbers[7],
             evicted: numbers[8],
             dated: numbers[9],
-            names: numbers[10],
-            local_reads: numbers[11],
-            far_reads: numbers[12],
-            swap_ins: numbers[13],
-            swap_outs: numbers[14],
-            device_failures: numbers[15],
-            refused_memory: numbers[16],
-            refused_full: numbers[17],
-            refused_device: numbers[18],
+            local_reads: numbers[10],
+            far_reads: numbers[11],
+            swap_ins: numbers[12],
+            swap_outs: numbers[13],
+            device_failures: numbers[14],
+            refused_memory: numbers[15],
+            refused_full: numbers[16],
+            refused_device: numbers[17],
         }
     }
 }
@@ -149,8 +143,10 @@ pub(crate) struct Tallies {
     told: Vec<AtomicU64>,
     /// How many connections have got a number.
     ids: AtomicU64,
-    /// How many lanes have not ended.
+    /// How many lanes have not left the map.
     serving: AtomicU32,
+    /// How many keys were counted that the map does not have, since it was renewed without them.
+    missing: AtomicU64,
 }
 
 /// How far the numbers of a lane are from those of the next one: whole lines of the cache.
@@ -169,15 +165,21 @@ impl Tallies {
             told,
             ids: AtomicU64::new(0),
             serving: AtomicU32::new(lanes),
+            missing: AtomicU64::new(0),
         })
     }
 
-    /// A lane has ended.
-    pub(crate) fn end_lane(&self) {
+    /// So many lanes go on in another map.
+    pub(crate) fn begin(&self, lanes: u32) {
+        self.serving.store(lanes, Ordering::SeqCst);
+    }
+
+    /// A lane has left the map: for the next one, or for good.
+    pub(crate) fn leave(&self) {
         self.serving.fetch_sub(1, Ordering::SeqCst);
     }
 
-    /// Whether a lane has not ended.
+    /// Whether a lane has not left the map.
     pub(crate) fn is_serving(&self) -> bool {
         self.serving.load(Ordering::SeqCst) > 0
     }
@@ -198,6 +200,33 @@ impl Tallies {
                 }
             }
         }
+    }
+
+    /// How many keys have a value, as the lanes last told.
+    pub(crate) fn keys(&self) -> u64 {
+        let sum = self.sum();
+        let counted = sum.gained.saturating_sub(sum.lost);
+        counted.saturating_sub(self.missing.load(Ordering::SeqCst))
+    }
+
+    /// The map begins with so many keys, and no worker has begun.
+    pub(crate) fn carry(&self, keys: u64) {
+        let sum = self.sum();
+        let counted = sum.gained.saturating_sub(sum.lost);
+        self.missing
+            .store(counted.saturating_sub(keys), Ordering::SeqCst);
+    }
+
+    /// What a lane last told.
+    pub(crate) fn told_by(&self, lane: u32) -> Tally {
+        let mut numbers = [0u64; NUMBERS];
+        for at in 0..NUMBERS {
+            let place = (lane as usize).wrapping_mul(STRIDE).wrapping_add(at);
+            if let Some(told) = self.told.get(place) {
+                numbers[at] = told.load(Ordering::SeqCst);
+            }
+        }
+        Tally::of(&numbers)
     }
 
     /// The sum over all that told.

@@ -18,8 +18,7 @@ use std::alloc::AllocError;
 
 /// How many keys have a value, as the lanes last told.
 pub(crate) fn keys<C, R>(around: &Around<'_, C, R>) -> i64 {
-    let sum = around.tallies.sum();
-    sum.gained.saturating_sub(sum.lost).min(i64::MAX as u64) as i64
+    around.tallies.keys().min(i64::MAX as u64) as i64
 }
 
 /// What INFO tells.
@@ -41,7 +40,7 @@ fn facts<S: Calls<Blob>, C, R>(around: &Around<'_, C, R>, me: &S, now: u64) -> F
         buckets: settings.map.buckets,
         frames: settings.map.frames,
         most_in_frames: settings.map.bytes,
-        keys: sum.gained.saturating_sub(sum.lost),
+        keys: around.tallies.keys(),
         hits: sum.hits,
         misses: sum.misses,
         expired: sum.expired,
@@ -63,7 +62,11 @@ fn facts<S: Calls<Blob>, C, R>(around: &Around<'_, C, R>, me: &S, now: u64) -> F
         lost_buckets: around.usage.lost(),
         far_bytes: around.usage.bytes(),
         far_limit: settings.far_limit,
-        names_left: settings.map.names.saturating_sub(sum.names),
+        names_left: me.names_left(),
+        renewals: around.renewal.count(),
+        renewal_lost_pairs: around.renewal.lost_pairs(),
+        renewal_lost_buckets: around.renewal.lost_buckets(),
+        renewal_last_ms: around.renewal.pause(),
     }
 }
 

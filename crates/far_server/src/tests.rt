@@ -3,4 +3,5 @@
 mod asking;
 mod ends;
 mod pipes;
+mod renewing;
 mod sweeping;

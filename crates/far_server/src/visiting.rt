@@ -261,7 +261,8 @@ fn empty_all<S: Calls<Blob>, R: Wait>(
     Ok(())
 }
 
-/// Answers FLUSHALL: bucket by bucket, so a key that is set meanwhile may stay.
+/// Answers FLUSHALL: bucket by bucket, so a key that is set meanwhile may stay. Where a bucket can't be read the map is to be renewed, so
+/// that it is gone for the next FLUSHALL.
 pub(crate) fn answer_flush<S: Calls<Blob>, R: Wait>(
     rt: &R,
     alloc: Global,
@@ -274,6 +275,9 @@ pub(crate) fn answer_flush<S: Calls<Blob>, R: Wait>(
 {
     match empty_all(rt, alloc, me, desk) {
         Ok(()) => push_one_simple(reply, b"OK"),
-        Err(why) => push_one_failure(reply, text_of(why)),
+        Err(why) => {
+            desk.is_stuck |= matches!(why, Refusal::Device | Refusal::Damaged);
+            push_one_failure(reply, text_of(why))
+        }
     }
 }

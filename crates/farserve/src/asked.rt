@@ -16,6 +16,11 @@ const MOST_MEMORY: u64 = 1 << 40;
 /// The most bytes of a Unix socket's path: as many as Linux takes.
 const MOST_PATH: usize = 107;
 
+/// The fewest names of a map for each of its buckets, and the most of all: as many as there can be.
+const LEAST_NAMES: u64 = 16;
+
+const MOST_NAMES: u64 = (1 << 40) - 1;
+
 /// What may happen where all is full.
 const POLICIES: [&str; 2] = ["noeviction", "allkeys"];
 
@@ -54,6 +59,8 @@ pub struct Asked<'a> {
     pub password_file: Option<&'a str>,
     /// Seconds that a client may be silent, 0 for any.
     pub timeout: u32,
+    /// How many names a map has before it is renewed, as it was written.
+    pub names: Option<&'a str>,
     /// The folder of the named pipes.
     pub pipes: &'a str,
 }
@@ -161,6 +168,12 @@ fn with_addresses<'a>(alloc: Global, command: Command<'a>) -> Result<Command<'a>
         "DIR",
         "The folder of the pipes to the front",
     );
+    let names = text(
+        alloc,
+        "names",
+        "N",
+        "Changes and moves of a map before it is renewed, for trials",
+    );
     let command = command
         .arg(number(
             alloc,
@@ -188,7 +201,8 @@ fn with_addresses<'a>(alloc: Global, command: Command<'a>) -> Result<Command<'a>
             "A file whose first line is the password that AUTH wants [none: no password]",
         ))?
         .arg(timeout.value_name("SECONDS"))?
-        .arg(pipes.hide(true))?;
+        .arg(pipes.hide(true))?
+        .arg(names.hide(true))?;
     Ok(command)
 }
 
@@ -284,10 +298,23 @@ impl<'a> Asked<'a> {
             unix: matches.get_str("unix"),
             password_file: matches.get_str("password-file"),
             timeout: matches.get_one::<u32>("timeout").unwrap_or(0),
+            names: matches.get_str("names"),
             pipes,
         };
         asked.check_addresses()?;
         Ok(asked)
+    }
+
+    /// How many names a map of so many buckets has before it is renewed.
+    pub fn names(&self, buckets: u32) -> Result<u64, Fault<'a>> {
+        let Some(text) = self.names else {
+            return Ok(MOST_NAMES);
+        };
+        let least = u64::from(buckets).saturating_mul(LEAST_NAMES);
+        match text.parse::<u64>() {
+            Ok(names) if least <= names && names <= MOST_NAMES => Ok(names),
+            _ => Err(Fault::Names(text, least, MOST_NAMES)),
+        }
     }
 
     /// Where objects lie that are in no frame.

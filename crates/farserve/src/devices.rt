@@ -11,7 +11,7 @@ use std::hash::RandomState;
 use std::random::RandomSource;
 use std::rt::Files;
 
-/// How many there are, where there are no more folders.
+/// How many there are beside the one by which a map is renewed, where there are no more folders.
 pub const DEVICES: u32 = 4;
 
 /// A device in a folder, of the lane of this number.
@@ -32,7 +32,8 @@ where
     Ok(CountedDevice::new(FileDevice::new(rt.alloc(), disk, keys), usage))
 }
 
-/// Devices in these folders in turn, in which at most so many bytes are kept together.
+/// Devices in these folders in turn, in which at most so many bytes are kept together; and behind them one in which as many may be kept
+/// again, while a map is renewed.
 pub fn open_far<'a, 'b, R>(
     rt: R,
     folders: &[&'a str],
@@ -44,14 +45,19 @@ where
 {
     let count = DEVICES.max(folders.len().min(64) as u32);
     let mut devices = Vec::new(rt.alloc());
-    for lane in 0..count {
+    for lane in 0..=count {
         let Some(folder) = folders.get(lane as usize % folders.len().max(1)).copied() else {
             return Ok(devices);
         };
         if folder.is_empty() {
             return Err(Fault::Folder(folder));
         }
-        match open(rt, folder, lane, most / u64::from(count), usage) {
+        let share = if lane < count {
+            most / u64::from(count)
+        } else {
+            most
+        };
+        match open(rt, folder, lane, share, usage) {
             Ok(device) => {
                 if devices.push(device).is_err() {
                     return Err(Fault::Memory);
@@ -64,11 +70,11 @@ where
     Ok(devices)
 }
 
-/// A device that keeps nothing, so that all stays in frames.
-pub fn open_none<'a, R>(
+/// A device that keeps nothing.
+fn open_one_of_none<'a, R>(
     rt: &R,
     usage: &'a FarUsage,
-) -> Result<Vec<CountedDevice<'a, BoundedDisk<MemoryDisk>>>, AllocError>
+) -> Result<CountedDevice<'a, BoundedDisk<MemoryDisk>>, AllocError>
 where
     R: AllocGlobal + RandomSource,
 {
@@ -76,8 +82,20 @@ where
         return Err(AllocError);
     };
     let disk = BoundedDisk::new(MemoryDisk::new(rt.alloc()), 0);
-    let device = CountedDevice::new(FileDevice::new(rt.alloc(), disk, keys), usage);
+    Ok(CountedDevice::new(FileDevice::new(rt.alloc(), disk, keys), usage))
+}
+
+/// A device that keeps nothing, so that all stays in frames, and another by which a map is renewed.
+pub fn open_none<'a, R>(
+    rt: &R,
+    usage: &'a FarUsage,
+) -> Result<Vec<CountedDevice<'a, BoundedDisk<MemoryDisk>>>, AllocError>
+where
+    R: AllocGlobal + RandomSource,
+{
     let mut devices = Vec::new(rt.alloc());
-    devices.push(device)?;
+    for _ in 0..2 {
+        devices.push(open_one_of_none(rt, usage)?)?;
+    }
     Ok(devices)
 }

@@ -10,6 +10,8 @@ use std::{fmt, io};
 pub enum Fault<'a> {
     /// An option, and its text that is no size within these bounds, in bytes.
     Size(&'static str, &'a str, u64, u64),
+    /// The text of `--names`, which is no number within these bounds.
+    Names(&'a str, u64, u64),
     /// The text of `--bind`, which is no IP address.
     Bind(&'a str),
     /// The address of `--bind`, where everybody could get in.
@@ -62,6 +64,9 @@ impl Display for Fault<'_> {
                 f,
                 "--{option} {text}: no size from {least} to {most} bytes; 64k, 256m and 2g are sizes"
             ),
+            Fault::Names(text, least, most) => {
+                write!(f, "--names {text}: no number from {least} to {most}")
+            }
             Fault::Bind(text) => write!(f, "--bind {text}: no IP address"),
             Fault::Open(text) => write!(
                 f,

@@ -55,11 +55,17 @@ fn told_limit(limit: u64) -> u64 {
 }
 
 /// What the server is run with.
-fn settings(asked: &Asked<'_>, sizes: Sizes, password: Option<[u8; 32]>) -> ServerSettings {
+fn settings(
+    asked: &Asked<'_>,
+    sizes: Sizes,
+    names: u64,
+    password: Option<[u8; 32]>,
+) -> ServerSettings {
     let value = asked.value_limit;
     let bucket = value.saturating_mul(4).clamp(BUCKET.0, BUCKET.1);
     let map = Settings {
         bytes: sizes.bytes,
+        names,
         ..Settings::new(sizes.buckets, sizes.buckets, bucket)
     };
     let requests = Limits {
@@ -95,7 +101,7 @@ fn tell_links(rt: &impl Print, folder: &str, store: Store<'_>) -> io::Result<()>
     if let Some(path) = store.password_file {
         print!(rt; "--far-password-file\0{path}\0")?;
     }
-    for lane in 0..DEVICES {
+    for lane in 0..=DEVICES {
         print!(rt; "--far-link\0{folder}/far-requests{lane}\0{folder}/far-replies{lane}\0")?;
     }
     Ok(())
@@ -151,24 +157,36 @@ fn tell<'a, R: Print + Eprint>(rt: &R, asked: &Asked<'a>, sizes: Sizes) -> Resul
     }
 }
 
-/// Serves over these devices until the front has ended.
+/// Serves over these devices until the front has ended. The last is the one by which a map is renewed.
 fn serve_over<'a, D, R>(
     rt: &R,
     host: HostRuntime,
     asked: &Asked<'a>,
     settings: ServerSettings,
-    devices: Vec<D>,
+    mut devices: Vec<D>,
     usage: &FarUsage,
 ) -> Result<(), Fault<'a>>
 where
     D: Device + Send,
     R: AllocGlobal + Threads + Wait + Sync,
 {
+    let Some(spool) = devices.pop() else {
+        return Err(Fault::Memory);
+    };
     let pipes = NamedPipes {
         rt: host,
         folder: asked.pipes,
     };
-    let ends = match run_server(rt, rt.alloc(), settings, devices, usage, &pipes, &host) {
+    let ends = match run_server(
+        rt,
+        rt.alloc(),
+        settings,
+        devices,
+        spool,
+        usage,
+        &pipes,
+        &host,
+    ) {
         Ok(ends) => ends,
         Err(fault) => return Err(Fault::Run(fault)),
     };
@@ -193,7 +211,8 @@ where
         Some(path) => Some(password::digest_of(rt, rt.alloc(), path)?),
         None => None,
     };
-    let settings = settings(asked, sizes, password);
+    let names = asked.names(sizes.buckets)?;
+    let settings = settings(asked, sizes, names, password);
     let usage = FarUsage::new();
     match tier {
         Tier::Nowhere => {
@@ -212,7 +231,7 @@ where
         Tier::Store => {
             // The front opens the other ends once it was told so.
             tell(rt, asked, sizes)?;
-            let devices = open_stores(host, asked.pipes, DEVICES, &usage)?;
+            let devices = open_stores(host, asked.pipes, DEVICES + 1, &usage)?;
             serve_over(rt, host, asked, settings, devices, &usage)
         }
     }

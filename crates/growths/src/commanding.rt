@@ -64,6 +64,10 @@ const FACTS: Facts = Facts {
     refused_full: 23,
     refused_device: 24,
     names_left: 25,
+    renewals: 29,
+    renewal_lost_pairs: 30,
+    renewal_lost_buckets: 31,
+    renewal_last_ms: 32,
 };
 
 fn stored(alloc: Global, bytes: &[u8]) -> Result<Vec<u8>, AllocError> {

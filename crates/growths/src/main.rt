@@ -13,6 +13,7 @@ mod maps;
 mod objects;
 mod protocol;
 mod recycling;
+mod renewing;
 mod rows;
 mod serving;
 mod stores;
@@ -34,5 +35,6 @@ fn main(rt: HostRuntime) -> io::Result<()> {
     recycling::tell_all(&rt)?;
     evicting::tell_all(&rt)?;
     maps::tell_all(&rt)?;
+    renewing::tell_all(&rt)?;
     serving::tell_all(&rt)
 }

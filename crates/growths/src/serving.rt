@@ -54,8 +54,8 @@ impl<'a> Pipes for Given<'a> {
 fn settings() -> ServerSettings {
     ServerSettings {
         map: Settings {
-            names: 100,
-            passes: 3,
+            names: 1_000,
+            passes: 4,
             spares: 4,
             ..Settings::new(4, 8, 4_096)
         },
@@ -115,10 +115,21 @@ where
 {
     let frames = frames(alloc)?;
     let devices = Vec::from_array(alloc, [FakeDevice::new(alloc)])?;
+    let spool = FakeDevice::new(alloc);
     let pipes = Given {
         came: frames.as_slice(),
     };
-    let ends = match run_server(rt, alloc, settings(), devices, &FarUsage::new(), &pipes, rt) {
+    let ran = run_server(
+        rt,
+        alloc,
+        settings(),
+        devices,
+        spool,
+        &FarUsage::new(),
+        &pipes,
+        rt,
+    );
+    let ends = match ran {
         Ok(ends) => ends,
         Err(RunFault::Memory) => return Ok(Answer::Memory),
         Err(_) => return Ok(Answer::Wrong),

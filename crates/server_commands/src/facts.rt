@@ -53,8 +53,16 @@ pub struct Facts {
     pub refused_full: u64,
     /// Commands that were refused since a device failed.
     pub refused_device: u64,
-    /// Changes and moves for which there are names left.
+    /// Changes and moves for which there are names left. The map is renewed before there are none.
     pub names_left: u64,
+    /// How often the map was renewed.
+    pub renewals: u64,
+    /// Pairs that were refused as a map was renewed.
+    pub renewal_lost_pairs: u64,
+    /// Buckets that could not be read as a map was renewed.
+    pub renewal_lost_buckets: u64,
+    /// How many milliseconds nothing was answered as the map was last renewed.
+    pub renewal_last_ms: u64,
 }
 
 /// What CONFIG GET answers of.

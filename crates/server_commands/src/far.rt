@@ -52,6 +52,10 @@ pub(crate) fn push_far(facts: &Facts, text: &mut Vec<u8>) -> Result<(), AllocErr
             ("refused_full", facts.refused_full),
             ("refused_device", facts.refused_device),
             ("names_left", facts.names_left),
+            ("renewals", facts.renewals),
+            ("renewal_lost_pairs", facts.renewal_lost_pairs),
+            ("renewal_lost_buckets", facts.renewal_lost_buckets),
+            ("renewal_last_ms", facts.renewal_last_ms),
         ],
     )
 }

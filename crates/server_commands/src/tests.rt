@@ -89,5 +89,9 @@ fn facts() -> Facts {
         refused_full: 11,
         refused_device: 12,
         names_left: 1_099_511_627_776,
+        renewals: 15,
+        renewal_lost_pairs: 16,
+        renewal_lost_buckets: 17,
+        renewal_last_ms: 18,
     }
 }

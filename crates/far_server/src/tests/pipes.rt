@@ -59,7 +59,7 @@ pub fn settings(lanes: u32) -> ServerSettings {
 }
 
 /// Adds a frame.
-fn push_frame(rt: &impl Abort, frames: &mut Vec<u8>, kind: u8, data: &[u8]) {
+pub fn push_frame(rt: &impl Abort, frames: &mut Vec<u8>, kind: u8, data: &[u8]) {
     assert!(rt; data.len() < 65_536);
     frames
         .extend_from_slice(&[kind, 0, 0, 0, 0])
@@ -119,9 +119,12 @@ pub fn ends<R: Threads + Wait + Sync + Clock + Abort>(
     lanes: &[&[u8]],
 ) -> Vec<Result<Vec<u8>, LaneEnd>> {
     let devices = Vec::from_array(alloc, [FakeDevice::new(alloc)]).expect(rt, "devices");
+    let spool = FakeDevice::new(alloc);
     let pipes = Given { lanes };
     let usage = usage();
-    let ended = run_server(rt, alloc, settings, devices, &usage, &pipes, rt).expect(rt, "a run");
+    let ended = run_server(rt, alloc, settings, devices, spool, &usage, &pipes, rt).expect(
+        rt, "a run",
+    );
     let mut said = Vec::new(alloc);
     for end in ended {
         let end = match end {

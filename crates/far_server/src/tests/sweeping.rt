@@ -1,6 +1,7 @@
 //! What the sweep takes out, and what it leaves.
 use super::pipes::settings;
 use crate::around::{Around, Desk};
+use crate::renewal::Renewal;
 use crate::sweeping::{Hand, expire, expire_in, is_due, make_room, sweep};
 use crate::tally::Tallies;
 use crate::{FarUsage, ServerSettings};
@@ -202,6 +203,7 @@ impl<C: Clock + Sync> Work<Blob> for Sweeping<'_, C> {
         worker: u32,
         me: &mut S,
     ) -> Result<Told, Refusal> {
+        let renewal = Renewal::new(&self.settings);
         let around = Around {
             rt,
             clock: self.clock,
@@ -209,6 +211,7 @@ impl<C: Clock + Sync> Work<Blob> for Sweeping<'_, C> {
             settings: &self.settings,
             tallies: self.tallies,
             usage: self.usage,
+            renewal: &renewal,
             lane: worker,
             started: 0,
         };
@@ -219,7 +222,7 @@ impl<C: Clock + Sync> Work<Blob> for Sweeping<'_, C> {
             Trial::Unread => self.unread(rt, alloc, me, &mut desk),
             Trial::Full => self.full(&around, me, &mut desk),
             Trial::Ended => {
-                self.tallies.end_lane();
+                self.tallies.leave();
                 set(rt, alloc, me, b"a", 1)?;
                 sweep(&around, me);
                 Ok([there(rt, alloc, me, KEYS.as_slice())?, 0, 0, 0, 0, 0])

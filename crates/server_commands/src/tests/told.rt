@@ -20,7 +20,7 @@ const STATS: &str =
 const KEYSPACE: &str = "# Keyspace db0:keys=1000,expires=0,avg_ttl=0 ";
 
 const FAR: &str =
-    "# Far buckets:65536 frames:65536 most_in_frames:134217728 bytes_in_frames:917184 far_objects:13 lost_buckets:14 far_bytes:1703936 far_limit:0 local_hits:1999 hit_rate:0.999 swap_outs:8 swap_ins:1 read_throughs:0 device_failures:9 refused_memory:10 refused_full:11 refused_device:12 names_left:1099511627776 ";
+    "# Far buckets:65536 frames:65536 most_in_frames:134217728 bytes_in_frames:917184 far_objects:13 lost_buckets:14 far_bytes:1703936 far_limit:0 local_hits:1999 hit_rate:0.999 swap_outs:8 swap_ins:1 read_throughs:0 device_failures:9 refused_memory:10 refused_full:11 refused_device:12 names_left:1099511627776 renewals:15 renewal_lost_pairs:16 renewal_lost_buckets:17 renewal_last_ms:18 ";
 
 #[test]
 fn sections(rt: HostRuntime) -> Result<(), Fail> {

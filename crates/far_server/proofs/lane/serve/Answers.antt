@@ -1,30 +1,69 @@
-use Rattle.std.proofs.Common.{◌≡◌, List, sym, ap, subst, ◌∙◌}
-use Rattle.lanes.specs.Served.{Served}
+use Rattle.std.proofs.Common.{◌≡◌, List, Ok, refl, sym, ap, subst, ◌∙◌}
+use Rattle.lanes.specs.Frames.{WireTells}
+use Rattle.lanes.specs.Standing.{GoesOnBy}
 use Rattle.far_server.specs.declared.around.Around.{Around}
-use Rattle.far_server.specs.Services.{lane_of, Acts}
+use Rattle.far_server.specs.declared.connection.Connection.{Connection}
+use Rattle.far_server.specs.Services.{Lane, lane_of, Acts}
+use Rattle.far_server.specs.Left.{LeftView}
+use Rattle.far_server.specs.declared.ending.WorkerEnd.TheVariants as worker_end
+use Rattle.far_server.specs.declared.states.WorkerState.TheVariants as state
+use Rattle.far_server.specs.Serving.{GoesOn}
+use Rattle.far_server.proofs.Stints.{still_stood, leaves_so, ends_so}
 use Rattle.far_server.proofs.lane.serve.Goals as goal
 
-pub returns-in-Ok-serve_frames : goal.returns-in-Ok-serve_frames
-returns-in-Ok-serve_frames g c =
-    let last : c.me-1.given.0 ≡ c.finish.new.self.0 = c.me-1.given.1 (sym (c.in-Ok-serve_frames.ensures.same_reference ∙ c.new-server.ensures.same_reference)) in
-    let s = c.in-Ok-serve_frames.ensures.served in
+pub invariant_of-result : goal.invariant_of-result
+invariant_of-result g c =
     let made = c.new-server.result in
-    let left = c.serve_frames.new.server in
+    let done = c.serve_frames.new.server in
+    let password = made.around.now.settings.now.password in
+    still_stood g.I.Read.remaining g.O.Write.contents (Acts g.S.Calls.limits password made.around.now.settings.now.longest_value) c.left.inside.wire c.serve_frames.new.wire
+    (lane_of password (g.S.Calls.shown made.me.now) made.kept.connections.items) (lane_of password (g.S.Calls.shown done.me.now) done.kept.connections.items)
+    c.left.inside.holds _ c.in-Ok.ensures.limits c.left.invariant c.in-Ok.ensures.went_on
+
+-- the server's steps as a lane's
+pub returns-in-Wake : goal.returns-in-Wake
+returns-in-Wake g c =
+    let made = c.new-server.result in
+    let done = c.serve_frames.new.server in
     let around = c.args.around.now in
-    let L : Around _ _ → Type 0 = λ a. Served (Acts g.S.Calls.limits a.settings.now.password a.settings.now.longest_value) around.settings.now.requests
-    (lane_of a.settings.now.password (g.S.Calls.shown made.me.now) made.kept.connections.items) (lane_of a.settings.now.password (g.S.Calls.shown left.me.now) left.kept.connections.items) s.0 s.1 in
-    record {
-      input = c.in-Ok.both.0;
-      output = c.in-Ok.both.1;
-      opened = c.in-Ok.ensures;
-      came = s.0;
-      sent = s.1;
-      consumed = s.2;
-      appended = s.3;
-      first = lane_of around.settings.now.password (g.S.Calls.shown made.me.now) made.kept.connections.items;
-      last = lane_of around.settings.now.password (g.S.Calls.shown left.me.now) left.kept.connections.items;
-      unknown = λ n. ap (λ (cs : List _). (lane_of around.settings.now.password (g.S.Calls.shown made.me.now) cs).connections n) c.new-server.ensures.connections;
-      begun = ap g.S.Calls.shown c.new-server.ensures.session;
-      ended = ap g.S.Calls.shown (sym (last ∙ c.finish.ensures));
-      served = subst L c.new-server.ensures.around s.4;
-    }
+    let password = around.settings.now.password in
+    let most = around.settings.now.longest_value in
+    let old = g.S.Calls.shown c.args.me.now in
+    let inside = c.left.inside in
+    let wire = c.serve_frames.new.wire in
+    let last : c.me-1.given.0 ≡ c.finish-kept.new.self.0 = c.me-1.given.1 (sym (c.in-Ok.ensures.same_reference ∙ c.new-server.ensures.same_reference)) in
+    let y : Lane = lane_of password (g.S.Calls.shown done.me.now) done.kept.connections.items in
+    let T = WireTells g.I.Read.remaining g.O.Write.contents in
+    let A : Around _ _ → Type 0 = λ a. GoesOnBy T (Acts g.S.Calls.limits a.settings.now.password a.settings.now.longest_value) inside.wire.limits inside.wire wire
+    (lane_of a.settings.now.password (g.S.Calls.shown made.me.now) made.kept.connections.items) (lane_of a.settings.now.password (g.S.Calls.shown done.me.now) done.kept.connections.items) inside.holds c.in-Ok.holds in
+    let M : g.row.S.Denot → Type 0 = λ m. GoesOnBy T (Acts g.S.Calls.limits password most) inside.wire.limits inside.wire wire (lane_of password (g.S.Calls.shown m) made.kept.connections.items) y inside.holds c.in-Ok.holds in
+    let K : List Connection → Type 0 = λ cs. GoesOnBy T (Acts g.S.Calls.limits password most) inside.wire.limits inside.wire wire (lane_of password old cs) y inside.holds c.in-Ok.holds in
+    let goes = subst K c.new-server.ensures.connections (subst M c.new-server.ensures.session (subst A c.new-server.ensures.around c.in-Ok.ensures.went_on)) in
+    let left : LeftView _ _ = record { wire = inside.wire; views = inside.holds; connections = inside.kept.connections.items } in
+    let after : LeftView _ _ = record { wire = wire; views = c.in-Ok.holds; connections = c.finish-kept.result.connections.items } in
+    let L : LeftView _ _ → Type 0 = λ v. GoesOn g.I.Read.remaining g.O.Write.contents g.S.Calls.limits password most old (g.S.Calls.shown c.me-1.given.0) v (state.Left after) in
+    subst L c.left.view_is (leaves_so g.I.Read.remaining g.O.Write.contents g.S.Calls.limits password most old (g.S.Calls.shown c.me-1.given.0) left wire c.in-Ok.holds y (ap g.S.Calls.shown (sym (last ∙ c.finish-kept.ensures.session))) goes
+    after refl refl (ap (λ k. lane_of password (g.S.Calls.shown done.me.now) k.connections.items) (sym c.finish-kept.ensures.kept)) c.in-Ok.ensures.limits)
+
+pub returns-in-End : goal.returns-in-End
+returns-in-End g c =
+    let made = c.new-server.result in
+    let done = c.serve_frames.new.server in
+    let around = c.args.around.now in
+    let password = around.settings.now.password in
+    let most = around.settings.now.longest_value in
+    let old = g.S.Calls.shown c.args.me.now in
+    let inside = c.left.inside in
+    let wire = c.serve_frames.new.wire in
+    let last : c.me-1.given.0 ≡ c.finish-kept.new.self.0 = c.me-1.given.1 (sym (c.in-Ok.ensures.same_reference ∙ c.new-server.ensures.same_reference)) in
+    let y : Lane = lane_of password (g.S.Calls.shown done.me.now) done.kept.connections.items in
+    let T = WireTells g.I.Read.remaining g.O.Write.contents in
+    let A : Around _ _ → Type 0 = λ a. GoesOnBy T (Acts g.S.Calls.limits a.settings.now.password a.settings.now.longest_value) inside.wire.limits inside.wire wire
+    (lane_of a.settings.now.password (g.S.Calls.shown made.me.now) made.kept.connections.items) (lane_of a.settings.now.password (g.S.Calls.shown done.me.now) done.kept.connections.items) inside.holds c.in-Ok.holds in
+    let M : g.row.S.Denot → Type 0 = λ m. GoesOnBy T (Acts g.S.Calls.limits password most) inside.wire.limits inside.wire wire (lane_of password (g.S.Calls.shown m) made.kept.connections.items) y inside.holds c.in-Ok.holds in
+    let K : List Connection → Type 0 = λ cs. GoesOnBy T (Acts g.S.Calls.limits password most) inside.wire.limits inside.wire wire (lane_of password old cs) y inside.holds c.in-Ok.holds in
+    let goes = subst K c.new-server.ensures.connections (subst M c.new-server.ensures.session (subst A c.new-server.ensures.around c.in-Ok.ensures.went_on)) in
+    let left : LeftView _ _ = record { wire = inside.wire; views = inside.holds; connections = inside.kept.connections.items } in
+    let L : LeftView _ _ → Type 0 = λ v. GoesOn g.I.Read.remaining g.O.Write.contents g.S.Calls.limits password most old (g.S.Calls.shown c.me-1.given.0) v (state.Ended (worker_end.Lane (Ok c.into_parts.result))) in
+    subst L c.left.view_is (ends_so g.I.Read.remaining g.O.Write.contents g.S.Calls.limits password most old (g.S.Calls.shown c.me-1.given.0) left wire c.in-Ok.holds y (ap g.S.Calls.shown (sym (last ∙ c.finish-kept.ensures.session))) goes
+    c.into_parts.result.0 c.into_parts.result.1 c.in-Ok.ensures.whole c.into_parts.ensures.0 c.into_parts.ensures.1)

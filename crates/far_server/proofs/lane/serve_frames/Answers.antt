@@ -14,10 +14,13 @@ returns-clause-same_reference g c =
     let L : Around _ _ → X → Lane = λ a x. lane_of a.settings.now.password (g.S.Calls.shown x.me.now) x.kept.connections.items in
     let D : X → Call → X → Type 0 = λ s call t. (t.me.ghost_name ≡ s.me.ghost_name) × (t.around.now ≡ s.around.now)
     × Acts g.S.Calls.limits s.around.now.settings.now.password s.around.now.settings.now.longest_value (L s.around.now s) call (L s.around.now t) in
-    if_ok c.serve_over.result (λ parts s. run_keeps {does = D} c.args.server.now c.serve_over.new.service s.4.steps s.4.run (λ x. x.me.ghost_name) (λ x y call did. did.0)) c.serve_over.ensures
+    let stood = c.requires in
+    if_ok c.serve_on.result (λ left s.
+    let went = s stood.0 stood.1 stood.2 in
+    run_keeps {does = D} c.args.server.now c.serve_on.new.service went.0 went.1 (λ x. x.me.ghost_name) (λ x y call did. did.0)) c.serve_on.ensures.stood
 
-pub returns-clause-served : goal.returns-clause-served
-returns-clause-served g c =
+pub returns-clause-went_on : goal.returns-clause-went_on
+returns-clause-went_on g c =
     let X : Type 0 = Server g.row.S.Denot g.row.C.Denot g.row.R.Denot Kept g.row.S-Held.Denot in
     let L : Around _ _ → X → Lane = λ a x. lane_of a.settings.now.password (g.S.Calls.shown x.me.now) x.kept.connections.items in
     let D : X → Call → X → Type 0 = λ s call t. (t.me.ghost_name ≡ s.me.ghost_name) × (t.around.now ≡ s.around.now)
@@ -25,18 +28,12 @@ returns-clause-served g c =
     let around = c.args.server.now.around.now in
     let password = around.settings.now.password in
     let most = around.settings.now.longest_value in
-    if_ok c.serve_over.result (λ parts s. (
-      s.0,
-      s.1,
-      s.2,
-      s.3,
-      record {
-        steps = s.4.steps;
-        run = run_seen {does = D} c.args.server.now c.serve_over.new.service s.4.steps s.4.run (L around) (Acts g.S.Calls.limits password most) (λ x. x.around.now) around
-            (λ x y call did. did.1)
-            (λ x y call is did. subst (λ (a : Around _ _). Acts g.S.Calls.limits a.settings.now.password a.settings.now.longest_value (L a x) call (L a y)) is did.2)
-            refl;
-        each = s.4.each;
-        left = s.4.left;
-      },
-    )) c.serve_over.ensures
+    if_ok c.serve_on.result (λ left s start past stood.
+    let went = s start past stood in (
+      went.0,
+      run_seen {does = D} c.args.server.now c.serve_on.new.service went.0 went.1 (L around) (Acts g.S.Calls.limits password most) (λ x. x.around.now) around
+          (λ x y call did. did.1)
+          (λ x y call is did. subst (λ (a : Around _ _). Acts g.S.Calls.limits a.settings.now.password a.settings.now.longest_value (L a x) call (L a y)) is did.2)
+          refl,
+      went.2,
+    )) c.serve_on.ensures.stood

@@ -1,0 +1,21 @@
+use Rattle.std.proofs.Common.{List, ap}
+use Rattle.far_server.specs.Services.{lane_of}
+use Rattle.far_server.specs.Left.{LeftView}
+use Rattle.far_server.specs.declared.states.WorkerState.TheVariants as state
+use Rattle.far_server.proofs.Stints.{new_stood, fresh_begins, serves_so}
+use Rattle.far_server.proofs.lane.begin.Goals as goal
+
+pub invariant_of-serve : goal.invariant_of-serve
+invariant_of-serve g c = new_stood g.P.Input.Read.remaining g.P.Output.Write.contents c.new-wire.result c.none-holds.result c.none-holds.ensures c.new-wire.ensures.nothing
+
+pub returns : goal.returns
+returns g c =
+    let remaining = g.P.Input.Read.remaining in
+    let contents = g.P.Output.Write.contents in
+    let Opens = g.P.Pipes.opens c.args.pipes.now c.args.around.now.lane in
+    let settings = c.args.around.now.settings.now in
+    let old = g.S.Calls.shown c.args.me.now in
+    let left : LeftView _ _ = record { wire = c.new-wire.result; views = c.none-holds.result; connections = c.new-kept.result.connections.items } in
+    serves_so remaining contents Opens g.S.Calls.limits settings old (g.S.Calls.shown c.serve.new.me) state.Fresh left
+    (fresh_begins remaining contents Opens settings.requests left c.in-Ok.both.0 c.in-Ok.both.1 c.in-Ok.ensures c.new-wire.ensures.parts c.new-wire.ensures.limits c.none-holds.ensures c.new-wire.ensures.nothing)
+    (λ n. ap (λ (cs : List _). (lane_of settings.password old cs).connections n) c.new-kept.ensures) c.serve.result c.serve.ensures

@@ -1,0 +1,37 @@
+//! What a worker of a server keeps from one map to the next.
+
+use crate::ending::WorkerEnd;
+use crate::server::Kept;
+use lanes::{Holds, Wire};
+use std::io::{BufRead, Write};
+use std::marker::Model;
+
+/// A lane that has left a map, and goes on in the next one. Contracts see its frames, what it holds of their connections, and what it
+/// knows of these.
+#[derive(Drop)]
+pub(crate) struct LeftLane<I: BufRead + Drop, O: Write + Drop> {
+    pub(crate) wire: Wire<I, O>,
+    pub(crate) holds: Holds,
+    pub(crate) kept: Kept,
+}
+
+impl<I: BufRead + Drop, O: Write + Drop> Model for LeftLane<I, O> {
+    ghost use Rattle.far_server.specs.Left.{LeftView, HasStood};
+
+    ghost Value = { LeftView I O };
+
+    ghost view = { λ l. record { wire = l.wire; views = l.holds; connections = l.kept.connections.items } };
+
+    ghost invariant = { λ l. HasStood I.remaining O.contents l.wire l.holds };
+}
+
+/// What a worker keeps from one map to the next.
+#[derive(Drop)]
+pub(crate) enum WorkerState<I: BufRead + Drop, O: Write + Drop> {
+    /// It has not begun.
+    Fresh,
+    /// A lane that goes on.
+    Left(LeftLane<I, O>),
+    /// It has ended; the sweep until the next map is there.
+    Ended(WorkerEnd<I, O>),
+}
