@@ -34,9 +34,11 @@ WITHOUT_GROWTH = {
         "construct",
     )
 }
-# The calls that do without some growths that they are refused: they read a copy of a pair that they can't fetch; or a server whose
-# threads are not started, or that looks less far ahead.
-UNSEEN = {"Calls::with, the device", "Calls::contains, the device", "run_server"}
+# The calls that do without some growths that they are refused: they read a copy of a pair that they can't fetch; a handover keeps in
+# memory what its device has no memory for; a run or a server whose threads are not started, or that looks less far ahead.
+UNSEEN = {
+    "Calls::with, the device", "Calls::contains, the device", "Handover::add_far", "Handover::take, the device", "run_renewed", "run_server",
+}
 TOLD = ("memory, then ok", "not prepared")
 
 
@@ -74,10 +76,10 @@ def sweep(program, library):
         growths_of.update(call for call, said in others if said == TOLD[0])
     for number, others in others_of.items():
         if not others:
-            # It belongs to the call that was told of last before it and first behind it.
+            # It belongs to the call that was told of last before it, or first behind it.
             calls = {*next_told(others_of, number, -1), *next_told(others_of, number, 1)}
-            growths_of.update(calls)
-            if len(calls) != 1 or not calls <= UNSEEN:
+            growths_of.update(calls & UNSEEN)
+            if len(calls & UNSEEN) != 1:
                 wrong.append(f"{number}: unseen, near {calls}")
     for call in names:
         if (growths_of[call] == 0) != (call in WITHOUT_GROWTH):
