@@ -170,15 +170,22 @@ def filled(client, count, size):
     return values
 
 
+def renewed_twice(client, count, size, least):
+    """So many values, of which more than `least` objects lie far, stand behind two renewals: gives them, the objects, and the longest
+    pause."""
+    values = filled(client, count, size)
+    far = int(client.info("far")["far_objects"])
+    assert far > least, far
+    longest = renew(client, 2)
+    stands(client, values)
+    nothing_is_lost(client)
+    return values, far, longest
+
+
 def what_lies_on_disk_is_renewed(tried, _):
     with tried.start("--buckets", 16384, "--names", 16 * 16384, memory="32m") as server:
         client = server.client()
-        values = filled(client, 20_000, 4000)
-        far = int(client.info("far")["far_objects"])
-        assert far > 5000, far
-        longest = renew(client, 2)
-        stands(client, values)
-        nothing_is_lost(client)
+        _, far, longest = renewed_twice(client, 20_000, 4000, 5000)
         peak, scratch = server.peak(), server.scratch()
         assert peak < 32 * MEBIBYTE * SLACK, f"{peak / MEBIBYTE:.1f} MiB were resident"
         assert client.ask("FLUSHALL") == OK and client.ask("DBSIZE") == b":0\r\n" and client.ask("GET", "key1") == NONE
@@ -228,12 +235,7 @@ def what_lies_in_a_store_is_renewed(tried, _):
     options = ("--far-timeout", 1, "--buckets", 4096, "--names", 16 * 4096)
     with Store(tried.work) as store, tried.start("--far-resp", store.address, *options, memory="48m", far=None) as server:
         client, far = server.client(), store.client()
-        values = filled(client, 3000, 30_000)
-        objects = int(client.info("far")["far_objects"])
-        assert objects > 1000, objects
-        longest = renew(client, 2)
-        stands(client, values)
-        nothing_is_lost(client)
+        values, objects, longest = renewed_twice(client, 3000, 30_000, 1000)
         told = int(client.info("far")["far_objects"])
         # Nothing of earlier maps is left there.
         assert abs(far.number("DBSIZE") - told) <= 8, (far.number("DBSIZE"), told)
