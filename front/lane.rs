@@ -54,7 +54,7 @@ impl Shared {
     }
 }
 
-/// Who has a number. It is free once a close went both ways and the socket is closed.
+/// Who has a number. The number is free once a close went both ways and the socket is closed, in whatever order.
 struct Client {
     /// None once it is closed.
     socket: Option<Channel>,
@@ -67,7 +67,7 @@ struct Client {
 }
 
 impl Client {
-    fn is_free(&self) -> bool {
+    fn is_over(&self) -> bool {
         self.socket.is_none() && self.sent_close && self.got_close
     }
 }
@@ -78,7 +78,8 @@ pub struct Lane {
     requests: Channel,
     replies: Channel,
     frames: Frames,
-    clients: Vec<Client>,
+    /// By their numbers; none at a number that is free.
+    clients: Vec<Option<Client>>,
     free: Vec<usize>,
     paused: Vec<usize>,
     owes_wake: bool,
@@ -104,10 +105,9 @@ impl Lane {
         let socket = Some(Channel::new(socket, self.place | number as u64));
         let client = Client { socket, sent_close: false, got_close: false, paused: false, active: shared.now };
         if number == self.clients.len() {
-            self.clients.push(client);
-        } else {
-            self.clients[number] = client;
+            self.clients.push(None);
         }
+        self.clients[number] = Some(client);
         shared.clients += 1;
         self.requests.put(&head(OPEN, number, 0));
         self.update(number, shared);
@@ -139,7 +139,9 @@ impl Lane {
         self.requests.watch(&shared.epoll, false)?;
         if self.has_room() {
             for number in mem::take(&mut self.paused) {
-                self.clients[number].paused = false;
+                if let Some(client) = self.client(number) {
+                    client.paused = false;
+                }
                 self.update(number, shared);
             }
         }
@@ -155,9 +157,14 @@ impl Lane {
         self.requests.waiting() < INPUT_LIMIT
     }
 
+    /// Who has a number. None where it is free, as it is for an event that came too late.
+    fn client(&mut self, number: usize) -> Option<&mut Client> {
+        self.clients.get_mut(number).and_then(Option::as_mut)
+    }
+
     /// Has those events wake us that a client now waits for.
     fn update(&mut self, number: usize, shared: &mut Shared) {
-        let client = &mut self.clients[number];
+        let Some(client) = self.client(number) else { return };
         let input = !client.sent_close && !client.paused;
         if client.socket.as_mut().is_some_and(|it| it.watch(&shared.epoll, input).is_err()) {
             self.drop_client(number, shared);
@@ -166,7 +173,7 @@ impl Lane {
 
     fn read_client(&mut self, number: usize, shared: &mut Shared) {
         let has_room = self.has_room();
-        let client = &mut self.clients[number];
+        let Some(client) = self.clients.get_mut(number).and_then(Option::as_mut) else { return };
         let Some(socket) = client.socket.as_ref().filter(|_| !client.sent_close && !client.paused) else { return };
         if !has_room {
             client.paused = true;
@@ -187,7 +194,7 @@ impl Lane {
 
     /// Writes to a client what waits for it.
     fn flush_client(&mut self, number: usize, shared: &mut Shared) {
-        let client = &mut self.clients[number];
+        let Some(client) = self.client(number) else { return };
         let Some(socket) = client.socket.as_mut().filter(|it| it.waiting() > 0) else { return };
         client.active = shared.now;
         let flushed = socket.flush();
@@ -200,7 +207,8 @@ impl Lane {
 
     /// Takes no more from a client, and tells the lane so.
     fn end_input(&mut self, number: usize, shared: &mut Shared) {
-        if !mem::replace(&mut self.clients[number].sent_close, true) {
+        let Some(client) = self.client(number) else { return };
+        if !mem::replace(&mut client.sent_close, true) {
             self.requests.put(&head(CLOSE, number, 0));
             self.update(number, shared);
         }
@@ -213,19 +221,24 @@ impl Lane {
 
     /// Closes a client's socket, whatever is owed.
     fn drop_client(&mut self, number: usize, shared: &mut Shared) {
-        if !self.clients[number].is_free() {
-            self.clients[number].socket = None;
-            self.end_input(number, shared);
-            if self.clients[number].is_free() {
-                self.free.push(number);
-                shared.clients -= 1;
-            }
+        let Some(client) = self.client(number) else { return };
+        client.socket = None;
+        self.end_input(number, shared);
+        self.free_if_over(number, shared);
+    }
+
+    /// Frees the number of a connection whose last end has come. Nothing else frees one.
+    fn free_if_over(&mut self, number: usize, shared: &mut Shared) {
+        if self.client(number).is_some_and(|it| it.is_over()) {
+            self.clients[number] = None;
+            self.free.push(number);
+            shared.clients -= 1;
         }
     }
 
     /// Closes a client's socket where the lane has closed it and all is out.
     fn close_if_out(&mut self, number: usize, shared: &mut Shared) {
-        let client = &self.clients[number];
+        let Some(client) = self.client(number) else { return };
         if !client.got_close || client.socket.as_ref().is_some_and(|it| it.waiting() > 0) {
             return self.update(number, shared);
         }
@@ -252,7 +265,7 @@ impl Lane {
 
     /// Gives a client what the lane sent it.
     fn send(&mut self, number: usize, bytes: &[u8], shared: &mut Shared) {
-        let Some(client) = self.clients.get_mut(number).filter(|it| !it.got_close) else { return };
+        let Some(client) = self.client(number).filter(|it| !it.got_close) else { return };
         client.active = shared.now;
         match client.socket.as_mut().map_or(Ok(()), |it| it.send(bytes, shared.output_limit)) {
             Ok(()) => self.update(number, shared),
@@ -262,17 +275,18 @@ impl Lane {
 
     /// Does what a lane's close asks for.
     fn end_output(&mut self, number: usize, shared: &mut Shared) {
-        let Some(client) = self.clients.get_mut(number) else { return };
+        let Some(client) = self.client(number) else { return };
         if !mem::replace(&mut client.got_close, true) {
             self.end_input(number, shared);
             self.close_if_out(number, shared);
+            self.free_if_over(number, shared);
         }
     }
 
     /// Closes who was silent too long.
     pub fn close_idle(&mut self, idle: Duration, shared: &mut Shared) {
         for number in 0..self.clients.len() {
-            if shared.now - self.clients[number].active >= idle {
+            if self.client(number).is_some_and(|it| shared.now - it.active >= idle) {
                 self.drop_client(number, shared);
             }
         }

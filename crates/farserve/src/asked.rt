@@ -24,6 +24,12 @@ const MOST_NAMES: u64 = (1 << 40) - 1;
 /// What may happen where all is full.
 const POLICIES: [&str; 2] = ["noeviction", "allkeys"];
 
+/// The most connections at once, where nothing is said.
+const CLIENTS: u32 = 10_000;
+
+/// The most connections that may be asked for.
+const MOST_CLIENTS: i64 = 1_000_000;
+
 /// The most folders: as many as a map may have devices.
 const MOST_FOLDERS: usize = 64;
 
@@ -59,6 +65,8 @@ pub struct Asked<'a> {
     pub password_file: Option<&'a str>,
     /// Seconds that a client may be silent, 0 for any.
     pub timeout: u32,
+    /// The most connections at once.
+    pub most_clients: u32,
     /// How many names a map has before it is renewed, as it was written.
     pub names: Option<&'a str>,
     /// The folder of the named pipes.
@@ -162,6 +170,13 @@ fn with_addresses<'a>(alloc: Global, command: Command<'a>) -> Result<Command<'a>
         4_294_967_295,
         "Seconds after which a silent client is closed, 0 for never [0]",
     );
+    let most_clients = number(
+        alloc,
+        "maxclients",
+        1,
+        MOST_CLIENTS,
+        "The most connections at once, 1 to 1000000; more are refused [10000]",
+    );
     let pipes = text(
         alloc,
         "pipes",
@@ -201,6 +216,7 @@ fn with_addresses<'a>(alloc: Global, command: Command<'a>) -> Result<Command<'a>
             "A file whose first line is the password that AUTH wants [none: no password]",
         ))?
         .arg(timeout.value_name("SECONDS"))?
+        .arg(most_clients)?
         .arg(pipes.hide(true))?
         .arg(names.hide(true))?;
     Ok(command)
@@ -298,6 +314,7 @@ impl<'a> Asked<'a> {
             unix: matches.get_str("unix"),
             password_file: matches.get_str("password-file"),
             timeout: matches.get_one::<u32>("timeout").unwrap_or(0),
+            most_clients: matches.get_one::<u32>("maxclients").unwrap_or(CLIENTS),
             names: matches.get_str("names"),
             pipes,
         };

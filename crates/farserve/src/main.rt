@@ -46,9 +46,6 @@ const REQUEST: u32 = 4 << 20;
 /// Arguments of a request, and bytes of a line of words.
 const ARGUMENTS: u32 = 65_536;
 
-/// The most connections.
-const CLIENTS: u32 = 10_000;
-
 /// The limit of what lies far, as INFO tells it: 0 for none.
 fn told_limit(limit: u64) -> u64 {
     if limit == u64::MAX { 0 } else { limit }
@@ -85,7 +82,7 @@ fn settings(
         options: Options {
             most_memory: asked.memory,
             evicts: asked.evicts,
-            most_clients: u64::from(CLIENTS),
+            most_clients: u64::from(asked.most_clients),
             timeout: u64::from(asked.timeout),
             longest_value: u64::from(value),
             port: u32::from(asked.port),
@@ -110,8 +107,9 @@ fn tell_links(rt: &impl Print, folder: &str, store: Store<'_>) -> io::Result<()>
 /// Writes how many lanes there are, and what the front is started with.
 fn tell_front(rt: &impl Print, asked: &Asked<'_>) -> io::Result<()> {
     let (lanes, port, bind, timeout) = (asked.threads, asked.port, asked.bind, asked.timeout);
+    let clients = asked.most_clients;
     print!(rt;
-        "{lanes}\0--port\0{port}\0--bind\0{bind}\0--timeout\0{timeout}\0--connections\0{CLIENTS}\0"
+        "{lanes}\0--port\0{port}\0--bind\0{bind}\0--timeout\0{timeout}\0--connections\0{clients}\0"
     )?;
     if let Some(path) = asked.unix {
         print!(rt; "--unix\0{path}\0")?;

@@ -1,0 +1,102 @@
+"""Trials of server.py: however connections end, their slots are free again. Each has few slots and more ends than these."""
+import contextlib
+import signal
+import socket
+import struct
+import time
+
+from server_parts import PONG, Client, request, until
+
+SLOTS = 40
+REFUSAL = b"max number of clients reached"
+# One MiB each: more than the system keeps for a client that reads nothing.
+VALUE = b"x" * (1 << 20)
+# Seconds in which a server is gone that owes nothing.
+AT_ONCE = 0.3
+
+
+def a_slot(server, stack):
+    """A client that has a slot, once one is free."""
+    got = []
+
+    def is_there():
+        client = stack.enter_context(Client(server.address))
+        with contextlib.suppress(OSError, EOFError):
+            if client.ask("PING") == PONG:
+                got.append(client)
+                return True
+        client.close()
+        return False
+    until(is_there, "a slot that is free")
+    return got[0]
+
+
+def fill(server):
+    """Takes each slot, sees that one more client is refused, and gives all back."""
+    with contextlib.ExitStack() as stack:
+        clients = [a_slot(server, stack) for _ in range(SLOTS)]
+        refused = stack.enter_context(Client(server.address)).reply()
+        assert REFUSAL in refused, refused
+        assert all(it.ask("PING") == PONG for it in clients)
+
+
+def reset(client):
+    client.socket.setsockopt(socket.SOL_SOCKET, socket.SO_LINGER, struct.pack("ii", 1, 0))
+
+
+def each_slot_is_free_again(tried, counts):
+    """More resets, closes with a reply unread, broken requests and QUITs than there are slots, and in between all are there."""
+    def resets(client):
+        client.send(request("PING"))
+        reset(client)
+
+    def leaves_replies(client):
+        client.send(request("GET", "big") * 8)
+
+    def breaks(client):
+        client.send(b"*1\r\n!\r\n")
+
+    def quits(client):
+        client.send(request("QUIT") + request("PING"))
+
+    def says_half(client):
+        client.send(request("SET", "k", "v")[:-3])
+
+    def goes_at_once(client):
+        pass
+
+    rounds = max(3 * SLOTS, counts["clients"] // 10)
+    with tried.start("--maxclients", SLOTS) as server:
+        with Client(server.address) as client:
+            client.ask("SET", "big", VALUE)
+            assert client.strings("CONFIG", "GET", "maxclients") == [b"maxclients", b"%d" % SLOTS]
+            assert client.info("clients")["maxclients"] == str(SLOTS)
+        for end in [resets, leaves_replies, breaks, quits, says_half, goes_at_once]:
+            for _ in range(rounds):
+                with contextlib.suppress(ConnectionResetError, BrokenPipeError), Client(server.address) as client:
+                    end(client)
+            fill(server)
+        is_gone_at_once(server)
+    return f"{6 * rounds} ends over {SLOTS} slots"
+
+
+def is_gone_at_once(server):
+    began = time.monotonic()
+    server.process.send_signal(signal.SIGTERM)
+    server.ended(0)
+    took = time.monotonic() - began
+    assert took < AT_ONCE, f"it took {took:.2f} s to end where nothing was owed"
+
+
+def slots_of_silent_clients_are_free_again(tried, _):
+    """As many silent clients as there are slots, and again, each closed by --timeout."""
+    with tried.start("--maxclients", SLOTS, "--timeout", 1) as server:
+        for _ in range(2):
+            with contextlib.ExitStack() as stack:
+                silent = [a_slot(server, stack) for _ in range(SLOTS)]
+                assert all(it.is_ended() for it in silent)
+        fill(server)
+        is_gone_at_once(server)
+
+
+TRIALS = [each_slot_is_free_again, slots_of_silent_clients_are_free_again]
