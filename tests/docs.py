@@ -1,7 +1,7 @@
-"""Counts the words of the docs, and tries their links and what they name in backticks: docs.py.
+"""Tries the links of the docs, and what they name in backticks: docs.py.
 
-A page of LIMITS has at most so many words, which are what stands between blanks, as `wc -w` counts them. In README.md,
-CONTRIBUTING.md, docs/ and the READMEs of the crates, the front and the examples, but for what stands between lines of ```:
+In README.md, CONTRIBUTING.md, docs/ and the READMEs of the crates, the front and the examples, but for what stands between
+lines of ```:
 
 - the file of a relative link is there, and where it names a place, so is the heading;
 - a path in backticks is there: from the top, from crates/, from the page's folder, or from a crate's folder or its src/, in
@@ -17,11 +17,6 @@ from functools import cache
 from pathlib import Path
 
 ROOT = Path(__file__).resolve().parent.parent
-LIMITS = {
-    "README.md": 1100, "docs/ARCHITECTURE.md": 1800, "docs/GUARANTEES.md": 4000, "docs/FORMATS.md": 1200,
-    "docs/DECISIONS.md": 3000, "docs/PERFORMANCE.md": 1000, "docs/SERVER.md": 1400, "CHANGELOG.md": 600,
-    "CONTRIBUTING.md": 1000, "crates/*/README.md": 300, "front/README.md": 300, "examples/*/README.md": 300,
-}
 PAGES = ("README.md", "CONTRIBUTING.md", "docs/*.md", "crates/README.md", "crates/*/README.md", "front/README.md",
          "examples/*/README.md")
 FOLDERS = {"src", "specs", "proofs", "must-fail", "more-edits", *(it.name for it in [*ROOT.iterdir(), *ROOT.glob("crates/*")])}
@@ -109,14 +104,8 @@ def faults(page):
 
 
 def main():
-    wrong = []
-    for pattern, most in LIMITS.items():
-        for page in sorted(ROOT.glob(pattern)):
-            count = len(page.read_text().split())
-            if count > most:
-                wrong.append(f"{page.relative_to(ROOT)}:1: {count} words, and at most {most} may stand there")
     pages = [page for pattern in PAGES for page in sorted(ROOT.glob(pattern))]
-    wrong += [it for page in pages for it in faults(page)]
+    wrong = [it for page in pages for it in faults(page)]
     print("".join(f"{it}\n" for it in wrong) + f"{len(pages)} pages, {len(wrong)} wrong")
     sys.exit(1 if wrong else 0)
 

@@ -1,4 +1,4 @@
-"""Runs the program growths with each of its growths refused in turn: refused_calls.py PROGRAM LIBRARY.
+"""Runs growths or server_growths with each of its growths refused in turn: refused_calls.py PROGRAM LIBRARY.
 
 LIBRARY is refuse_growth.c, built. The program makes each public call of the libraries that can answer want of memory, and
 prints a line for it. With no growth refused each line is `CALL: ok`. With one refused, one line says something else:

@@ -1,7 +1,7 @@
 #!/usr/bin/env bash
 # Refuses requests for memory, each in turn: those of the program on one file, on another and on three, and the first of a
 # long file, whose replies have to come from a history (refused_growths.py), and those of each public call that can answer
-# want of memory, which the program growths makes (refused_calls.py). The status is 1 where something else comes than may,
+# want of memory, which the programs growths and server_growths make (refused_calls.py). The status is 1 where something else comes than may,
 # and 77 where there is no C compiler.
 set -euo pipefail
 
@@ -14,8 +14,9 @@ work=$(mktemp -d)
 trap 'rm -rf "$work"' EXIT
 cc -O -Wall -shared -fPIC -fno-builtin -o "$work/refuse_growth.so" "$tests/refuse_growth.c"
 program=$("$tests/../bin/build" fartable)
-calls=$("$tests/../bin/build" growths)
 status=0
 /usr/bin/python3 -B "$tests/refused_growths.py" "$program" "$work/refuse_growth.so" || status=1
-/usr/bin/python3 -B "$tests/refused_calls.py" "$calls" "$work/refuse_growth.so" || status=1
+for calls in growths server_growths; do
+    /usr/bin/python3 -B "$tests/refused_calls.py" "$("$tests/../bin/build" "$calls")" "$work/refuse_growth.so" || status=1
+done
 exit "$status"

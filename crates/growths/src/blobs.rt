@@ -1,11 +1,11 @@
 //! The calls of `far_blob`, and those of `far_map` that make a value of bytes.
 
-use crate::trials::{
-    Answer, Outcome, Tried, answer, is_appended, is_nine, is_text, nine, tell, tried,
-};
 use far_blob::{Blob, BlobFault};
 use far_map::{Refusal, Value};
 use far_object::{FarObject, Memory, ObjectFault, Text};
+use growth_trials::{
+    Answer, Outcome, Tried, answer, is_appended, is_nine, is_text, nine, tell, tried,
+};
 use std::alloc::Global;
 use std::io;
 

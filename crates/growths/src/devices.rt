@@ -3,10 +3,10 @@
 mod stored;
 mod tested;
 
-use crate::trials::{Answer, Outcome, Tried, answer, nine, tell, tell_of, tried};
 use far_device::{CannedDevice, Device, FakeDevice, FaultyDevice, LyingDevice, WatchedDevice};
 use far_object::Memory;
 use file_device::{DiskFault, FileDevice, FileDisk, FolderFault, MemoryDisk, open_lanes};
+use growth_trials::{Answer, Outcome, Tried, answer, nine, tell, tell_of, tried};
 use std::alloc::Global;
 use std::fs::File;
 use std::hash::RandomState;

@@ -5,8 +5,8 @@ ghost use Rattle.version_words.specs.Views.{calls};
 
 use crate::tables::user::{Place, User};
 use crate::tables::{self, SPARES, Table, TableCaller, entered};
-use crate::trials::{Answer, Outcome, Tried, answer, tell, tried};
 use far_object::{Memory, Text};
+use growth_trials::{Answer, Outcome, Tried, answer, tell, tried};
 use hash_table::Refusal;
 use std::alloc::Global;
 use std::io;

@@ -1,9 +1,9 @@
 //! The calls of `table_core`, at a table of four buckets. The keys a and e are in bucket 0.
 
-use crate::trials::{
+use far_object::{Memory, Text};
+use growth_trials::{
     Answer, Outcome, Tried, answer, is_pair, is_text, is_value, tell, text, tried,
 };
-use far_object::{Memory, Text};
 use std::alloc::Global;
 use std::io;
 use table_core::word::pack;

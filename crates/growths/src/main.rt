@@ -1,32 +1,26 @@
-//! Makes each public call of the libraries that can answer want of memory, and prints what it answered, a line for each. A
+//! Makes each public call of the map's libraries that can answer want of memory, and prints what it answered, a line for each. A
 //! call that answers want of memory is made once more, and it is looked at whether what should stand does.
 //!
 //! A script of tests/ runs this with each of its growths refused in turn.
 #![tactic(auto)]
 
 mod blobs;
-mod commanding;
 mod devices;
 mod evicting;
 mod machine;
 mod maps;
 mod objects;
-mod protocol;
 mod recycling;
 mod renewing;
 mod rows;
-mod serving;
 mod stores;
 mod tables;
-mod trials;
 
 use std::io;
 
 fn main(rt: HostRuntime) -> io::Result<()> {
     objects::tell_all(&rt)?;
     blobs::tell_all(&rt)?;
-    protocol::tell_all(&rt)?;
-    commanding::tell_all(&rt)?;
     devices::tell_all(&rt)?;
     machine::tell_all(&rt)?;
     rows::tell_all(&rt)?;
@@ -35,6 +29,5 @@ fn main(rt: HostRuntime) -> io::Result<()> {
     recycling::tell_all(&rt)?;
     evicting::tell_all(&rt)?;
     maps::tell_all(&rt)?;
-    renewing::tell_all(&rt)?;
-    serving::tell_all(&rt)
+    renewing::tell_all(&rt)
 }

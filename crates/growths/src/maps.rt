@@ -5,10 +5,10 @@ pub mod worker;
 
 use crate::tables::Taker;
 use crate::tables::user::Place;
-use crate::trials::{Answer, Outcome, Tried, tell, tell_of};
 use far_device::FakeDevice;
 use far_map::{RunFault, Settings, run, run_apart, run_bundled, run_through};
 use far_object::Memory;
+use growth_trials::{Answer, Outcome, Tried, tell, tell_of};
 use std::alloc::Global;
 use std::io;
 use std::sync::Wait;

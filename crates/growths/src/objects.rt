@@ -1,10 +1,10 @@
 //! The calls of `far_object`.
 
-use crate::trials::{
+use far_object::{FarObject, Format, Memory, Object, ObjectFault, Text, TextFault};
+use growth_trials::{
     Answer, Outcome, Tried, answer, is_appended, is_nine, is_pair, is_text, is_value, nine, tell,
     text, tried,
 };
-use far_object::{FarObject, Format, Memory, Object, ObjectFault, Text, TextFault};
 use std::alloc::Global;
 use std::io;
 

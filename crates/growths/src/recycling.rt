@@ -4,9 +4,9 @@ ghost use Rattle.version_words.specs.Rows.{limits_of};
 ghost use Rattle.hash_table.specs.Configs.{sizes_of};
 
 use crate::tables::SETTINGS;
-use crate::trials::{Answer, Outcome, Tried, answer, tell, tried};
 use far_device::FakeDevice;
 use far_object::Memory;
+use growth_trials::{Answer, Outcome, Tried, answer, tell, tried};
 use hash_table::{Caller, Config, FarTable, Opening, Refusal};
 use std::alloc::Global;
 use std::io;

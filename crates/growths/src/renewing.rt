@@ -1,9 +1,9 @@
 //! The calls of `handover`, over a device in the process, and a run of `far_map` whose map is renewed.
 
-use crate::trials::{Answer, Outcome, Tried, answer, is_pair, is_value, tell, text, tried};
 use far_device::FakeDevice;
 use far_map::{After, Calls, Carried, RunFault, Settings, Stints, run_renewed};
 use far_object::{Memory, Object, Text};
+use growth_trials::{Answer, Outcome, Tried, answer, is_pair, is_value, tell, text, tried};
 use handover::{Handover, Untaken};
 use std::alloc::Global;
 use std::io;

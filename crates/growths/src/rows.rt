@@ -2,9 +2,9 @@
 ghost use Rattle.std.specs.Prelude.{◌≡◌, false};
 ghost use Rattle.version_words.specs.Rows.{limits_of};
 
-use crate::trials::{Answer, Outcome, Tried, answer, tell, tried};
 use far_object::Memory;
 use frame_cache::Frames;
+use growth_trials::{Answer, Outcome, Tried, answer, tell, tried};
 use std::alloc::Global;
 use std::io;
 use std::marker::Brand;

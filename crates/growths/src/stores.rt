@@ -7,10 +7,10 @@ mod keeper;
 mod kept;
 
 use crate::rows::Unvouched;
-use crate::trials::{Answer, Outcome, Tried, answer, tell, tell_of};
 use drawn::{Drawn, Row};
 use far_device::{Device, FakeDevice};
 use far_object::{Format, Memory};
+use growth_trials::{Answer, Outcome, Tried, answer, tell, tell_of};
 use keeper::Keeper;
 use kept::Kept;
 use lane_store::{Lane, LaneFault, LaneStore, Receipt};

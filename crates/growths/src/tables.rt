@@ -7,9 +7,9 @@ ghost use Rattle.hash_table.specs.Configs.{sizes_of};
 pub mod user;
 
 use crate::evicting;
-use crate::trials::{Answer, Outcome, Tried, answer, tell, tell_of};
 use far_device::FakeDevice;
 use far_object::{FarObject, Memory, Text};
+use growth_trials::{Answer, Outcome, Tried, answer, tell, tell_of};
 use hash_table::{
     Caller, CloseFault, Config, FarTable, HandFault, OpenFault, Opening, Stopped, TakesPairs,
 };

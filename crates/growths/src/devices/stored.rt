@@ -2,9 +2,9 @@
 
 use super::tested::{KNOWN, OLD, PLAIN, WRITTEN, prepared};
 use super::{Zeros, append_many, construct, remove};
-use crate::trials::{Answer, Outcome, Tried, answer, is_appended, is_nine, nine, tell, tried};
 use far_device::{Device, DeviceFault};
 use far_object::Memory;
+use growth_trials::{Answer, Outcome, Tried, answer, is_appended, is_nine, nine, tell, tried};
 use resp_device::RespDevice;
 use std::alloc::Global;
 use std::hash::RandomState;

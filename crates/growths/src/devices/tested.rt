@@ -1,8 +1,8 @@
 //! A device that is tried: what it has before a call, the call, and what it has then.
 
-use crate::trials::{Answer, Outcome, answer, is_appended, is_nine, tried};
 use far_device::{Device, DeviceFault};
 use far_object::Memory;
+use growth_trials::{Answer, Outcome, answer, is_appended, is_nine, tried};
 use std::alloc::Global;
 
 /// The id that has bytes before a call.

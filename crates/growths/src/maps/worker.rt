@@ -1,9 +1,9 @@
 //! The one worker of a run, for one call.
 
 use crate::tables::user::Place;
-use crate::trials::{Answer, Outcome, Tried, answer, is_text, is_value, text, tried};
 use far_map::{BucketState, Calls, Refusal, Updated, Work};
 use far_object::{Memory, Text};
+use growth_trials::{Answer, Outcome, Tried, answer, is_text, is_value, text, tried};
 use std::alloc::Global;
 use std::slice::from_ref;
 use std::sync::Wait;

@@ -2,8 +2,8 @@
 
 use super::drawn::Drawn;
 use super::keeper::{Found, Keeper};
-use crate::trials::{Answer, Outcome, Tried, answer, behind_nine, is_nine, nine, tried};
 use far_object::{Format, Memory};
+use growth_trials::{Answer, Outcome, Tried, answer, behind_nine, is_nine, nine, tried};
 use lane_store::LaneFault;
 use std::alloc::Global;
 use std::sync::Wait;

@@ -1,8 +1,8 @@
 //! A table's one caller, for one call.
 
 use super::{Call, FRAMES, Table, TableCaller, entered};
-use crate::trials::{Answer, Outcome, Tried, answer, is_text, is_value, text, tried};
 use far_object::{Memory, Text};
+use growth_trials::{Answer, Outcome, Tried, answer, is_text, is_value, text, tried};
 use hash_table::{BucketState, ReclaimFault, Refusal};
 use std::alloc::Global;
 use std::sync::Wait;

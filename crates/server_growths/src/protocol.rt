@@ -1,9 +1,9 @@
 //! The calls of `resp`.
 
-use crate::trials::{
+use far_object::Memory;
+use growth_trials::{
     Answer, Outcome, Tried, answer, appends, is_appended, is_nine, nine, tell, tried,
 };
-use far_object::Memory;
 use resp::{
     Limits, Parsed, Span, parse, push_count, push_failure, push_no_array, push_nothing,
     push_number, push_simple, push_string,

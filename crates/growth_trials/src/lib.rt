@@ -1,6 +1,9 @@
-//! What became of a call, how it is told, and what the calls of all layers are made with.
+//! What became of a call, how it is told, and what the calls of all layers are made with, for the programs `growths` and
+//! `server_growths`.
+#![tactic(auto)]
 
-use far_object::{Memory, Text};
+pub use far_object::Memory;
+use far_object::Text;
 use std::alloc::Global;
 use std::io;
 
@@ -78,49 +81,48 @@ pub type Tried = Result<Outcome, Memory>;
 
 /// What a call answered: with the pattern of what it gives, whether that is right, and the pattern of its want of memory,
 /// where it has other refusals.
+#[macro_export]
 macro_rules! answer {
     ($call:expr, $given:pat => $is_right:expr) => {
         match $call {
-            Ok($given) => Answer::of($is_right),
-            Err(Memory) => Answer::Memory,
+            Ok($given) => $crate::Answer::of($is_right),
+            Err($crate::Memory) => $crate::Answer::Memory,
         }
     };
     ($call:expr, $given:pat => $is_right:expr, $memory:pat) => {
         match $call {
-            Ok($given) => Answer::of($is_right),
-            Err($memory) => Answer::Memory,
-            Err(_) => Answer::Wrong,
+            Ok($given) => $crate::Answer::of($is_right),
+            Err($memory) => $crate::Answer::Memory,
+            Err(_) => $crate::Answer::Wrong,
         }
     };
 }
 
 /// What became of a call: where it wanted memory, it is looked at whether what should stand does, and the call is made once more.
+#[macro_export]
 macro_rules! tried {
     ($call:expr, $stands:expr) => {
         match $call {
-            Answer::Memory => {
+            $crate::Answer::Memory => {
                 let stands = $stands;
-                Outcome::after_memory(stands, $call)
+                $crate::Outcome::after_memory(stands, $call)
             }
-            answer => Outcome::at_once(answer),
+            answer => $crate::Outcome::at_once(answer),
         }
     };
 }
 
 /// What became of a call that appends these two behind the byte 9.
+#[macro_export]
 macro_rules! appends {
     ($alloc:expr, $out:ident => $call:expr, $front:expr, $back:expr) => {{
-        let mut $out = nine($alloc)?;
-        Ok(tried!(
-            answer!($call.map_err(|_| Memory), () => is_appended(&$out, $front, $back)),
-            is_nine(&$out)
+        let mut $out = $crate::nine($alloc)?;
+        Ok($crate::tried!(
+            $crate::answer!($call.map_err(|_| $crate::Memory), () => $crate::is_appended(&$out, $front, $back)),
+            $crate::is_nine(&$out)
         ))
     }};
 }
-
-pub(crate) use answer;
-pub(crate) use appends;
-pub(crate) use tried;
 
 /// Prints what became of the call of this name.
 pub fn tell<R: Print>(rt: &R, name: &str, tried: Tried) -> io::Result<()> {

@@ -1,6 +1,5 @@
 //! The call of `far_server`: a server of one lane, over pipes in memory. Its sweep has a thread beside the lane's, or comes behind it.
 
-use crate::trials::{Answer, Outcome, Tried, tell};
 use far_device::FakeDevice;
 use far_map::{RunFault, Settings};
 use far_object::Memory;
@@ -8,6 +7,7 @@ use far_server::{
     FarUsage, FrameFault, LaneEnd, LaneFault, OpenFault, Pipes, ServerSettings, WorkerEnd,
     run_server,
 };
+use growth_trials::{Answer, Outcome, Tried, tell};
 use resp::Limits;
 use server_commands::Options;
 use std::alloc::Global;

@@ -1,10 +1,10 @@
 //! The calls of `commands`, `key_commands` and `server_commands`.
 
-use crate::trials::{
-    Answer, Outcome, Tried, answer, appends, behind_nine, is_appended, is_nine, nine, tell, tried,
-};
 use commands::{Arguments, Change, Fault, Lifetime, Span, Where, push_stored};
 use far_object::Memory;
+use growth_trials::{
+    Answer, Outcome, Tried, answer, appends, behind_nine, is_appended, is_nine, nine, tell, tried,
+};
 use key_commands::{Effect, KeyCommand, apply};
 use server_commands::{
     Facts, Options, command_count, command_docs, command_list, config_get, fault, hello, info,
