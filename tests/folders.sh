@@ -10,7 +10,9 @@ if [ "${1:-}" = --long ]; then
 fi
 root=$(cd "$(dirname "$(readlink -f "${BASH_SOURCE[0]}")")/.." && pwd)
 fartable=$("$root/bin/build" fartable)
-farrun=$("$root/bin/build" farrun)
+# Random runs are of the program itself, which starts sooner.
+program=$("$root/bin/build" farrun)
+farrun=$root/bin/farrun
 work=$(mktemp -d)
 trap 'rm -rf "$work"' EXIT
 mkdir "$work/one" "$work/other"
@@ -37,7 +39,9 @@ try_same() {
 try_fault() {
     local status=$1 text=$2 told is=0
     shift 2
-    told=$("$farrun" "$@" 2>&1 </dev/null) || is=$?
+    # (without what a launcher says of the build)
+    "$farrun" "$@" >"$work/said" 2>&1 </dev/null || is=$?
+    told=$(sed '/^farrun: this build was not proved;/d' "$work/said")
     if [ "$is" -ne "$status" ] || [ "$told" != "$text" ]; then
         fail "$*: status $is, $told"
     fi
@@ -47,7 +51,7 @@ try_same 4 2 4096 "$root/examples/first.txt"
 try_same 4 2 4096 "$root/examples/swapped.txt"
 try_same 4 2 4096 "$root/examples/first.txt" "$root/examples/other.txt"
 try_same 256 16 4096 "$work/many.txt"
-/usr/bin/python3 -B "$root/tests/random_runs.py" "$farrun" "$runs" 1 --far "$work/one" --far "$work/other" || failed=1
+/usr/bin/python3 -B "$root/tests/random_runs.py" "$program" "$runs" 1 --far "$work/one" --far "$work/other" || failed=1
 
 try_fault 2 'far 1: cannot open' --far "$work/none" 4 2 4096 "$work/no_file"
 try_fault 2 'far 2: cannot open' --far "$work/one" --far '' 4 2 4096 -

@@ -52,7 +52,7 @@ done
 "$root/bin/build" farserve >/dev/null
 
 work=$(mktemp -d "$far/cluster-XXXXXX")
-# The pipes of a killed farserve stay, and so are to lie where all is removed.
+# The pipes of a killed farserve stay until the next start, and so are to lie where all is removed.
 export XDG_RUNTIME_DIR=$work
 
 # Whether a process is there that has not ended.

@@ -1,0 +1,199 @@
+"""The server's launcher, which bin/farserve starts: it finds or makes both programs, starts them, and ends them at a signal.
+
+The server is two programs: the proved one, which has no sockets, and the front, which joins connections to its pipes.
+"""
+import contextlib
+import os
+import re
+import signal
+import sys
+
+import options
+from builds import Front, Missing, Program
+from parts import MOMENT, SIGNALS, Interrupted, Part, Signalled, Signals
+from runtime_folder import runtime_folder
+from unproved import Unbuilt
+
+# Lanes if no --threads says otherwise, and as many links to a far store as there may be.
+THREADS = 4
+LINKS = 8
+# What one thread frees all threads use again. With an arena for each thread malloc keeps as much once more for each.
+ONE_ARENA = {"MALLOC_ARENA_MAX": "1"}
+
+
+class Failed(Exception):
+    """Why nothing is served, or no more: a status, and a text that has not been told yet."""
+
+
+def write(text):
+    """Writes to standard output, if it can be."""
+    left = text.encode(errors="surrogateescape")
+    with contextlib.suppress(OSError):
+        while left:
+            left = left[os.write(1, left):]
+
+
+def threads_in(words):
+    """How many threads the words ask for. What is no such number the server refuses."""
+    for at, word in enumerate(words):
+        if word == "--threads" or word.startswith("--threads="):
+            value = word.partition("=")[2] or (words[at + 1] if at + 1 < len(words) else "")
+            return min(int(value), 64) if re.fullmatch(r"\+?[0-9]+", value) else 0
+    return THREADS
+
+
+class Server:
+    """Both programs, and the folder of their pipes."""
+
+    def __init__(self, folder, signals):
+        self.folder, self.signals = folder, signals
+        self.parts = []
+
+    def start(self, name, words, ignored=(), environment=None):
+        self.parts.append(Part(name, words, ignored, environment or {}))
+        return self.parts[-1]
+
+    def make_pipes(self, words):
+        """Makes as many pipes as the server will have for these words. It opens them soon after it has said how many it has."""
+        # (to make one takes a millisecond or more on some disks)
+        for kind, count in (("", threads_in(words)), ("far-", LINKS if any(it.startswith("--far-resp") for it in words) else 0)):
+            for number in range(count):
+                for name in (f"{kind}requests{number}", f"{kind}replies{number}"):
+                    os.mkfifo(f"{self.folder}/{name}", 0o600)
+
+    def fail(self, ended):
+        # A signal to the whole group may have ended the front before it came here.
+        if self.signals.come_within(MOMENT):
+            raise Signalled
+        # What ended one may be the end of the other, which is seen after it.
+        ended = [it for it in self.parts if it in ended or it.has_ended()]
+        raise Failed(1, ", ".join(f"the {it.name} has ended with status {it.status()}" for it in ended))
+
+    def told(self, part, end):
+        """What a part writes until this end, or all where it writes no such end."""
+        text = b""
+        while not text.endswith(end):
+            ready = self.signals.wait(self.parts)
+            if part not in ready:
+                self.fail(ready)
+            piece = os.read(part.output.fileno(), 1 << 16)
+            if not piece:
+                break
+            text += piece
+        return text
+
+    def serve(self, program, front, words):
+        self.make_pipes(words)
+        # A signal to the whole group, as a terminal sends it, is not to end it before the front.
+        server = self.start("server", [program, *words, "--pipes", self.folder], SIGNALS, ONE_ARENA)
+        told = self.told(server, b"\0\0")
+        if not told.endswith(b"\0\0"):
+            # It is the help, or the fault stands on standard error.
+            write(told.decode())
+            raise Failed(server.status(), "")
+        count, *words = told[:-2].decode().split("\0")
+        for lane in range(int(count)):
+            words += ["--lane", f"{self.folder}/requests{lane}", f"{self.folder}/replies{lane}"]
+        write(self.told(self.start("front", [front, *words]), b"\n").decode())
+        self.fail(self.signals.wait(self.parts))
+
+    def end(self):
+        """Ends the front, and then the server. Gives the front's status, 0 where there is none."""
+        statuses = [it.end(signal.SIGTERM) for it in self.parts[1:]]
+        for it in self.parts[:1]:
+            it.end(signal.SIGKILL)
+        return max(statuses, default=0)
+
+
+def serve(program, front, words, signals):
+    """Serves until a signal comes."""
+    with runtime_folder() as folder:
+        server = Server(folder, signals)
+        try:
+            server.serve(program, front, words)
+        except Signalled:
+            pass
+        finally:
+            status = server.end()
+    # A signal may end the front before it takes signals itself.
+    if status > 0:
+        raise Failed(1, f"the front has ended with status {status}")
+
+
+def check_needs(needing):
+    """Says what has to be installed before anything is built, which takes minutes."""
+    needs = [it.needs() for it in needing if it.needs()]
+    if needs:
+        raise Missing(f"building it needs {' and '.join(needs)}")
+
+
+def build_missing(server, front, is_proved):
+    """Gives the paths of both programs, of which one at least has to be built."""
+    program, gateway = None if is_proved else server.built(), front.built()
+    check_needs([*[server] * (not program), *[front] * (not gateway)])
+    # The short one first, as it may fail too.
+    gateway = gateway or front.build()
+    if is_proved:
+        return server.give_proved(), gateway
+    return program or server.build_unproved(), gateway
+
+
+def give_programs(words, is_proved, signals):
+    """Gives the paths of both programs, which are built first if they have to be."""
+    server, front = Program("farserve"), Front()
+    program, gateway = server.built(), front.built()
+    if not (program and gateway):
+        options.judge("farserve", words)
+    if is_proved or not (program and gateway):
+        with signals.interrupting():
+            try:
+                program, gateway = build_missing(server, front, is_proved)
+            except OSError as why:
+                raise Unbuilt(why) from None
+    server.tell_of(program)
+    return program, gateway
+
+
+def run(words, signals):
+    if words[:1] == ["--version"]:
+        write(f"{Program('farserve').version()}\n{Front().version()}\n")
+        return 0
+    is_proved = words[:1] == ["--proved"]
+    words = words[1:] if is_proved else words
+    try:
+        program, front = give_programs(words, is_proved, signals)
+        if words or not is_proved:
+            signals.check()
+            serve(program, front, words, signals)
+    except options.Answered as answered:
+        return answered.tell()
+    except Signalled:
+        pass
+    except Interrupted as interrupted:
+        return 128 + interrupted.args[0]
+    except Failed as failed:
+        status, told = failed.args
+        if told:
+            tell(told)
+        return status
+    except (Missing, Unbuilt, OSError) as why:
+        tell(why)
+        return {Missing: 127, Unbuilt: 126}.get(type(why), 1)
+    return 0
+
+
+def tell(why):
+    with contextlib.suppress(OSError):
+        print(f"farserve: {why}", file=sys.stderr, flush=True)
+
+
+def main(words):
+    signals = Signals()
+    status = run(words, signals)
+    # One more signal is not to end what has ended.
+    signal.pthread_sigmask(signal.SIG_BLOCK, SIGNALS)
+    return status
+
+
+if __name__ == "__main__":
+    sys.exit(main(sys.argv[1:]))
