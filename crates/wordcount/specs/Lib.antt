@@ -1,4 +1,5 @@
 pub mod Counts
+pub mod Frames
 pub mod Taking
 pub mod Tops
 pub mod Words

@@ -2,7 +2,8 @@
 //! be larger than its frames, and prints the most frequent.
 #![tactic(auto)]
 
-ghost use Rattle.std.specs.Prelude.{◌<◌, length};
+ghost use Rattle.std.specs.Prelude.{◌<◌, ◌≤◌, length};
+ghost use Rattle.wordcount.specs.Frames.{least_frames};
 
 mod asked;
 mod counting;
@@ -12,7 +13,7 @@ mod top;
 mod words;
 
 use anyhow::{Result, bail};
-use asked::{Asked, command};
+use asked::{Asked, TooFew, command};
 use counting::Counting;
 use far_device::{Device, FakeDevice};
 use far_map::{RunFault, Settings, run_through};
@@ -43,6 +44,7 @@ fn count<D, R>(rt: &R, asked: &Asked, files: &[&str], devices: Vec<D>) -> Result
 where
     D: Device + Send,
     R: Files<File = File> + AllocGlobal + Threads + Wait + Sync,
+    requires enough { least_frames asked.now.threads ≤ asked.now.frames }
 {
     let alloc = rt.alloc();
     let settings = Settings::new(asked.buckets, asked.frames, LIMIT);
@@ -78,6 +80,7 @@ fn print_top<D, R>(rt: &R, asked: &Asked, files: &[&str], devices: Vec<D>) -> Re
 where
     D: Device + Send,
     R: Files<File = File> + AllocGlobal + Print + Eprint + Threads + Wait + Sync,
+    requires enough { least_frames asked.now.threads ≤ asked.now.frames }
 {
     let top = count(rt, asked, files, devices)?;
     let (distinct, buckets, frames) = (top.distinct(), asked.buckets, asked.frames);
@@ -91,6 +94,7 @@ where
 fn print_in_process<R>(rt: &R, asked: &Asked, files: &[&str]) -> Result<()>
 where
     R: Files<File = File> + AllocGlobal + Print + Eprint + Threads + Wait + Sync,
+    requires enough { least_frames asked.now.threads ≤ asked.now.frames }
 {
     let mut devices = Vec::new(rt.alloc());
     for _ in 0..DEVICES {
@@ -110,7 +114,8 @@ fn print_far<R>(
 ) -> Result<u8>
 where
     R: Files<File = File> + AllocGlobal + Print + Eprint + Threads + Wait + Sync,
-    requires { 0 < length folders.now }
+    requires some { 0 < length folders.now }
+    requires enough { least_frames asked.now.threads ≤ asked.now.frames }
 {
     if folders.len() > MOST_FOLDERS {
         eprintln!(rt; "wordcount: more than {MOST_FOLDERS} folders")?;
@@ -129,6 +134,14 @@ where
     }
 }
 
+/// Says how many frames the threads need.
+fn tell_too_few(rt: &impl Eprint, fault: TooFew) -> io::Result<()> {
+    let TooFew { threads, least } = fault;
+    eprintln!(rt;
+        "wordcount: {threads} threads need {least} frames or more, two for each: give --frames {least}, or fewer --threads"
+    )
+}
+
 /// Does what these words ask for, and gives the status: 0, or 2 where they are no such words or a folder can't be used.
 fn run_words<R>(rt: &R, host: HostRuntime, words: &[String]) -> Result<u8>
 where
@@ -137,7 +150,13 @@ where
     let command = command(rt.alloc())?;
     match command.try_get_matches_from(words) {
         Ok(matches) => {
-            let asked = Asked::of(&matches);
+            let asked = match Asked::of(&matches) {
+                Ok(asked) => asked,
+                Err(fault) => {
+                    tell_too_few(rt, fault)?;
+                    return Ok(2);
+                }
+            };
             let files = matches.get_strs("files").unwrap_or(&[]);
             let folders = matches.get_strs("far").unwrap_or(&[]);
             if !folders.is_empty() {
