@@ -1,33 +1,35 @@
-//! A lane of the server, and its clients: what comes from their sockets goes to the lane's one pipe in frames, and what comes
-//! by the other goes to them.
+//! A lane of the server, and its clients: what comes from their sockets goes to the lane's one pipe in packets, and what comes
+//! by the other goes to them. docs/FORMATS.md says which packets there are.
 //!
-//! The number of a frame (`frame`) is a connection's; a wake has 0.
-//!
-//! | Kind | From the front | From the lane |
-//! |---|---|---|
-//! | 0 data | bytes that the client sent, 65,536 at most | bytes for the client |
-//! | 1 open | a client takes the number | never |
-//! | 2 close | no more comes from the client | no more goes to it: its socket is closed once all is out |
-//! | 3 wake | some lane sent a wake | send a wake to every lane, this one too |
-//!
-//! Each lane has numbers of its own, from 0, and as few as it can. Who gets a close and has sent none answers with one; once
-//! a close went both ways the number is free, and the next open may take it. A lane passes over data that comes behind its
-//! own close. The front still delivers data behind its own close where the socket takes it, for a client may end its sending
-//! alone, and drops it else. Wakes that a lane has not read yet may be one.
+//! Each client gets a number of its own, drawn in order, which no other client of the lane ever gets. Who gets a close and has
+//! sent none answers with one. Once a close went both ways and the socket is closed the client is removed, and packets for its
+//! number are passed over. A lane passes over data that comes behind its own close. The gateway still delivers data behind its
+//! own close if the socket takes it, because a client may end its sending alone. Wakes that a lane has not read yet may be one.
 //!
 //! Replies are always read, and wait for their client up to a limit. Input is read only while little waits for the lane, so
 //! the rest waits in the sockets.
+//!
+//! A client that the lane has not let in, or has let out, is a stranger, with limits (`stranger`). Before input that breaks one
+//! the lane is asked to say when it has answered all that came before: if the client is let in by then, the input is handed over.
 
 use crate::channel::Channel;
-use crate::frame::{head, Frame, Frames, CLOSE, DATA, OPEN, REPLIES, REQUESTS};
+use crate::client::Client;
+use crate::frame::{head, Frame, Frames, CLOSE, DATA, LONGEST, OPEN, PLACE, REPLIES, REQUESTS};
+use crate::stranger;
 use crate::system::{Epoll, OUTPUT};
+use std::collections::HashMap;
 use std::fs::File;
 use std::io::{self, ErrorKind};
 use std::mem;
 use std::time::{Duration, Instant};
 
 const WAKE: u8 = 3;
-/// Bytes of one read of a socket, and so the most of a frame for the lane.
+const LET_IN: u8 = 4;
+const LET_OUT: u8 = 5;
+const NOTE: u8 = 6;
+/// The most bytes of a note.
+const LONGEST_NOTE: usize = 4096;
+/// Bytes of one read of a socket, and so the most of a packet for the lane.
 const READ: usize = 1 << 16;
 /// Bytes that wait for the lane before no more input is read.
 const INPUT_LIMIT: usize = 1 << 16;
@@ -37,7 +39,11 @@ pub struct Shared {
     pub epoll: Epoll,
     /// Bytes that may wait for a client.
     pub output_limit: usize,
-    /// Numbers that are not free, of all lanes.
+    /// Whether a client that was let in may be let out again, as the server asks for a password.
+    pub is_guarded: bool,
+    /// How long a client may be a stranger, zero for ever.
+    pub auth_timeout: Duration,
+    /// Clients of all lanes.
     pub clients: usize,
     /// When the last events came.
     pub now: Instant,
@@ -48,69 +54,69 @@ pub struct Shared {
 }
 
 impl Shared {
-    pub fn new(epoll: Epoll, output_limit: usize) -> Shared {
-        let room = vec![0; READ];
-        Shared { epoll, output_limit, clients: 0, now: Instant::now(), wakes: false, room }
+    pub fn new(epoll: Epoll, output_limit: usize, is_guarded: bool, auth_timeout: Duration) -> Shared {
+        let (now, room) = (Instant::now(), vec![0; READ]);
+        Shared { epoll, output_limit, is_guarded, auth_timeout, clients: 0, now, wakes: false, room }
     }
 }
 
-/// Who has a number. The number is free once a close went both ways and the socket is closed, in whatever order.
-struct Client {
-    /// None once it is closed.
-    socket: Option<Channel>,
-    sent_close: bool,
-    got_close: bool,
-    /// Its input waits until there is room for it.
-    paused: bool,
-    /// When it was last read or written.
-    active: Instant,
-}
-
-impl Client {
-    fn is_over(&self) -> bool {
-        self.socket.is_none() && self.sent_close && self.got_close
+/// The most bytes of a packet from the lane.
+fn longest(kind: u8) -> Option<usize> {
+    match kind {
+        DATA => Some(LONGEST),
+        CLOSE | WAKE | LET_IN | LET_OUT => Some(0),
+        NOTE => Some(LONGEST_NOTE),
+        _ => None,
     }
 }
 
 pub struct Lane {
-    /// Which one it is, as the upper half of a token.
+    /// Which one it is, as the highest byte of a token.
     place: u64,
     requests: Channel,
     replies: Channel,
     frames: Frames,
-    /// By their numbers; none at a number that is free.
-    clients: Vec<Option<Client>>,
-    free: Vec<usize>,
-    paused: Vec<usize>,
+    /// By their numbers.
+    clients: HashMap<u64, Client>,
+    /// The number of the next client.
+    next: u64,
+    paused: Vec<u64>,
     owes_wake: bool,
 }
 
 impl Lane {
     pub fn new(place: usize, requests: File, replies: File, epoll: &Epoll) -> io::Result<Lane> {
-        let place = (place as u64) << 32;
+        let place = (place as u64) << PLACE;
         let requests = Channel::new(requests, place | REQUESTS);
         let mut replies = Channel::new(replies, place | REPLIES);
         replies.watch(epoll, true)?;
-        let (frames, (clients, free, paused)) = (Frames::new(), Default::default());
-        Ok(Lane { place, requests, replies, frames, clients, free, paused, owes_wake: false })
+        let (frames, (clients, paused)) = (Frames::new(), Default::default());
+        Ok(Lane { place, requests, replies, frames, clients, next: 0, paused, owes_wake: false })
     }
 
-    /// Whether no number is taken.
-    pub fn is_free(&self) -> bool {
-        self.free.len() == self.clients.len()
+    pub fn has_clients(&self) -> bool {
+        !self.clients.is_empty()
     }
 
-    pub fn take_client(&mut self, socket: File, shared: &mut Shared) {
-        let number = self.free.pop().unwrap_or(self.clients.len());
-        let socket = Some(Channel::new(socket, self.place | number as u64));
-        let client = Client { socket, sent_close: false, got_close: false, paused: false, active: shared.now };
-        if number == self.clients.len() {
-            self.clients.push(None);
-        }
-        self.clients[number] = Some(client);
+    /// Takes a client with this address, as text.
+    pub fn take_client(&mut self, socket: File, address: &[u8], shared: &mut Shared) {
+        let number = self.next;
+        self.next += 1;
+        self.clients.insert(number, Client::new(Channel::new(socket, self.place | number), shared.now));
         shared.clients += 1;
-        self.requests.put(&head(OPEN, number, 0));
+        self.put(OPEN, number, address);
         self.update(number, shared);
+    }
+
+    /// Puts a packet behind what waits for the lane.
+    fn put(&mut self, kind: u8, number: u64, bytes: &[u8]) {
+        self.requests.put(&head(kind, number, bytes.len()));
+        self.requests.put(bytes);
+    }
+
+    /// Sends the lane a text that is about no connection.
+    pub fn tell(&mut self, text: &str) {
+        self.put(NOTE, 0, text.as_bytes());
     }
 
     /// Does what an event asks for. Whether it still holds, reading and writing find out, so an old one does no harm.
@@ -119,9 +125,9 @@ impl Lane {
             REQUESTS => Ok(()),
             REPLIES => self.take_replies(shared),
             number => {
-                self.flush_client(number as usize, shared);
+                self.flush_client(number, shared);
                 if flags != OUTPUT {
-                    self.read_client(number as usize, shared);
+                    self.read_client(number, shared);
                 }
                 Ok(())
             }
@@ -133,7 +139,7 @@ impl Lane {
         self.owes_wake |= shared.wakes;
         if self.owes_wake && self.has_room() {
             self.owes_wake = false;
-            self.requests.put(&head(WAKE, 0, 0));
+            self.put(WAKE, 0, b"");
         }
         self.requests.flush()?;
         self.requests.watch(&shared.epoll, false)?;
@@ -157,43 +163,112 @@ impl Lane {
         self.requests.waiting() < INPUT_LIMIT
     }
 
-    /// Who has a number. None where it is free, as it is for an event that came too late.
-    fn client(&mut self, number: usize) -> Option<&mut Client> {
-        self.clients.get_mut(number).and_then(Option::as_mut)
+    /// Who has a number. None if it has gone, as it may have for an event that came too late.
+    fn client(&mut self, number: u64) -> Option<&mut Client> {
+        self.clients.get_mut(&number)
     }
 
     /// Has those events wake us that a client now waits for.
-    fn update(&mut self, number: usize, shared: &mut Shared) {
+    fn update(&mut self, number: u64, shared: &mut Shared) {
         let Some(client) = self.client(number) else { return };
-        let input = !client.sent_close && !client.paused;
+        let input = client.is_read();
         if client.socket.as_mut().is_some_and(|it| it.watch(&shared.epoll, input).is_err()) {
             self.drop_client(number, shared);
         }
     }
 
-    fn read_client(&mut self, number: usize, shared: &mut Shared) {
+    fn read_client(&mut self, number: u64, shared: &mut Shared) {
         let has_room = self.has_room();
-        let Some(client) = self.clients.get_mut(number).and_then(Option::as_mut) else { return };
-        let Some(socket) = client.socket.as_ref().filter(|_| !client.sent_close && !client.paused) else { return };
+        let Some(client) = self.clients.get_mut(&number).filter(|it| it.is_read()) else { return };
+        let Some(socket) = client.socket.as_ref() else { return };
         if !has_room {
             client.paused = true;
             self.paused.push(number);
             return self.update(number, shared);
         }
-        match socket.read(&mut shared.room) {
+        let most = if client.stranger.is_some() { stranger::READ } else { READ };
+        match socket.read(&mut shared.room[..most]) {
             Ok(None) => {}
             Ok(Some(0)) => self.end_input(number, shared),
             Ok(Some(count)) => {
                 client.active = shared.now;
-                self.requests.put(&head(DATA, number, count));
-                self.requests.put(&shared.room[..count]);
+                self.take_input(number, &shared.room[..count]);
+                self.update(number, shared);
             }
             Err(_) => self.drop_client(number, shared),
         }
     }
 
+    /// Hands over to the lane what came from a client, and holds what is not for a stranger.
+    fn take_input(&mut self, number: u64, bytes: &[u8]) {
+        let Some(client) = self.client(number) else { return };
+        let is_let_in = client.stranger.is_none();
+        let read = client.reader.as_mut().map_or(Ok(()), |it| it.read(bytes, is_let_in));
+        let (count, fault) = read.map_or_else(|(count, fault)| (count, Some(fault)), |()| (bytes.len(), None));
+        client.held = fault.map(|it| (it, bytes[count..].to_vec()));
+        if count > 0 {
+            self.put(DATA, number, &bytes[..count]);
+        }
+        if fault.is_some() {
+            self.ask(number);
+        }
+    }
+
+    /// Asks the lane to say when it has answered all that was handed over.
+    fn ask(&mut self, number: u64) {
+        let Some(client) = self.client(number) else { return };
+        client.asked += 1;
+        self.tell(&format!("sync {number}"));
+    }
+
+    /// The lane has answered all that came before it was asked: whether the client is a stranger is certain now.
+    fn see_answered(&mut self, number: u64, shared: &mut Shared) {
+        let Some(client) = self.client(number).filter(|it| it.asked > 0) else { return };
+        client.asked -= 1;
+        if client.asked > 0 {
+            return;
+        }
+        client.bound_owed();
+        match (client.held.take(), client.stranger) {
+            (Some((_, bytes)), None) => {
+                self.take_input(number, &bytes);
+                self.update(number, shared);
+            }
+            (Some((fault, _)), Some(_)) => {
+                self.send(number, fault.reply(), shared);
+                self.end_input(number, shared);
+            }
+            (None, _) if client.is_late(shared) => self.drop_client(number, shared),
+            (None, _) => {}
+        }
+    }
+
+    /// Does what a text of the lane says. Others than these are for later versions.
+    fn take_note(&mut self, text: &[u8], shared: &mut Shared) {
+        let number = str::from_utf8(text).ok().and_then(|it| it.strip_prefix("synced ")?.parse().ok());
+        if let Some(number) = number {
+            self.see_answered(number, shared);
+        }
+    }
+
+    fn let_in(&mut self, number: u64, shared: &Shared) {
+        let Some(client) = self.client(number) else { return };
+        client.stranger = None;
+        if !shared.is_guarded && client.held.is_none() {
+            client.reader = None;
+        }
+    }
+
+    fn let_out(&mut self, number: u64, shared: &Shared) {
+        let Some(client) = self.client(number) else { return };
+        client.stranger = Some(shared.now);
+        // Replies from before may come still.
+        client.owed = usize::MAX;
+        self.ask(number);
+    }
+
     /// Writes to a client what waits for it.
-    fn flush_client(&mut self, number: usize, shared: &mut Shared) {
+    fn flush_client(&mut self, number: u64, shared: &mut Shared) {
         let Some(client) = self.client(number) else { return };
         let Some(socket) = client.socket.as_mut().filter(|it| it.waiting() > 0) else { return };
         client.active = shared.now;
@@ -205,39 +280,43 @@ impl Lane {
         }
     }
 
-    /// Takes no more from a client, and tells the lane so.
-    fn end_input(&mut self, number: usize, shared: &mut Shared) {
+    /// Takes no more from a client, nor what is held, and tells the lane so.
+    fn end_input(&mut self, number: u64, shared: &mut Shared) {
         let Some(client) = self.client(number) else { return };
+        client.held = None;
         if !mem::replace(&mut client.sent_close, true) {
-            self.requests.put(&head(CLOSE, number, 0));
+            self.put(CLOSE, number, b"");
             self.update(number, shared);
         }
     }
 
     /// Takes no more from any client.
     pub fn end_inputs(&mut self, shared: &mut Shared) {
-        (0..self.clients.len()).for_each(|number| self.end_input(number, shared));
+        self.numbers().into_iter().for_each(|number| self.end_input(number, shared));
     }
 
     /// Closes a client's socket, whatever is owed.
-    fn drop_client(&mut self, number: usize, shared: &mut Shared) {
+    fn drop_client(&mut self, number: u64, shared: &mut Shared) {
         let Some(client) = self.client(number) else { return };
         client.socket = None;
         self.end_input(number, shared);
         self.free_if_over(number, shared);
     }
 
-    /// Frees the number of a connection whose last end has come. Nothing else frees one.
-    fn free_if_over(&mut self, number: usize, shared: &mut Shared) {
+    fn numbers(&self) -> Vec<u64> {
+        self.clients.keys().copied().collect()
+    }
+
+    /// Removes a client whose last end has come. Nothing else removes one.
+    fn free_if_over(&mut self, number: u64, shared: &mut Shared) {
         if self.client(number).is_some_and(|it| it.is_over()) {
-            self.clients[number] = None;
-            self.free.push(number);
+            self.clients.remove(&number);
             shared.clients -= 1;
         }
     }
 
     /// Closes a client's socket where the lane has closed it and all is out.
-    fn close_if_out(&mut self, number: usize, shared: &mut Shared) {
+    fn close_if_out(&mut self, number: u64, shared: &mut Shared) {
         let Some(client) = self.client(number) else { return };
         if !client.got_close || client.socket.as_ref().is_some_and(|it| it.waiting() > 0) {
             return self.update(number, shared);
@@ -247,15 +326,18 @@ impl Lane {
         self.drop_client(number, shared);
     }
 
-    /// Reads the replies once, and does what their frames say.
+    /// Reads the replies once, and does what its packets say.
     fn take_replies(&mut self, shared: &mut Shared) -> io::Result<()> {
         let mut frames = mem::take(&mut self.frames);
         frames.read(&self.replies)?;
-        while let Some(frame) = frames.next()? {
+        while let Some(frame) = frames.next(longest)? {
             match frame {
                 Frame::Data(number, bytes) => self.send(number, bytes, shared),
-                Frame::Sign(CLOSE, number) => self.end_output(number, shared),
-                Frame::Sign(WAKE, _) => shared.wakes = true,
+                Frame::Sign(CLOSE, number, _) => self.end_output(number, shared),
+                Frame::Sign(LET_IN, number, _) => self.let_in(number, shared),
+                Frame::Sign(LET_OUT, number, _) => self.let_out(number, shared),
+                Frame::Sign(WAKE, 0, _) => shared.wakes = true,
+                Frame::Sign(NOTE, 0, text) => self.take_note(text, shared),
                 Frame::Sign(..) => return Err(ErrorKind::InvalidData.into()),
             }
         }
@@ -264,17 +346,18 @@ impl Lane {
     }
 
     /// Gives a client what the lane sent it.
-    fn send(&mut self, number: usize, bytes: &[u8], shared: &mut Shared) {
+    fn send(&mut self, number: u64, bytes: &[u8], shared: &mut Shared) {
         let Some(client) = self.client(number).filter(|it| !it.got_close) else { return };
         client.active = shared.now;
-        match client.socket.as_mut().map_or(Ok(()), |it| it.send(bytes, shared.output_limit)) {
+        let limit = client.output_limit(shared);
+        match client.socket.as_mut().map_or(Ok(()), |it| it.send(bytes, limit)) {
             Ok(()) => self.update(number, shared),
             Err(_) => self.drop_client(number, shared),
         }
     }
 
     /// Does what a lane's close asks for.
-    fn end_output(&mut self, number: usize, shared: &mut Shared) {
+    fn end_output(&mut self, number: u64, shared: &mut Shared) {
         let Some(client) = self.client(number) else { return };
         if !mem::replace(&mut client.got_close, true) {
             self.end_input(number, shared);
@@ -283,11 +366,15 @@ impl Lane {
         }
     }
 
-    /// Closes who was silent too long.
-    pub fn close_idle(&mut self, idle: Duration, shared: &mut Shared) {
-        for number in 0..self.clients.len() {
-            if self.client(number).is_some_and(|it| shared.now - it.active >= idle) {
+    /// Closes who was silent for `idle`, unless it is zero, and asks the lane about those who were strangers for too long: it may
+    /// have let them in.
+    pub fn close_late(&mut self, idle: Duration, shared: &mut Shared) {
+        for number in self.numbers() {
+            let Some(client) = self.client(number) else { continue };
+            if !idle.is_zero() && shared.now - client.active >= idle {
                 self.drop_client(number, shared);
+            } else if client.asked == 0 && !client.paused && client.is_late(shared) {
+                self.ask(number);
             }
         }
     }

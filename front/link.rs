@@ -1,16 +1,7 @@
-//! The link of a device of the server to the far store: what the device sends in frames goes to a connection to the store, and
-//! what the store sends comes back in frames.
+//! The link of a device of the server to the far store: what the device sends in packets goes to a connection to the store, and
+//! what the store sends comes back in packets. docs/FORMATS.md says which packets there are.
 //!
-//! The number of a frame (`frame`) is that of a connection, which the device chooses.
-//!
-//! | Kind | From the device | From the front |
-//! |---|---|---|
-//! | 0 data | bytes for the store | bytes that the store sent, 65,536 at most, and never none |
-//! | 1 open | the old connection is over, and a new one takes the number | never |
-//! | 2 close | never | no more comes from the number's connection |
-//! | 3 wait | the device waits for one more frame of the number | never |
-//!
-//! A device has one call in flight: it sends data, and then a wait before each frame that it takes of the reply. Data and waits
+//! A device has one call in flight: it sends data, and then a wait before each packet that it takes of the reply. Data and waits
 //! of another number than the last open's are passed over, as are those of a connection that was closed.
 //!
 //! An open takes the link's spare, a connection on which the store has answered already. Where there is none it gets a close, so
@@ -20,7 +11,7 @@
 //! may stay.
 
 use crate::channel::Channel;
-use crate::frame::{head, Frame, Frames, CLOSE, DATA, OPEN, REPLIES, REQUESTS};
+use crate::frame::{head, Frame, Frames, CLOSE, DATA, LONGEST, OPEN, PLACE, REPLIES, REQUESTS};
 use crate::lane::Shared;
 use crate::system::{INPUT, OUTPUT};
 use std::fs::File;
@@ -37,17 +28,26 @@ const PAUSE: Duration = Duration::from_secs(1);
 const SOCKET: u64 = 0;
 const SPARE: u64 = 1;
 
+/// The most bytes of a packet from the device.
+fn longest(kind: u8) -> Option<usize> {
+    match kind {
+        DATA => Some(LONGEST),
+        OPEN | WAIT => Some(0),
+        _ => None,
+    }
+}
+
 pub struct Link {
-    /// Which one it is, as the upper half of a token.
+    /// Which one it is, as the highest byte of a token.
     place: u64,
     requests: Channel,
     replies: Channel,
     frames: Frames,
     /// The number of the last open.
-    number: usize,
+    number: u64,
     /// None once it is closed.
     socket: Option<Channel>,
-    /// Frames that the device waits for and those that it got, since it last began to send data.
+    /// Packets that the device waits for and those that it got, since it last began to send data.
     awaited: usize,
     given: usize,
     /// When a byte last moved on the connection, or began to be waited for.
@@ -61,7 +61,7 @@ pub struct Link {
 
 impl Link {
     pub fn new(place: usize, requests: File, replies: File, spare: File, shared: &Shared) -> io::Result<Link> {
-        let place = (place as u64) << 32;
+        let place = (place as u64) << PLACE;
         let mut requests = Channel::new(requests, place | REQUESTS);
         requests.watch(&shared.epoll, true)?;
         let mut link = Link {
@@ -142,27 +142,26 @@ impl Link {
         self.socket.as_ref().map_or(0, Channel::waiting)
     }
 
-    /// Reads the requests once, and does what their frames say.
+    /// Reads the requests once, and does what its packets say.
     fn take_requests(&mut self, shared: &mut Shared) -> io::Result<()> {
         let mut frames = mem::take(&mut self.frames);
         frames.read(&self.requests)?;
-        while let Some(frame) = frames.next()? {
+        while let Some(frame) = frames.next(longest)? {
             match frame {
                 Frame::Data(number, bytes) if number == self.number => self.send(bytes, shared.now),
-                Frame::Sign(WAIT, number) if number == self.number => {
+                Frame::Sign(WAIT, number, _) if number == self.number => {
                     self.awaited += 1;
                     self.moved = shared.now;
                 }
-                Frame::Sign(OPEN, number) => self.open(number, shared)?,
-                Frame::Data(..) | Frame::Sign(WAIT, _) => {}
-                Frame::Sign(..) => return Err(ErrorKind::InvalidData.into()),
+                Frame::Sign(OPEN, number, _) => self.open(number, shared)?,
+                Frame::Data(..) | Frame::Sign(..) => {}
             }
         }
         self.frames = frames;
         Ok(())
     }
 
-    fn open(&mut self, number: usize, shared: &Shared) -> io::Result<()> {
+    fn open(&mut self, number: u64, shared: &Shared) -> io::Result<()> {
         (self.number, self.socket) = (number, None);
         (self.awaited, self.given, self.moved) = (0, 0, shared.now);
         match self.spare.take() {

@@ -3,23 +3,27 @@
 #![deny(unsafe_code)]
 
 mod channel;
+mod client;
 mod frame;
 mod lane;
 mod link;
 mod store;
+mod stranger;
 mod system;
 mod words;
 
+use frame::PLACE;
 use lane::{Lane, Shared};
 use link::Link;
 use std::fmt::Display;
 use std::fs::{self, File};
 use std::io::{self, ErrorKind, Write};
-use std::net::{SocketAddr, TcpListener};
+use std::net::{SocketAddr, TcpListener, TcpStream};
 use std::os::fd::OwnedFd;
+use std::os::unix::ffi::OsStrExt;
 use std::os::unix::fs::{FileTypeExt, OpenOptionsExt};
 use std::os::unix::net::{UnixListener, UnixStream};
-use std::path::Path;
+use std::path::{Path, PathBuf};
 use std::process::ExitCode;
 use std::time::{Duration, Instant};
 use std::{env, thread};
@@ -30,7 +34,7 @@ use words::{Options, USAGE};
 const REFUSAL: &[u8] = b"-ERR max number of clients reached\r\n";
 /// How long replies that are owed are waited for at the end.
 const END: Duration = Duration::from_secs(1);
-/// How often it is looked for who was silent too long.
+/// How often it is looked for who was silent too long, and the least time between two reports of refused clients.
 const SWEEP: Duration = Duration::from_secs(1);
 /// How long is waited where the server has not opened a pipe, or the system has no room for a connection.
 const PAUSE: Duration = Duration::from_millis(10);
@@ -38,9 +42,11 @@ const PAUSE: Duration = Duration::from_millis(10);
 const FILES: usize = 16;
 const LINK_FILES: usize = 4;
 const EVENTS: usize = 256;
+/// The most bytes of a client's address.
+const ADDRESS: usize = 64;
 /// ENXIO: nobody has opened a pipe for reading.
 const NO_READER: i32 = 6;
-/// Tokens of what is no lane's and no link's: the signals, and the listeners and the store below.
+/// Tokens of what is no lane's and no link's, whose place is the highest: the signals, and the listeners and the store below.
 const SIGNALS: u64 = u64::MAX;
 const LISTENERS: u64 = SIGNALS - 2;
 const STORE: u64 = LISTENERS - 1;
@@ -60,6 +66,10 @@ fn main() -> ExitCode {
     ExitCode::SUCCESS
 }
 
+fn seconds(count: u32) -> Duration {
+    Duration::from_secs(count.into())
+}
+
 /// Says of what a fault is.
 fn of<T>(what: impl Display, result: io::Result<T>) -> Result<T, String> {
     result.map_err(|fault| format!("{what}: {fault}"))
@@ -74,19 +84,21 @@ fn serve(options: &Options) -> Result<(), String> {
         lanes: Vec::new(),
         store: far_store(options)?,
         links: Vec::new(),
-        shared: Shared::new(epoll, options.output_limit),
+        shared: Shared::new(epoll, options.output_limit, options.guarded, seconds(options.auth_timeout)),
         connections: room_for(options)?,
         next: 0,
+        refusals: Refusals { count: 0, told: 0, next: Instant::now() },
     };
     let mut ready = "ready".to_string();
     if let Some(port) = options.port {
         let address = SocketAddr::new(options.bind, port);
         let listener = of(address, TcpListener::bind(address))?;
         ready += &format!(" {}", of(address, listener.local_addr())?);
-        front.listeners.push(listener.into());
+        front.listeners.push(Listener { file: listener.into(), path: None });
     }
     if let Some(path) = &options.unix {
-        front.listeners.push(of(path.display(), listen_at(path))?.into());
+        let file = of(path.display(), listen_at(path))?.into();
+        front.listeners.push(Listener { file, path: Some(path.clone()) });
         ready += &format!(" {}", path.display());
     }
     let ended = front.run(options, &ready);
@@ -98,8 +110,7 @@ fn far_store(options: &Options) -> Result<Option<Store>, String> {
     let Some(address) = &options.far_resp else { return Ok(None) };
     let path = options.far_password_file.as_ref();
     let password = path.map(|it| of(format_args!("--far-password-file {}", it.display()), store::password(it)));
-    let patience = Duration::from_secs(options.far_timeout.into());
-    let store = Store::new(address, password.transpose()?, patience);
+    let store = Store::new(address, password.transpose()?, seconds(options.far_timeout));
     of(format_args!("far store {}", address.to_string_lossy()), store).map(Some)
 }
 
@@ -124,9 +135,39 @@ fn room_for(options: &Options) -> Result<usize, String> {
     Ok(room.min(options.connections))
 }
 
+struct Listener {
+    file: OwnedFd,
+    /// Of a Unix socket.
+    path: Option<PathBuf>,
+}
+
+impl Listener {
+    /// A new connection, and the client's address as CLIENT LIST of redis-server shows it.
+    fn accept(&self) -> io::Result<(File, Vec<u8>)> {
+        let socket = TcpStream::from(OwnedFd::from(system::accept(&self.file)?));
+        let mut address = match &self.path {
+            Some(path) => [path.as_os_str().as_bytes(), b":0"].concat(),
+            // Built again without the scope of IPv6. A client that has gone has none.
+            None => {
+                socket.peer_addr().map_or("?:0".into(), |it| SocketAddr::new(it.ip(), it.port()).to_string()).into()
+            }
+        };
+        address.truncate(ADDRESS);
+        Ok((OwnedFd::from(socket).into(), address))
+    }
+}
+
+/// Clients that were refused since the start, which the server is told.
+struct Refusals {
+    count: u64,
+    told: u64,
+    /// When it may be told again.
+    next: Instant,
+}
+
 struct Front {
     signals: File,
-    listeners: Vec<OwnedFd>,
+    listeners: Vec<Listener>,
     lanes: Vec<Lane>,
     store: Option<Store>,
     /// Their tokens come behind those of the lanes.
@@ -135,6 +176,7 @@ struct Front {
     connections: usize,
     /// Whose turn it is to get a connection.
     next: usize,
+    refusals: Refusals,
 }
 
 impl Front {
@@ -144,20 +186,20 @@ impl Front {
             return Ok(());
         }
         for (token, listener) in (LISTENERS..).zip(&self.listeners) {
-            of("listening", system::widen(listener))?;
-            of("listening", self.shared.epoll.watch(listener, 0, INPUT, token))?;
+            of("listening", system::widen(&listener.file))?;
+            of("listening", self.shared.epoll.watch(&listener.file, 0, INPUT, token))?;
         }
         if let Some(store) = &self.store {
             of("events", self.shared.epoll.watch(&store.wake, 0, INPUT, STORE))?;
         }
         // Who doesn't hear it may be served all the same.
         let _ = writeln!(io::stdout(), "{ready}").and_then(|()| io::stdout().flush());
-        let idle = Duration::from_secs(options.timeout.into());
+        let idle = seconds(options.timeout);
         let mut swept = Instant::now();
         while !self.turn(SWEEP)? {
-            if !idle.is_zero() && self.shared.now - swept >= SWEEP {
+            if self.shared.now - swept >= SWEEP {
                 swept = self.shared.now;
-                self.lanes.iter_mut().for_each(|it| it.close_idle(idle, &mut self.shared));
+                self.lanes.iter_mut().for_each(|it| it.close_late(idle, &mut self.shared));
             }
         }
         self.stop();
@@ -236,7 +278,7 @@ impl Front {
         self.shared.now = Instant::now();
         let mut ends = false;
         for Event { flags, token } in events[..count].iter().copied() {
-            let place = (token >> 32) as usize;
+            let place = (token >> PLACE) as usize;
             match token {
                 SIGNALS => ends = true,
                 LISTENERS.. => self.take_client((token - LISTENERS) as usize),
@@ -258,6 +300,7 @@ impl Front {
 
     /// Hands over to the lanes and by the links what came for them.
     fn hand_over(&mut self) -> Result<(), String> {
+        self.tell_refusals();
         for (place, lane) in self.lanes.iter_mut().enumerate() {
             of(format_args!("lane {place} has ended"), lane.hand_over(&mut self.shared))?;
         }
@@ -272,6 +315,15 @@ impl Front {
         Ok(())
     }
 
+    /// Reports to the first lane how many clients were refused, if more were.
+    fn tell_refusals(&mut self) {
+        let it = &mut self.refusals;
+        if it.told != it.count && self.shared.now >= it.next {
+            (it.told, it.next) = (it.count, self.shared.now + SWEEP);
+            self.lanes[0].tell(&format!("rejected_connections {}", it.count));
+        }
+    }
+
     /// Gives the links the connections that were made for them.
     fn take_spares(&mut self) {
         for (link, made) in self.store.iter().flat_map(Store::greeted) {
@@ -280,13 +332,16 @@ impl Front {
     }
 
     fn take_client(&mut self, listener: usize) {
-        match system::accept(&self.listeners[listener]) {
-            Ok(socket) if self.shared.clients < self.connections => {
-                self.lanes[self.next].take_client(socket, &mut self.shared);
+        match self.listeners[listener].accept() {
+            Ok((socket, address)) if self.shared.clients < self.connections => {
+                self.lanes[self.next].take_client(socket, &address, &mut self.shared);
                 self.next = (self.next + 1) % self.lanes.len();
             }
-            // A new socket has room for it.
-            Ok(mut socket) => drop(socket.write(REFUSAL)),
+            Ok((mut socket, _)) => {
+                // A new socket has room for it.
+                let _ = socket.write(REFUSAL);
+                self.refusals.count += 1;
+            }
             // The client has gone.
             Err(fault) if matches!(fault.kind(), ErrorKind::WouldBlock | ErrorKind::ConnectionAborted) => {}
             Err(_) => thread::sleep(PAUSE),
@@ -301,7 +356,7 @@ impl Front {
         let _ = self.shared.epoll.watch(&self.signals, INPUT, 0, SIGNALS);
         let end = Instant::now() + END;
         let mut stands = self.hand_over().is_ok();
-        while stands && self.lanes.iter().any(|it| !it.is_free()) {
+        while stands && self.lanes.iter().any(Lane::has_clients) {
             let left = end.saturating_duration_since(Instant::now());
             stands = !left.is_zero() && self.turn(left).is_ok();
         }

@@ -8,9 +8,11 @@ use std::path::PathBuf;
 use std::str::FromStr;
 
 pub const USAGE: &str = "usage: front [--port N] [--bind ADDRESS] [--guarded] [--unix PATH] [--timeout SECONDS] \
-    [--connections N] [--output-limit BYTES] [--far-resp HOST:PORT|PATH --far-link REQUESTS REPLIES... \
+    [--auth-timeout SECONDS] [--connections N] [--output-limit BYTES] [--far-resp HOST:PORT|PATH --far-link REQUESTS REPLIES... \
     [--far-password-file FILE] [--far-timeout SECONDS]] --lane REQUESTS REPLIES [--lane REQUESTS REPLIES]...";
 const FAR_TIMEOUTS: RangeInclusive<u32> = 1..=3600;
+/// The most lanes, and the most links: each has a byte's value as its place in a token.
+const MOST: usize = 64;
 
 pub struct Options {
     /// The port of TCP, 0 for any that is free.
@@ -21,6 +23,8 @@ pub struct Options {
     pub unix: Option<PathBuf>,
     /// Seconds that a client may be silent, 0 for any.
     pub timeout: u32,
+    /// Seconds in which a client has to be let in, 0 for any.
+    pub auth_timeout: u32,
     pub connections: usize,
     pub output_limit: usize,
     /// The pipes of each lane: its requests, its replies.
@@ -43,6 +47,7 @@ impl Options {
             guarded: false,
             unix: None,
             timeout: 0,
+            auth_timeout: 10,
             connections: 10_000,
             output_limit: 1 << 26,
             lanes: Vec::new(),
@@ -60,6 +65,7 @@ impl Options {
                 "--guarded" => it.guarded = true,
                 "--unix" => it.unix = Some(value()?.into()),
                 "--timeout" => it.timeout = read(&name, value()?)?,
+                "--auth-timeout" => it.auth_timeout = read(&name, value()?)?,
                 "--connections" => it.connections = read(&name, value()?)?,
                 "--output-limit" => it.output_limit = read(&name, value()?)?,
                 "--lane" => it.lanes.push((value()?.into(), value()?.into())),
@@ -72,6 +78,8 @@ impl Options {
         }
         match (it.lanes.is_empty(), &it.port, &it.unix) {
             (true, ..) => Err("there is no --lane".into()),
+            _ if it.lanes.len() > MOST => Err(format!("there are more than {MOST} --lane")),
+            _ if it.far_links.len() > MOST => Err(format!("there are more than {MOST} --far-link")),
             (_, None, None) => Err("there is neither --port nor --unix".into()),
             _ if !it.bind.is_loopback() && !it.guarded => Err(format!("--bind {} needs --guarded", it.bind)),
             _ if it.far_resp.is_none() && !it.far_links.is_empty() => Err("--far-link needs --far-resp".into()),

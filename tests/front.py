@@ -1,6 +1,7 @@
 """Tries the front, with lanes and devices here in the place of a server's: front.py FOLDER CLIENTS [TRIAL]...
 
-FOLDER has the program, and a TRIAL is the name of one of the functions here; all are made where none is named.
+FOLDER has the program, and a TRIAL is the name of one of the functions here and in the files beside it, or I/N for each Nth from
+the Ith on; all are made where none is named.
 """
 import contextlib
 import random
@@ -15,8 +16,9 @@ import time
 import front_ends
 import front_link_ends
 import front_links
-from front_parts import (CLOSE, DATA, MEBIBYTE, OPEN, WAKE, Front, asked, fill, frame, is_closed, pong, received, sender,
-                         until)
+import front_strangers
+from front_parts import (CLOSE, DATA, LET_IN, LET_OUT, MEBIBYTE, NOTE, OPEN, WAKE, Front, asked, fill, frame, is_closed, pong,
+                         received, sender, until)
 
 
 def each_client_gets_its_own(work, clients):
@@ -116,7 +118,7 @@ def a_busy_lane_stops_its_senders(work, _):
         assert received(beside, 32) == b"wakes the lane, which then waits"
 
 
-def numbers_are_used_again_after_both_closes(work, _):
+def numbers_are_never_used_again(work, clients):
     with Front(work) as front:
         lane = front.lanes[0]
         first, second = front.client(), front.client()
@@ -126,19 +128,23 @@ def numbers_are_used_again_after_both_closes(work, _):
         first.close()
         until(lambda: lane.withheld == [0], "the close of the first")
         pong(front.client())
-        assert lane.frames[-2][:2] == (OPEN, 2), lane.frames[-2]
         lane.send(frame(DATA, 0, b"for who has gone") + frame(CLOSE, 0) + frame(CLOSE, 0) + frame(DATA, 0, b"for nobody"))
         pong(second)
         fresh = front.client()
         pong(fresh)
-        assert lane.frames[-2][:2] == (OPEN, 0), lane.frames[-2]
-        lane.send(frame(DATA, 77, b"of no number") + frame(CLOSE, 77))
+        for kind in (LET_IN, LET_OUT, CLOSE):
+            lane.send(frame(kind, 0) + frame(kind, 77) + frame(kind, 2**64 - 1))
+        lane.send(frame(DATA, 77, b"of no number yet") + frame(NOTE, 0, b"synced 0") + frame(NOTE, 0, b"synced 2"))
+        pong(fresh)
         lane.closes = True
-        for client in (second, fresh):
-            client.close()
-        until(lambda: set(lane.halves) == {2}, "all closes")
-        pong(front.client())
-        assert lane.frames[-2][1] in (0, 1), lane.frames[-2]
+        memory, count = front.memory(), min(10 * clients, 20_000)
+        for _ in range(count):
+            with socket.create_connection(("127.0.0.1", int(front.address.rpartition(":")[2]))) as client:
+                pong(client)
+        opened = [number for kind, number, _ in lane.frames if kind == OPEN]
+        assert opened == list(range(4 + count)), "numbers are not drawn in order"
+        until(lambda: len(lane.halves) == 3, "all closes")
+        assert front.memory() < memory + MEBIBYTE, "who has gone is still there"
 
 
 def a_lane_closes_once_all_is_out(work, _):
@@ -147,11 +153,9 @@ def a_lane_closes_once_all_is_out(work, _):
         client.sendall(b"BIG %d\nQUIT\nPING\nPING\n" % (12 * MEBIBYTE))
         until(lambda: (CLOSE, 0, b"") in lane.frames, "the answer to the close")
         pong(front.client())
-        assert (OPEN, 1, b"") in lane.frames, "the number was used again before its client had all"
         assert received(client, 12 * MEBIBYTE + 6) == b"x" * 12 * MEBIBYTE + b"+OK\r\n"
         assert is_closed(client)
         assert lane.frames.count((CLOSE, 0, b"")) == 1
-        until(lambda: front.client() and (OPEN, 0, b"") in lane.frames[2:], "the number again")
         client = front.client()
         pong(client)
         number = lane.frames[-1][1]
@@ -201,15 +205,24 @@ def a_wake_goes_to_every_lane(work, _):
 
 def too_many_are_refused(work, _):
     with Front(work, "--connections", "3", lanes=2) as front:
+        first, second = front.lanes
         clients = [front.client() for _ in range(3)]
         for client in clients:
             pong(client)
-        over = front.client()
-        assert received(over, 100) == b"-ERR max number of clients reached\r\n"
+        refused = []
+        for _ in range(20):
+            refused.append(time.monotonic())
+            assert received(front.client(), 100) == b"-ERR max number of clients reached\r\n"
+        until(lambda: b"rejected_connections 20" in first.notes(), "how many were refused")
+        told = [int(it.split()[1]) for it in first.notes()]
+        assert told == sorted(set(told)) and len(told) <= 2 + time.monotonic() - refused[0], told
+        assert second.notes() == [], "the other lane is told too"
         clients.pop().close()
         until(lambda: sum(len(it.halves) for it in front.lanes) == 2, "the close")
         time.sleep(0.1)
         pong(front.client())
+        time.sleep(1.5)
+        assert len(first.notes()) == len(told), "it is told again"
 
 
 def idle_clients_are_closed(work, _):
@@ -255,17 +268,15 @@ def clients_come_and_go_in_any_way(work, clients):
             pong(client)
         left = len(front.clients)
         until(lambda: sum(len(it.halves) for it in front.lanes) == left, "all closes")
-        highest = max(it[1] for lane in front.lanes for it in lane.frames)
-        assert highest < clients // 2, f"numbers are not used again: {highest}"
         assert front.rests()
 
 
 TRIALS = [
     each_client_gets_its_own, bytes_come_one_by_one_and_many_at_once, who_does_not_read_is_closed_alone,
-    who_reads_late_gets_all, a_busy_lane_stops_its_senders, numbers_are_used_again_after_both_closes,
+    who_reads_late_gets_all, a_busy_lane_stops_its_senders, numbers_are_never_used_again,
     a_lane_closes_once_all_is_out, who_ends_its_input_gets_what_it_is_owed, a_wake_goes_to_every_lane,
     too_many_are_refused, idle_clients_are_closed, clients_come_and_go_in_any_way, *front_ends.TRIALS,
-    *front_links.TRIALS, *front_link_ends.TRIALS,
+    *front_links.TRIALS, *front_link_ends.TRIALS, *front_strangers.TRIALS,
 ]
 
 
@@ -275,7 +286,11 @@ def main():
     resource.setrlimit(resource.RLIMIT_NOFILE, (files, files))
     # Threads here wait for each other often, and a switch is 5 ms else.
     sys.setswitchinterval(1e-4)
-    trials = [it for it in TRIALS if it.__name__ in sys.argv[3:] or not sys.argv[3:]]
+    named = sys.argv[3:]
+    trials = [it for it in TRIALS if it.__name__ in named or not named]
+    if len(named) == 1 and "/" in named[0]:
+        first, step = map(int, named[0].split("/"))
+        trials = TRIALS[first::step]
     wrong = 0
     for trial in trials:
         began = time.monotonic()
@@ -285,7 +300,9 @@ def main():
         except (AssertionError, OSError, subprocess.TimeoutExpired) as fault:
             wrong += 1
             told = f"FAILED: {type(fault).__name__} {fault}, line {fault.__traceback__.tb_next.tb_lineno}"
-        print(f"{trial.__name__.replace('_', ' ')}: {told}" + f" ({time.monotonic() - began:.1f} s)", flush=True)
+        # In one piece, since others write beside it.
+        sys.stdout.write(f"{trial.__name__.replace('_', ' ')}: {told} ({time.monotonic() - began:.1f} s)\n")
+        sys.stdout.flush()
     print(f"{len(trials)} trials of the front, {wrong} wrong")
     sys.exit(1 if wrong else 0)
 

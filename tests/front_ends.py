@@ -8,7 +8,8 @@ import stat
 import subprocess
 import time
 
-from front_parts import CLOSE, DATA, MEBIBYTE, PATIENCE, Front, is_closed, pong, received, until
+from front_parts import (CLOSE, DATA, HEAD, LET_IN, LET_OUT, MEBIBYTE, NOTE, OPEN, PATIENCE, WAKE, Front, is_closed, pong,
+                         received, until)
 
 
 def refused_memory_closes_one_client(work, _):
@@ -45,6 +46,9 @@ def faults_at_the_start(work, _):
     tell(2, "neither --port nor --unix", *lane)
     tell(2, "--port 65536: no value", "--port", "65536", *lane)
     tell(2, "--timeout -1: no value", "--port", "0", "--timeout", "-1", *lane)
+    tell(2, "--auth-timeout -1: no value", "--port", "0", "--auth-timeout", "-1", *lane)
+    tell(2, "there are more than 64 --lane", "--port", "0", *lane * 65)
+    tell(2, "there are more than 64 --far-link", "--port", "0", *lane, "--far-resp", "/a", *["--far-link", pipe, pipe] * 65)
     tell(2, "--bind here: no value", "--port", "0", "--bind", "here", *lane)
     for address in ("192.0.2.1", "0.0.0.0", "::"):
         tell(2, f"--bind {address} needs --guarded", "--port", "0", "--bind", address, *lane)
@@ -109,7 +113,10 @@ def a_signal_ends_it_before_the_lanes_come(work, _):
 
 
 def a_lane_that_fails_ends_it(work, _):
-    faults = [b"DIE", b"RAW 09" + b"00" * 8, b"RAW 01" + b"00" * 8, b"RAW 02" + b"00" * 7 + b"01"]
+    # An unknown kind, an open, bytes where none may be, too many bytes, and a number where none may be.
+    packets = [(7, 0, 0), (255, 0, 0), (OPEN, 0, 0), (CLOSE, 0, 1), (LET_IN, 0, 1), (LET_OUT, 0, 1), (WAKE, 0, 1),
+               (DATA, 0, MEBIBYTE + 1), (NOTE, 0, 4097), (WAKE, 1, 0), (NOTE, 1, 0)]
+    faults = [b"DIE"] + [b"RAW " + (HEAD.pack(*it) + bytes(min(it[2], 1))).hex().encode() for it in packets]
     for fault in faults:
         with Front(work, lanes=2, unix=True) as front:
             clients = [front.client() for _ in range(4)]

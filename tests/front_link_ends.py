@@ -4,7 +4,7 @@ import resource
 import subprocess
 from pathlib import Path
 
-from front_parts import CLOSE, DATA, OPEN, PATIENCE, frame, is_closed, pong, received, until
+from front_parts import CLOSE, DATA, HEAD, MEBIBYTE, OPEN, PATIENCE, frame, is_closed, pong, received, until
 from front_stores import PING, SHORT, FarFront, Store, exchange, free_port, joined, opened
 
 
@@ -60,7 +60,8 @@ def a_signal_ends_it_before_the_store_answers(work, _):
 
 
 def a_link_that_fails_ends_it(work, _):
-    faults = {frame(CLOSE, 1): "invalid", frame(9, 1): "invalid", frame(OPEN, 1, b"x"): "invalid", b"": "unexpected end"}
+    faults = {frame(CLOSE, 1): "invalid", frame(9, 1): "invalid", frame(OPEN, 1, b"x"): "invalid",
+              HEAD.pack(DATA, 1, MEBIBYTE + 1): "invalid", b"": "unexpected end"}
     for fault, why in faults.items():
         with Store() as store, FarFront(work, store.address, links=2) as front:
             client = front.client()

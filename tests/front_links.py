@@ -44,7 +44,7 @@ def a_call_goes_to_the_store_and_back(work, _):
 def large_objects_go_both_ways(work, _):
     with Store() as store, FarFront(work, store.address) as front:
         device = front.device
-        for at, number in enumerate((2**32 - 1, 0)):
+        for at, number in enumerate((2**64 - 1, 0)):
             link = opened(device, store, number, at)
             with sender(device, 2 * frame(DATA, number, LARGE) + frame(WAIT, number)):
                 assert received(link, 2 * len(LARGE)) == 2 * LARGE

@@ -9,15 +9,17 @@ import threading
 import time
 from pathlib import Path
 
-DATA, OPEN, CLOSE, WAKE = range(4)
-HEAD = struct.Struct(">BII")
+DATA, OPEN, CLOSE, WAKE, LET_IN, LET_OUT, NOTE = range(7)
+HEAD = struct.Struct(">BQI")
 MEBIBYTE = 1 << 20
 # How long anything may take that has to come.
 PATIENCE = 20
 
 
 def frame(kind, connection=0, data=b""):
-    return HEAD.pack(kind, connection, len(data)) + data
+    """The bytes of a packet, or of as many as the data needs."""
+    pieces = [data[at:at + MEBIBYTE] for at in range(0, len(data), MEBIBYTE)] or [b""]
+    return b"".join(HEAD.pack(kind, connection, len(it)) + it for it in pieces)
 
 
 def until(is_so, what):
@@ -28,7 +30,8 @@ def until(is_so, what):
 
 
 class Lane(threading.Thread):
-    """A lane that answers a line with a command: it keeps the frames that came, and can wait with reading and with closes."""
+    """A lane that answers a line with a command: it keeps the packets that came, and can wait with reading and with closes. It lets
+    each client in at once."""
 
     def __init__(self, folder, number, replies_first):
         super().__init__(daemon=True)
@@ -38,6 +41,8 @@ class Lane(threading.Thread):
         self.reads = threading.Event()
         self.reads.set()
         self.closes = True
+        # The greatest number that was opened.
+        self.last = -1
         self.lock = threading.Lock()
         for path in self.paths:
             os.mkfifo(path)
@@ -75,8 +80,10 @@ class Lane(threading.Thread):
 
     def obey(self, kind, connection, data):
         if kind == OPEN:
-            assert connection not in self.halves, f"{connection} was opened twice"
+            assert connection == self.last + 1, f"{connection} was opened after {self.last}"
+            self.last = connection
             self.halves[connection] = b""
+            self.welcome(connection)
         elif kind == CLOSE:
             del self.halves[connection]
             if connection in self.closing:
@@ -85,11 +92,24 @@ class Lane(threading.Thread):
                 self.send(frame(CLOSE, connection))
             else:
                 self.withheld.append(connection)
+        elif kind == NOTE:
+            self.take_note(data)
         elif kind == DATA and connection not in self.closing:
-            *lines, self.halves[connection] = (self.halves[connection] + data).split(b"\n")
-            for line in lines:
-                if connection not in self.closing:
-                    self.answer(connection, *line.split(b" ", 1))
+            self.take(connection, data)
+
+    def welcome(self, connection):
+        self.send(frame(LET_IN, connection))
+
+    def take_note(self, text):
+        word, number = text.split()
+        if word == b"sync":
+            self.send(frame(NOTE, 0, b"synced " + number))
+
+    def take(self, connection, data):
+        *lines, self.halves[connection] = (self.halves[connection] + data).split(b"\n")
+        for line in lines:
+            if connection not in self.closing:
+                self.answer(connection, *line.split(b" ", 1))
 
     def answer(self, connection, command, value=b""):
         if command == b"PING":
@@ -115,18 +135,21 @@ class Lane(threading.Thread):
     def count(self, kind):
         return sum(it[0] == kind for it in list(self.frames))
 
+    def notes(self):
+        return [data for kind, _, data in list(self.frames) if kind == NOTE]
+
 
 class Front:
-    """A front in a process, with as many lanes."""
+    """A front in a process, with as many lanes, of a class."""
 
     made = 0
 
-    def __init__(self, work, *words, lanes=1, limits=(), port="0", unix=False):
+    def __init__(self, work, *words, lanes=1, limits=(), port="0", unix=False, kind=Lane):
         Front.made += 1
         self.folder = Path(work) / f"trial{Front.made}"
         self.folder.mkdir()
-        self.lanes = [Lane(self.folder, number, replies_first=number % 2 == 1) for number in range(lanes)]
-        self.path = self.folder / "socket"
+        self.lanes = [kind(self.folder, number, replies_first=number % 2 == 1) for number in range(lanes)]
+        self.path = Path(unix) if isinstance(unix, (str, Path)) else self.folder / "socket"
         command = [Path(work) / "front", *words]
         command += ["--port", port] if port else []
         command += ["--unix", self.path] if unix else []

@@ -55,7 +55,7 @@ class Device:
         return bytes(parts)
 
     def take(self, number):
-        """Gives kind and data of the next frame of this number, and passes over others."""
+        """Gives kind and data of the next packet of this number, and passes over others."""
         while True:
             kind, of, length = HEAD.unpack(self.received(HEAD.size))
             data = self.received(length)
@@ -64,7 +64,7 @@ class Device:
                 return kind, data
 
     def reply(self, number, count):
-        """Takes so many bytes, with a wait before each frame but the first."""
+        """Takes so many bytes, with a wait before each packet but the first."""
         parts = bytearray()
         while True:
             kind, data = self.take(number)

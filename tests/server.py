@@ -15,15 +15,18 @@ import server_compared
 import server_ends
 import server_guards
 import server_keys
+import server_limits
 import server_renewal
+import server_room
 import server_slots
 import server_stores
+import server_strangers
 from server_parts import Farserve, Redis
 
-SHORT = {"commands": 2000, "histories": 200, "increments": 4000, "strings": 20_000, "clients": 1000}
+SHORT = {"commands": 2000, "histories": 200, "increments": 4000, "strings": 20_000, "clients": 1000, "draws": 20_000}
 # Twice as many clients, some of whom have just gone, are fewer than the 10,000 that the front takes.
-LONG = {"commands": 100_000, "histories": 10_000, "increments": 100_000, "strings": 1_000_000, "clients": 4900}
-PARTS = [server_compared, server_keys, server_clients, server_guards]
+LONG = {"commands": 100_000, "histories": 10_000, "increments": 100_000, "strings": 1_000_000, "clients": 4900, "draws": 400_000}
+PARTS = [server_compared, server_keys, server_clients, server_guards, server_strangers]
 
 
 class Tried:
@@ -75,7 +78,7 @@ def main():
     resource.setrlimit(resource.RLIMIT_NOFILE, (files, files))
     # Threads here wait for each other often, and a switch is 5 ms else.
     sys.setswitchinterval(1e-4)
-    parts = PARTS + [server_ends, server_slots, server_renewal, server_stores] * (not is_redis)
+    parts = PARTS + [server_ends, server_room, server_slots, server_limits, server_renewal, server_stores] * (not is_redis)
     trials = [it for part in parts for it in part.TRIALS if it.__name__ in names or not names]
     tried = Tried(work, is_redis)
     counts = dict(LONG if is_long else SHORT)

@@ -165,12 +165,14 @@ def who_dies_is_named(tried, _):
         subprocess.run(["rm", "-rf", left], check=True)
 
 
-# Runs bin/farserve with another program in the place of the server's.
+# Runs bin/serve.py with another program in the place of the server's.
 INSTEAD = """import sys
-from importlib.machinery import SourceFileLoader
-farserve = SourceFileLoader("farserve", sys.argv[1]).load_module()
-farserve.built_server = lambda _: sys.argv[2]
-sys.exit(farserve.main([]))
+sys.path.insert(0, sys.argv[1])
+import serve
+front = serve.Front()
+front = front.built() or front.build()
+serve.give_programs = lambda *_: (sys.argv[2], front)
+sys.exit(serve.main([]))
 """
 
 
@@ -179,7 +181,7 @@ def who_dies_early_is_named(tried, _):
     program = Path(tried.work) / "program"
     program.write_text("#!/bin/sh\nprintf '1\\0--port\\0000\\0\\0'\nsleep 0.5\nexit 3\n")
     program.chmod(0o700)
-    words = ["/usr/bin/python3", "-B", "-W", "ignore", "-c", INSTEAD, ROOT / "bin/farserve", program]
+    words = ["/usr/bin/python3", "-B", "-c", INSTEAD, ROOT / "bin", program]
     ran = subprocess.run(words, stdin=subprocess.DEVNULL, capture_output=True, text=True, timeout=PATIENCE)
     assert (ran.returncode, ran.stdout, ran.stderr) == (1, "", "farserve: the server has ended with status 3\n"), ran
     assert not os.listdir(tried.runtime), "the folder of the pipes is left"
@@ -245,17 +247,17 @@ def info_tells_what_the_system_does(tried, _):
 
 
 def info_tells_who_is_connected(tried, _):
-    """Counted is who has sent a request, and no more once it has closed."""
+    """Counted is who has come, with a request or without one, and no more once it has closed."""
     with tried.start() as server:
         watcher = server.client()
         silent = [server.client() for _ in range(8)]
         asking = [server.client() for _ in range(8)]
         assert all(it.ask("PING") == PONG for it in asking)
-        until(lambda: watcher.info()["connected_clients"] == "9", "the count of those who asked")
+        until(lambda: watcher.info()["connected_clients"] == "17", "the count of those who came")
         for it in silent + asking:
             it.close()
         until(lambda: watcher.info()["connected_clients"] == "1", "the count of who is left")
-        assert watcher.info()["total_connections_received"] == "9", watcher.info()
+        assert watcher.info()["total_connections_received"] == "17", watcher.info()
 
 
 def info_tells_what_lies_on_disk(tried, _):

@@ -188,7 +188,6 @@ def scan_gives_every_key_that_stays(tried, _):
     assert set(scan_all(client, "MATCH", "stay1?", "COUNT", "1000")) == {b"stay1%d" % at for at in range(10)}
     assert scan_all(client, "TYPE", "list", "COUNT", "1000") == []
     assert client.number("DBSIZE") == len(scan_all(client, "COUNT", "1000")) == len(stay)
-    assert len({client.value("RANDOMKEY") for _ in range(50)}) > 5
     assert client.value("RANDOMKEY") in stay
     assert other.ask("FLUSHDB") == OK and client.ask("DBSIZE") == b":0\r\n" and client.ask("GET", "stay1") == NONE
 

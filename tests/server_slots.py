@@ -11,8 +11,8 @@ SLOTS = 40
 REFUSAL = b"max number of clients reached"
 # One MiB each: more than the system keeps for a client that reads nothing.
 VALUE = b"x" * (1 << 20)
-# Seconds in which a server is gone that owes nothing.
-AT_ONCE = 0.3
+# Seconds in which a server is gone that owes nothing: less than the second in which it waits for what is owed.
+AT_ONCE = 0.8
 
 
 def a_slot(server, stack):
@@ -76,6 +76,10 @@ def each_slot_is_free_again(tried, counts):
                 with contextlib.suppress(ConnectionResetError, BrokenPipeError), Client(server.address) as client:
                     end(client)
             fill(server)
+        with contextlib.ExitStack() as stack:
+            client = a_slot(server, stack)
+            # The gateway reports them once a second.
+            until(lambda: int(client.info("stats")["rejected_connections"]) >= 6, "the count of refused connections")
         is_gone_at_once(server)
     return f"{6 * rounds} ends over {SLOTS} slots"
 

@@ -1,16 +1,17 @@
-//! A lane that stands in for the server's where the front is measured: `lane REQUESTS REPLIES` answers PING, SET and GET over
-//! the front's frames from a map of its own, and anything else with `+OK`. It trusts what comes, but for its length.
+//! A lane that stands in for the server's where the gateway is measured: `lane REQUESTS REPLIES` answers PING, SET and GET over
+//! the gateway's packets from a map of its own, and anything else with `+OK`. It trusts what comes, but for its length.
 
 use std::collections::HashMap;
 use std::env;
 use std::fs::File;
 use std::io::{self, Read, Write};
 
-const HEAD: usize = 9;
+const HEAD: usize = 13;
 const READ: usize = 1 << 18;
 const DATA: u8 = 0;
 const OPEN: u8 = 1;
 const CLOSE: u8 = 2;
+const LET_IN: u8 = 4;
 
 /// The number that follows a line's mark, and the place behind the line.
 fn line(bytes: &[u8], at: usize) -> Option<(usize, usize)> {
@@ -51,7 +52,7 @@ fn answer(words: &[&[u8]], kept: &mut HashMap<Vec<u8>, Vec<u8>>, out: &mut Vec<u
     }
 }
 
-fn frame(kind: u8, connection: u32, bytes: &[u8], out: &mut Vec<u8>) {
+fn frame(kind: u8, connection: u64, bytes: &[u8], out: &mut Vec<u8>) {
     out.push(kind);
     out.extend_from_slice(&connection.to_be_bytes());
     out.extend_from_slice(&(bytes.len() as u32).to_be_bytes());
@@ -63,7 +64,7 @@ fn main() -> io::Result<()> {
     let mut requests = File::open(&paths[0])?;
     let mut replies = File::options().write(true).open(&paths[1])?;
     let mut kept = HashMap::new();
-    let mut halves: Vec<Vec<u8>> = Vec::new();
+    let mut halves: HashMap<u64, Vec<u8>> = HashMap::new();
     let (mut input, mut filled) = (vec![0; 2 * READ], 0);
     let (mut out, mut reply) = (Vec::new(), Vec::new());
     loop {
@@ -75,19 +76,16 @@ fn main() -> io::Result<()> {
         let mut at = 0;
         while filled - at >= HEAD {
             let head = &input[at..at + HEAD];
-            let connection = u32::from_be_bytes(head[1..5].try_into().unwrap());
-            let length = u32::from_be_bytes(head[5..].try_into().unwrap()) as usize;
+            let connection = u64::from_be_bytes(head[1..9].try_into().unwrap());
+            let length = u32::from_be_bytes(head[9..].try_into().unwrap()) as usize;
             if filled - at - HEAD < length {
                 break;
-            }
-            let number = connection as usize;
-            if halves.len() <= number {
-                halves.resize(number + 1, Vec::new());
             }
             let bytes = &input[at + HEAD..at + HEAD + length];
             match head[0] {
                 DATA => {
-                    let mut half = std::mem::take(&mut halves[number]);
+                    let kept_half = halves.entry(connection).or_default();
+                    let mut half = std::mem::take(kept_half);
                     let mut rest = bytes;
                     if !half.is_empty() {
                         half.extend_from_slice(bytes);
@@ -99,13 +97,16 @@ fn main() -> io::Result<()> {
                         answer(&words, &mut kept, &mut reply);
                         rest = &rest[length..];
                     }
-                    halves[number] = rest.to_vec();
+                    *kept_half = rest.to_vec();
                     if !reply.is_empty() {
                         frame(DATA, connection, &reply, &mut out);
                     }
                 }
-                OPEN => halves[number].clear(),
-                CLOSE => frame(CLOSE, connection, b"", &mut out),
+                OPEN => frame(LET_IN, connection, b"", &mut out),
+                CLOSE => {
+                    halves.remove(&connection);
+                    frame(CLOSE, connection, b"", &mut out);
+                }
                 _ => {}
             }
             at += HEAD + length;

@@ -1,5 +1,5 @@
 //! What a request asks for, as a command or in the words of Redis's faults; what a command on one key replies and leaves; and
-//! lanes over bytes in memory, and over those by one service behind another.
+//! lanes over bytes in memory, over those by one service behind another, and what a service says beside replies.
 mod common;
 mod framed;
 mod keys;
@@ -7,3 +7,4 @@ mod leaving;
 mod parts;
 mod requests;
 mod server_requests;
+mod signals;

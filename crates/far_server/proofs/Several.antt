@@ -1,9 +1,11 @@
 -- Commands on several keys: one key more.
-use Rattle.std.proofs.Common.{◌≡◌, ℕ, Bool, MatchBool, List, [], ◌∷◌, ◌++◌, refl, sym, ap, subst}
+use Rattle.std.proofs.Common.{◌≡◌, ◌≤◌, ◌+◌, ◌-◌, ℕ, Bool, MatchBool, List, [], ◌∷◌, ◌++◌, length, refl, sym, ap, subst, ◌∙◌, arith, length-append}
+use Rattle.std.specs.List.{flat_map}
 use Rattle.table_core.specs.declared.limits.Limits.{Limits}
 use Rattle.resp.specs.Replies.{Token, token}
 use Rattle.key_commands.specs.declared.asked.KeyCommand.{KeyCommand}
 use Rattle.far_server.specs.Sessions.{Session}
+use Rattle.far_server.specs.Bounds.{longest}
 use Rattle.far_server.specs.Keyed.{IsKeyed}
 use Rattle.far_server.specs.Many.{one, none, ok, counted, AreCounted, AreListed, IsSet, AreSet}
 
@@ -17,13 +19,25 @@ module _ (l : Limits) (now most : ℕ) where
   counted_more command (j ∷ ks) k from count a b c r is_one before keyed said =
       (before.0, before.1, before.2, before.3, before.4, counted_more command ks k (counted before.2 from) count before.0 b c r is_one before.5 keyed said)
 
-  pub listed_more : (command : KeyCommand) (ks : List (List ℕ)) (k : List ℕ) (rs : List Token) (a b c : Session) (r : Token)
-      → AreListed l now most command ks rs a b → IsKeyed l k command now most b c r → AreListed l now most command (ks ++ k ∷ []) (rs ++ r ∷ []) a c
-  listed_more command [] k rs a b c r before keyed =
+  pub listed_more : (command : KeyCommand) (limit : ℕ) (ks : List (List ℕ)) (k : List ℕ) (rs : List Token) (a b c : Session) (r : Token)
+      → AreListed l now most command limit ks rs a b → length (flat_map token rs) + longest most ≤ limit → IsKeyed l k command now most b c r
+      → AreListed l now most command limit (ks ++ k ∷ []) (rs ++ r ∷ []) a c
+  listed_more command limit [] k rs a b c r before fits keyed =
       let at : IsKeyed l k command now most a c r = subst (λ (s : Session). IsKeyed l k command now most s c r) (sym before.0) keyed in
-      (c, r, [], at, (refl, refl), ap (λ (ts : List Token). ts ++ r ∷ []) before.1)
-  listed_more command (j ∷ ks) k rs a b c r before keyed =
-      (before.0, before.1, before.2 ++ r ∷ [], before.3, listed_more command ks k before.2 before.0 b c r before.4 keyed, ap (λ (ts : List Token). ts ++ r ∷ []) before.5)
+      (omega (arith, fits), (c, r, [], at, (refl, refl), ap (λ (ts : List Token). ts ++ r ∷ []) before.1))
+  listed_more command limit (j ∷ ks) k rs a b c r before fits keyed =
+      let p = before.1 in
+      let len : length (flat_map token rs) ≡ length (token p.1) + length (flat_map token p.2) = ap (λ (ts : List Token). length (flat_map token ts)) p.5 ∙ length-append (token p.1) (flat_map token p.2) in (
+        before.0,
+        (
+          p.0,
+          p.1,
+          p.2 ++ r ∷ [],
+          p.3,
+          listed_more command (limit - length (token p.1)) ks k p.2 p.0 b c r p.4 (omega (arith, len, fits)) keyed,
+          ap (λ (ts : List Token). ts ++ r ∷ []) p.5,
+        ),
+      )
 
   pub set_more : (ks : List (List ℕ)) (k v : List ℕ) (a b c : Session) (r : Token)
       → AreSet l now most ks a b → IsSet l now most k v b c r → token r ≡ ok → AreSet l now most (ks ++ k ∷ v ∷ []) a c

@@ -6,7 +6,7 @@ use Rattle.resp.specs.declared.limits.Limits.{Limits as LimitsOfRequests}
 use Rattle.lanes.specs.declared.over.Wire.{Wire}
 use Rattle.lanes.specs.Marks.{Mark}
 use Rattle.lanes.specs.Calls.{Exchange, step_marks}
-use Rattle.lanes.specs.Slots.{Seen}
+use Rattle.lanes.specs.Slots.{Views, none_seen}
 use Rattle.lanes.specs.Frames.{frames_bytes, WireTells}
 use Rattle.lanes.specs.Standing.{Standing, GoesOnBy}
 use Rattle.lanes.proofs.Resuming.{begins, settles}
@@ -24,13 +24,13 @@ use Rattle.far_server.specs.declared.states.WorkerState.TheVariants as state
 
 module _ {In Out : Type 0} (remaining : In → Option (List ℕ)) (contents : Out → Option (List ℕ)) where
   -- nothing came yet
-  pub new_stood : (wire : Wire In Out) (views : List Seen) → views ≡ [] → WireTells remaining contents wire wire [] [] → HasStood remaining contents wire views
+  pub new_stood : (wire : Wire In Out) (views : Views) → views ≡ none_seen → WireTells remaining contents wire wire [] [] → HasStood remaining contents wire views
   new_stood wire views none told =
-      let P : List Seen → Type 0 = λ v. Standing (WireTells remaining contents) wire.limits wire wire v [] in
+      let P : Views → Type 0 = λ v. Standing (WireTells remaining contents) wire.limits wire wire v [] in
       (wire, [], subst P (sym none) (begins (WireTells remaining contents) wire.limits wire told))
 
   -- where a lane had stood it stands again behind the steps of a service
-  pub still_stood : {X : Type 0} (does : X → _ → X → Type 0) (old new : Wire In Out) (x y : X) (before after : List Seen) → new.limits ≡ old.limits → HasStood remaining contents old before
+  pub still_stood : {X : Type 0} (does : X → _ → X → Type 0) (old new : Wire In Out) (x y : X) (before after : Views) → new.limits ≡ old.limits → HasStood remaining contents old before
       → GoesOnBy (WireTells remaining contents) does old.limits old new x y before after → HasStood remaining contents new after
   still_stood does old new x y before after same stood goes =
       let went = goes stood.0 stood.1 stood.2 in
@@ -38,16 +38,16 @@ module _ {In Out : Type 0} (remaining : In → Option (List ℕ)) (contents : Ou
       (stood.0, stood.1 ++ step_marks went.0, subst P (sym same) went.2)
 
   -- where no more comes all requests are answered
-  pub has_served : (limits : LimitsOfRequests) (start now : Wire In Out) (views : List Seen) (past : List (Mark Exchange)) (input : In) (output : Out) → now.broken ≡ false → input ≡ now.input → output ≡ now.output
+  pub has_served : (limits : LimitsOfRequests) (start now : Wire In Out) (views : Views) (past : List (Mark Exchange)) (input : In) (output : Out) → now.broken ≡ false → input ≡ now.input → output ≡ now.output
       → Standing (WireTells remaining contents) limits start now views past → HasServed remaining contents limits start.input input start.output output past
   has_served limits start now views past input output whole in_is out_is stood =
       let s = settles (WireTells remaining contents) limits start now views past stood in
       let t = wire_told remaining contents start now s.came s.sent whole s.told in
       let C : In → Type 0 = λ i. Consumes (remaining start.input) (remaining i) (frames_bytes s.came) in
       let A : Out → Type 0 = λ o. Appends (contents start.output) (contents o) (frames_bytes s.sent) in
-      record { came = s.came; sent = s.sent; consumed = subst C (sym in_is) t.0; appended = subst A (sym out_is) t.1; each = s.each; left = s.left }
+      record { came = s.came; sent = s.sent; consumed = subst C (sym in_is) t.0; appended = subst A (sym out_is) t.1; each = s.each; left = s.left; once = s.once }
 
-  module _ (l : Limits) (password : Option (List ℕ)) (most : ℕ) (old new : Session) (left : LeftView In Out) (wire : Wire In Out) (views : List Seen) (y : Lane) (ended : y.session ≡ new)
+  module _ (l : Limits) (password : Option (List ℕ)) (most : ℕ) (old new : Session) (left : LeftView In Out) (wire : Wire In Out) (views : Views) (y : Lane) (ended : y.session ≡ new)
       (goes : GoesOnBy (WireTells remaining contents) (Acts l password most) left.wire.limits left.wire wire (lane_of password old left.connections) y left.views views) where
     -- the lane left again
     pub leaves_so : (after : LeftView In Out) → after.wire ≡ wire → after.views ≡ views → y ≡ lane_of password y.session after.connections → wire.limits ≡ left.wire.limits
@@ -60,7 +60,7 @@ module _ {In Out : Type 0} (remaining : In → Option (List ℕ)) (contents : Ou
           let went = goes start past stood in
           let marks = past ++ step_marks went.0 in
           let P : Wire In Out → Type 0 = λ w. (w.limits ≡ left.wire.limits) × Standing (WireTells remaining contents) left.wire.limits start w after.views marks in
-          let Q : List Seen → Type 0 = λ v. Standing (WireTells remaining contents) left.wire.limits start wire v marks in
+          let Q : Views → Type 0 = λ v. Standing (WireTells remaining contents) left.wire.limits start wire v marks in
           (went.0, went.1, subst P (sym wire_is) (same, subst Q (sym views_is) went.2));
     }
 
@@ -87,12 +87,12 @@ module _ {In Out : Type 0} (remaining : In → Option (List ℕ)) (contents : Ou
         → (start : Wire In Out) × Opens start.input start.output × (left.wire.limits ≡ limits) × Standing (WireTells remaining contents) left.wire.limits start left.wire left.views past
 
     -- one that has not begun
-    pub fresh_begins : (limits : LimitsOfRequests) (left : LeftView In Out) (input : In) (output : Out) → Opens input output → (left.wire.input ≡ input) × (left.wire.output ≡ output) → left.wire.limits ≡ limits → left.views ≡ []
+    pub fresh_begins : (limits : LimitsOfRequests) (left : LeftView In Out) (input : In) (output : Out) → Opens input output → (left.wire.input ≡ input) × (left.wire.output ≡ output) → left.wire.limits ≡ limits → left.views ≡ none_seen
         → WireTells remaining contents left.wire left.wire [] [] → Begins limits state.Fresh left
     fresh_begins limits left input output opened parts limits_are none told past is =
         let I : In → Type 0 = λ i. Opens i output in
         let O : Out → Type 0 = λ o. Opens left.wire.input o in
-        let P : List Seen → Type 0 = λ v. Standing (WireTells remaining contents) left.wire.limits left.wire left.wire v [] in
+        let P : Views → Type 0 = λ v. Standing (WireTells remaining contents) left.wire.limits left.wire left.wire v [] in
         let Q : List (Mark Exchange) → Type 0 = λ p. Standing (WireTells remaining contents) left.wire.limits left.wire left.wire left.views p in
         (left.wire, subst O (sym parts.1) (subst I (sym parts.0) opened), limits_are, subst Q (sym is) (subst P (sym none) (begins (WireTells remaining contents) left.wire.limits left.wire told)))
 

@@ -1,12 +1,19 @@
 -- What an answer to a request tells of its connection and its session.
-use Rattle.std.specs.Prelude.{◌≡◌, ◌⊎◌, ℕ, Bool, true, false, List, [], ◌∷◌, ◌++◌, length, codes, Option, Some, None}
+use Rattle.std.specs.Prelude.{◌≡◌, ◌⊎◌, ℕ, ◌+◌, ◌-◌, ◌<◌, ◌≤◌, Bool, true, false, List, [], ◌∷◌, ◌++◌, length, replicate, codes, Option, Some, None, unwrap_or, option_map}
+use Rattle.std.specs.Ordering.{nat_cmp}
+use Rattle.std.specs.Map.{lookup}
+use Rattle.std.specs.BTreeMap.{is_at}
+use Rattle.std.specs.List.{flat_map}
 use Rattle.table_core.specs.declared.limits.Limits.{Limits}
-use Rattle.resp.specs.Replies.{Token, Simple, Count}
+use Rattle.resp.specs.Replies.{Token, Simple, Count, Failure, token}
+use Rattle.lanes.specs.declared.service.Next.{Next}
+use Rattle.lanes.specs.declared.service.Next.TheVariants as behind
 use Rattle.far_server.specs.declared.connection.Connection.{Connection}
 use Rattle.far_server.specs.declared.queue.Queue.{Queue}
 use Rattle.far_server.specs.Sessions.{Session}
 use Rattle.far_server.specs.Queues.{waiting}
-use Rattle.far_server.specs.Logins.{HasLogin}
+use Rattle.far_server.specs.Logins.{HasLogin, Exceeds}
+use Rattle.far_server.specs.Bounds.{most_reply, longest, too_large}
 use Rattle.far_server.specs.Runs.{IsRequest}
 
 -- what is known of a connection: whether it may ask, and what waits for EXEC, behind a MULTI
@@ -21,6 +28,10 @@ waits_in (Some queue) = Some (waiting queue)
 abbrev pub known : Connection → Known
 known c = record { passed = c.passed; waits = waits_in c.queue }
 
+-- Who is let in may ask; and who might ask and may no more is let out, or the connection ends.
+abbrev pub IsTold : Bool → Bool → Next → Type 0
+IsTold might may next = (next ≡ behind.LetIn → may ≡ true) × (might ≡ true → may ≡ false → (next ≡ behind.LetOut) ⊎ (next ≡ behind.End))
+
 -- what is known of a new connection, which may ask just where no password is set
 abbrev pub is_free : Option (List ℕ) → Bool
 is_free None = true
@@ -28,6 +39,10 @@ is_free (Some digest) = false
 
 abbrev pub new_known : Bool → Known
 new_known passed = record { passed = passed; waits = None }
+
+-- what is known of the connection of this number, where these have a place, and otherwise e
+abbrev pub known_at : List (ℕ × Connection) → ℕ → Known → Known
+known_at places c e = unwrap_or (option_map known (lookup (is_at (nat_cmp c)) places)) e
 
 abbrev pub unknown : Option (List ℕ) → Known
 unknown password = new_known (is_free password)
@@ -41,16 +56,39 @@ abbrev pub MovesOn : Option (List (List (List ℕ))) → Option (List (List (Lis
 MovesOn before after = (after ≡ before) ⊎ ((after ≡ None) ⊎ ((before ≡ None) × (after ≡ Some [])))
 
 module _ (l : Limits) (most : ℕ) where
-  -- requests were run one after another, and these are their replies
-  abbrev pub AreRun : List (List (List ℕ)) → List Token → Session → Session → Type 0
-  AreRun [] rs old new = (old ≡ new) × (rs ≡ [])
-  AreRun (request ∷ requests) rs old new = (mid : Session) × (first rest : List Token) × IsRequest l most request old mid first × AreRun requests rest mid new × (rs ≡ first ++ rest)
+  -- A request was run where the limit had room for the longest value.
+  pub record IsRunWithin (limit : ℕ) (request : List (List ℕ)) (old new : Session) (rs : List Token) : Type 0 where
+    pub fits : longest most ≤ limit
+    pub ran : IsRequest l most limit request old new rs
+
+  -- None of so many requests was run, since the limit had no room for the longest value: each is answered by the error.
+  pub record AreRefused (limit count : ℕ) (old new : Session) (rs : List Token) : Type 0 where
+    pub passes : limit < longest most
+    pub untouched : old ≡ new
+    pub reply : rs ≡ replicate count (Failure too_large)
+
+  -- a request behind replies of so many bytes in an array: it was run, or refused
+  abbrev pub IsRunOrRefused : ℕ → List (List ℕ) → Session → Session → List Token → Type 0
+  IsRunOrRefused used request old new rs =
+      ((used + longest most ≤ most_reply) × IsRequest l most (most_reply - used) request old new rs)
+      ⊎ ((most_reply < used + longest most) × ((old ≡ new) × (rs ≡ Failure too_large ∷ [])))
+
+  -- Requests were run one after another within a limit for all replies, which are these; from the first on for which it had no room none was.
+  abbrev pub AreExecuted : ℕ → List (List (List ℕ)) → List Token → Session → Session → Type 0
+  AreExecuted limit [] rs old new = (old ≡ new) × (rs ≡ [])
+  AreExecuted limit (request ∷ requests) rs old new =
+      ((mid : Session) × (first rest : List Token) × IsRunWithin limit request old mid first × AreExecuted (limit - length (flat_map token first)) requests rest mid new × (rs ≡ first ++ rest))
+      ⊎ AreRefused limit (length (request ∷ requests)) old new rs
+
+  -- an array of the replies to requests
+  abbrev pub AreExecutedEach : List (List (List ℕ)) → List Token → Session → Session → Type 0
+  AreExecutedEach requests each old new = AreExecuted (most_reply - length (token (Count (length requests)))) requests each old new
 
   -- The request was run at once.
   pub record IsRun (before after : Known) (arguments : List (List ℕ)) (old new : Session) (rs : List Token) : Type 0 where
     pub none_before : before.waits ≡ None
     pub none_after : after.waits ≡ None
-    pub ran : IsRequest l most arguments old new rs
+    pub ran : IsRequest l most most_reply arguments old new rs
 
   -- It waits for EXEC.
   pub record IsQueued (before after : Known) (arguments : List (List ℕ)) (old new : Session) (rs : List Token) : Type 0 where
@@ -60,13 +98,13 @@ module _ (l : Limits) (most : ℕ) where
     pub untouched : old ≡ new
     pub reply : rs ≡ Simple (codes "QUEUED") ∷ []
 
-  -- The requests that waited were run, in order.
+  -- The requests that waited were run, in order, as far as the reply had room for their replies.
   pub record IsExecuted (before after : Known) (old new : Session) (rs : List Token) : Type 0 where
     pub requests : List (List (List ℕ))
     pub waited : before.waits ≡ Some requests
     pub none_after : after.waits ≡ None
     pub each : List Token
-    pub ran : AreRun requests each old new
+    pub ran : AreExecutedEach requests each old new
     pub reply : rs ≡ Count (length requests) ∷ each
 
   -- It asks for nothing of the map; what waits stays, or is dropped, or begins.
@@ -83,8 +121,15 @@ module _ (l : Limits) (most : ℕ) (before after : Known) (arguments : List (Lis
   abbrev pub Did : Type 0
   Did = IsRun l most before after arguments old new rs ⊎ (IsQueued l most before after arguments old new rs ⊎ (IsExecuted l most before after old new rs ⊎ IsElse l most before after old new))
 
--- Who may ask behind it might before, or need not say a password, or said it; who may not has made no call.
+-- A request of a connection that has to log in first: who may ask behind it said the password, and what is too large is refused.
+pub record IsRefusedOr (password : Option (List ℕ)) (before after : Known) (arguments : List (List ℕ)) (rs : List Token) : Type 0 where
+  pub login : after.passed ≡ true → (before.passed ≡ true) ⊎ HasLogin password arguments
+  pub waits : MovesOn before.waits after.waits
+  pub excess : (text : List ℕ) → Exceeds arguments text → (rs ≡ Failure text ∷ []) × (after ≡ before)
+
+-- Who may ask behind it might before, or need not say a password, or said it; who may not has made no call, and is refused what is too large.
 pub record IsAnswered (l : Limits) (password : Option (List ℕ)) (most : ℕ) (before after : Known) (arguments : List (List ℕ)) (old new : Session) (rs : List Token) : Type 0 where
   pub login : after.passed ≡ true → (before.passed ≡ true) ⊎ HasLogin password arguments
   pub gate : before.passed ≡ false → old ≡ new
+  pub excess : before.passed ≡ false → (text : List ℕ) → Exceeds arguments text → (rs ≡ Failure text ∷ []) × (after ≡ before)
   pub did : Did l most before after arguments old new rs

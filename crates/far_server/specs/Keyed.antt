@@ -12,7 +12,7 @@ use Rattle.key_commands.specs.Doing.{Does}
 use Rattle.far_map.specs.declared.refusal.Refusal.{Refusal}
 use Rattle.far_server.specs.Sessions.{Session, Call, Called}
 use Rattle.far_server.specs.Steps.{Steps}
-use Rattle.far_server.specs.Refusing.{text_of, overtaken, no_room}
+use Rattle.far_server.specs.Refusing.{IsTold, text_of, overtaken, no_room}
 
 -- a call on this key that was answered so leaves the map as it was
 abbrev pub IsIdleCall : List ℕ → Call → Result (Option (List ℕ)) Refusal → Type 0
@@ -85,5 +85,5 @@ module _ (l : Limits) (k : List ℕ) where
     abbrev pub IsKeyed : Session → Session → Token → Type 0
     IsKeyed old new reply = (mid : Session) × Idles old mid × (
         Carries mid new reply
-        ⊎ (((why : Refusal) × IsStopped why mid new × (reply ≡ Failure (text_of why)))
+        ⊎ (((why : Refusal) × (told : Refusal) × IsStopped why mid new × IsTold why told × (reply ≡ Failure (text_of told)))
         ⊎ ((mid ≡ new) × ((reply ≡ Failure overtaken) ⊎ (reply ≡ Failure no_room)))))

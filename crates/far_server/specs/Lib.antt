@@ -2,6 +2,7 @@ pub mod Sessions
 pub mod Steps
 pub mod Refusing
 pub mod Keyed
+pub mod Bounds
 pub mod Many
 pub mod Flushes
 pub mod Sweeps

@@ -1,5 +1,5 @@
 -- Who may ask.
-use Rattle.std.specs.Prelude.{◌≡◌, ℕ, List, Option, Some, None, ⊤}
+use Rattle.std.specs.Prelude.{◌≡◌, ◌⊎◌, ◌<◌, ◌≤◌, ℕ, List, [], ◌∷◌, length, codes, Option, Some, None, ⊤}
 use Rattle.sha2.specs.Sha256.{sha256}
 use Rattle.commands.specs.declared.command.Command.{Command}
 use Rattle.commands.specs.declared.command.Command.TheVariants as command
@@ -31,3 +31,22 @@ LogsIn password c = ⊥
 abbrev pub HasLogin : Option (List ℕ) → List (List ℕ) → Type 0
 HasLogin None words = ⊤
 HasLogin (Some digest) words = (c : Command) × Spells words c × LogsIn (Some digest) c
+
+-- each of the words has at most as many bytes as one may have of a connection that has to log in first
+abbrev pub AreShort : List (List ℕ) → Type 0
+AreShort [] = ⊤
+AreShort (word ∷ words) = (length word ≤ 16384) × AreShort words
+
+-- one of them has more
+abbrev pub HasLong : List (List ℕ) → Type 0
+HasLong [] = ⊥
+HasLong (word ∷ words) = (16384 < length word) ⊎ HasLong words
+
+-- what a request of such a connection may have at most
+abbrev pub IsModest : List (List ℕ) → Type 0
+IsModest words = (length words ≤ 10) × AreShort words
+
+-- it has more words, or a longer one, and this is said of it
+abbrev pub Exceeds : List (List ℕ) → List ℕ → Type 0
+Exceeds words text = ((10 < length words) × (text ≡ codes "ERR Protocol error: unauthenticated multibulk length"))
+    ⊎ ((length words ≤ 10) × (HasLong words × (text ≡ codes "ERR Protocol error: unauthenticated bulk length")))

@@ -1,13 +1,15 @@
 -- What a command on several keys does with its session, and what it replies.
-use Rattle.std.specs.Prelude.{◌≡◌, ◌⊎◌, ℕ, ◌+◌, ◌-◌, ◌^◌, ◌<◌, min, pos, Bool, true, false, MatchBool, List, [], ◌∷◌, ◌++◌, length, codes}
+use Rattle.std.specs.Prelude.{◌≡◌, ◌⊎◌, ℕ, ◌+◌, ◌-◌, ◌^◌, ◌<◌, ◌≤◌, min, pos, Bool, true, false, MatchBool, List, [], ◌∷◌, ◌++◌, length, codes}
 use denote.Ref.{Bor}
 use Rattle.table_core.specs.declared.limits.Limits.{Limits}
-use Rattle.resp.specs.Replies.{Token, Simple, Number, Count, token}
+use Rattle.std.specs.List.{flat_map}
+use Rattle.resp.specs.Replies.{Token, Simple, Number, Count, Failure, token}
 use Rattle.commands.specs.declared.command.Change.{Change}
 use Rattle.key_commands.specs.declared.asked.KeyCommand.{KeyCommand}
 use Rattle.key_commands.specs.declared.asked.KeyCommand.TheVariants as ask
 use Rattle.far_server.specs.Sessions.{Session}
 use Rattle.far_server.specs.Keyed.{IsKeyed}
+use Rattle.far_server.specs.Bounds.{longest, too_large}
 
 -- one more, as far as 63 bits tell
 abbrev pub more : ℕ → ℕ
@@ -40,14 +42,29 @@ module _ (l : Limits) (now most : ℕ) where
     IsCountedEach ks old new r = ((count : ℕ) × AreCounted ks 0 count old new × (r ≡ Number (pos count)))
         ⊎ ((before : List (List ℕ)) × (k : List ℕ) × (behind : List (List ℕ)) × (count : ℕ) × (mid : Session) × (ks ≡ before ++ k ∷ behind) × AreCounted before 0 count old mid × IsKeyed l k command now most mid new r)
 
-    -- the command was carried out on these keys, one after another, and these are the replies
-    abbrev pub AreListed : List (List ℕ) → List Token → Session → Session → Type 0
-    AreListed [] rs old new = (old ≡ new) × (rs ≡ [])
-    AreListed (k ∷ ks) rs old new = (mid : Session) × (r : Token) × (rest : List Token) × IsKeyed l k command now most old mid r × AreListed ks rest mid new × (rs ≡ r ∷ rest)
+    -- The command was carried out on these keys, one after another, and these are the replies. Before each there was room for the longest
+    -- value within a limit for all.
+    abbrev pub AreListed : ℕ → List (List ℕ) → List Token → Session → Session → Type 0
+    AreListed limit [] rs old new = (old ≡ new) × (rs ≡ [])
+    AreListed limit (k ∷ ks) rs old new = (longest most ≤ limit) × ((mid : Session) × (r : Token) × (rest : List Token) × IsKeyed l k command now most old mid r
+        × AreListed (limit - length (token r)) ks rest mid new × (rs ≡ r ∷ rest))
 
     -- an array of the replies
-    abbrev pub IsListedEach : List (List ℕ) → Session → Session → List Token → Type 0
-    IsListedEach ks old new rs = (each : List Token) × AreListed ks each old new × (rs ≡ Count (length ks) ∷ each)
+    abbrev pub IsListedEach : ℕ → List (List ℕ) → Session → Session → List Token → Type 0
+    IsListedEach limit ks old new rs = (each : List Token) × AreListed (limit - length (token (Count (length ks)))) ks each old new × (rs ≡ Count (length ks) ∷ each)
+
+    -- An error in its place: the command was carried out on some keys, and their replies and the longest value are longer than the limit.
+    pub record IsTooLong (limit : ℕ) (ks : List (List ℕ)) (old new : Session) (rs : List Token) : Type 0 where
+      pub before : List (List ℕ)
+      pub behind : List (List ℕ)
+      pub each : List Token
+      pub split : ks ≡ before ++ behind
+      pub listed : AreListed (limit - length (token (Count (length ks)))) before each old new
+      pub passes : limit < length (flat_map token (Count (length ks) ∷ each)) + longest most
+      pub reply : rs ≡ Failure too_large ∷ []
+
+    abbrev pub IsListedIfShort : ℕ → List (List ℕ) → Session → Session → List Token → Type 0
+    IsListedIfShort limit ks old new rs = IsListedEach limit ks old new rs ⊎ IsTooLong limit ks old new rs
 
   -- a key was set to a value, without options
   abbrev pub IsSet : List ℕ → List ℕ → Session → Session → Token → Type 0

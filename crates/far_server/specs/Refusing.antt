@@ -1,5 +1,5 @@
 -- What is replied for a call that the map refuses.
-use Rattle.std.specs.Prelude.{ℕ, List, codes}
+use Rattle.std.specs.Prelude.{◌≡◌, ◌⊎◌, ℕ, List, codes}
 use Rattle.far_map.specs.declared.refusal.Refusal.{Refusal}
 use Rattle.far_map.specs.declared.refusal.Refusal.TheVariants as refusal
 
@@ -10,6 +10,10 @@ text_of refusal.NamesSpent = codes "ERR far map has no names left"
 text_of refusal.Device = codes "ERR far device failed"
 text_of refusal.Damaged = codes "ERR far device gave back damaged bytes"
 text_of refusal.Memory = codes "OOM command not allowed: out of memory"
+
+-- A refusal is told as it is, or as want of memory: so is one of a device where none keeps anything.
+abbrev pub IsTold : Refusal → Refusal → Type 0
+IsTold why told = (told ≡ why) ⊎ ((why ≡ refusal.Device) × (told ≡ refusal.Memory))
 
 -- where memory is full, and nothing can be swapped out
 abbrev pub no_room : List ℕ

@@ -14,17 +14,17 @@ use Rattle.key_commands.specs.declared.asked.KeyCommand.TheVariants as ask
 use Rattle.key_commands.specs.Asked.{of_one_key}
 use Rattle.far_server.specs.Sessions.{Session}
 use Rattle.far_server.specs.Keyed.{IsKeyed}
-use Rattle.far_server.specs.Many.{IsCountedEach, IsListedEach, IsSetEach}
+use Rattle.far_server.specs.Many.{IsCountedEach, IsListedIfShort, IsSetEach}
 use Rattle.far_server.specs.Flushes.{Flushes}
 
-module _ (l : Limits) (now most : ℕ) where
-  -- a command on these keys
+module _ (l : Limits) (now most limit : ℕ) where
+  -- a command on these keys, whose reply is refused where it is longer than the limit
   abbrev pub IsOfKeys : OfKeys → List (List ℕ) → Session → Session → List Token → Type 0
   IsOfKeys keys.Del ks old new rs = (r : Token) × (rs ≡ r ∷ []) × IsCountedEach l now most ask.Delete ks old new r
   IsOfKeys keys.Unlink ks old new rs = (r : Token) × (rs ≡ r ∷ []) × IsCountedEach l now most ask.Delete ks old new r
   IsOfKeys keys.Exists ks old new rs = (r : Token) × (rs ≡ r ∷ []) × IsCountedEach l now most ask.Exists ks old new r
   IsOfKeys keys.Touch ks old new rs = (r : Token) × (rs ≡ r ∷ []) × IsCountedEach l now most ask.Exists ks old new r
-  IsOfKeys keys.MGet ks old new rs = IsListedEach l now most ask.Get ks old new rs
+  IsOfKeys keys.MGet ks old new rs = IsListedIfShort l now most ask.Get limit ks old new rs
 
   -- A command on several keys, or on none: one that asks for no key makes no call of the map.
   abbrev pub IsOther : Command → Session → Session → List Token → Type 0
@@ -42,5 +42,5 @@ module _ (l : Limits) (now most : ℕ) where
   IsFailure old new rs = (old ≡ new) × ((text : List ℕ) × (rs ≡ Failure text ∷ []))
 
 -- a request of these arguments was run at a time, as the command that they spell, or is none
-abbrev pub IsRequest : Limits → ℕ → List (List ℕ) → Session → Session → List Token → Type 0
-IsRequest l most arguments old new rs = (now : ℕ) × (((c : Command) × Spells arguments c × IsRunAs l now most c old new rs) ⊎ IsFailure l now most old new rs)
+abbrev pub IsRequest : Limits → ℕ → ℕ → List (List ℕ) → Session → Session → List Token → Type 0
+IsRequest l most limit arguments old new rs = (now : ℕ) × (((c : Command) × Spells arguments c × IsRunAs l now most limit c old new rs) ⊎ IsFailure l now most limit old new rs)

@@ -4,7 +4,7 @@ use Rattle.std.specs.Io.KnownBytes.{Consumes, Appends}
 use Rattle.table_core.specs.declared.limits.Limits.{Limits}
 use Rattle.resp.specs.declared.limits.Limits.{Limits as LimitsOfRequests}
 use Rattle.lanes.specs.declared.over.Wire.{Wire}
-use Rattle.lanes.specs.Marks.{Mark, said, stops}
+use Rattle.lanes.specs.Marks.{Mark, said, is_stopped, EndsOnce}
 use Rattle.lanes.specs.Calls.{Exchange, Step, step_marks, Run}
 use Rattle.lanes.specs.Lanes.{Frame, marks, IsSettledAt}
 use Rattle.lanes.specs.Frames.{frames_bytes, WireTells}
@@ -42,8 +42,9 @@ module _ {In Out : Type 0} (remaining : In → Option (List ℕ)) (contents : Ou
     pub sent : List Frame
     pub consumed : Consumes (remaining input) (remaining input_left) (frames_bytes came)
     pub appended : Appends (contents output) (contents output_left) (frames_bytes sent)
-    pub each : (c k : ℕ) → IsSettledAt limits c k (marks came) (marks sent) (said c k past)
-    pub left : (c : ℕ) → stops c past ≡ stops c (marks sent)
+    pub each : (c : ℕ) → IsSettledAt limits c (marks came) (marks sent) (said c past)
+    pub left : (c : ℕ) → is_stopped c past ≡ is_stopped c (marks sent)
+    pub once : (c : ℕ) → EndsOnce c past
 
   -- How a worker stands by what it keeps, whose frames began there: these exchanges were said on its connections, and no reply is owed.
   abbrev pub StandsFrom : LimitsOfRequests → Wire In Out → WorkerState In Out → List (Mark Exchange) → Type 0

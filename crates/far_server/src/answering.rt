@@ -5,14 +5,15 @@ ghost use Rattle.resp.specs.Replies.{Token, Count, token};
 ghost use Rattle.commands.specs.Arguments.{listed};
 ghost use Rattle.commands.specs.Commands.{Spells};
 ghost use Rattle.commands.specs.declared.command.Command.TheVariants as commands;
-ghost use Rattle.far_server.specs.Queues.{waiting};
-ghost use Rattle.far_server.specs.Logins.{HasLogin};
-ghost use Rattle.far_server.specs.Answers.{known, waits_in, is_free, IsHeld, MovesOn, AreRun, IsExecutedOrElse, Did, IsAnswered};
+ghost use Rattle.far_server.specs.Queues.{held, waiting};
+ghost use Rattle.far_server.specs.Logins.{HasLogin, Exceeds};
+ghost use Rattle.far_server.specs.Answers.{known, waits_in, is_free, IsHeld, MovesOn, IsRunOrRefused, AreExecutedEach, IsExecutedOrElse, Did, IsRefusedOr, IsAnswered};
 
 use crate::around::{Around, Desk, milliseconds};
+use crate::bound::{MOST_REPLY, may_grow_to, push_too_large};
 use crate::connection::Connection;
-use crate::login::{NO_LOGIN, answer_auth, answer_hello};
-use crate::queue::Queue;
+use crate::login::{NO_LOGIN, answer_auth, answer_hello, excess_of};
+use crate::queue::{Queue, Request};
 use crate::running::run;
 use crate::settings::ServerSettings;
 use crate::single::{push_one_failure, push_one_fault, push_one_simple};
@@ -77,7 +78,33 @@ fn wait(
     push_one_simple(reply, b"QUEUED")
 }
 
-/// Runs the requests that wait, one after another: the reply is an array of theirs.
+/// Runs a request that waited, behind replies of so many bytes, where there is room for one more value: else its reply is an error.
+fn run_within<S: Calls<Blob>, C: Clock, R: Wait>(
+    around: &Around<'_, C, R>,
+    me: &mut S,
+    connection: &mut Connection,
+    desk: &mut Desk,
+    request: &Request,
+    now: u64,
+    used: usize,
+    reply: &mut Vec<u8>,
+) -> Result<(), AllocError>
+    ensures ran { OnOk result ((rs : List Token) × (reply.new.items ≡ reply.old.items ++ flat_map token rs) × IsRunOrRefused S.limits around.now.settings.now.longest_value used (held request.now) (S.shown me.old) (S.shown me.new) rs) }
+    ensures queue { connection.new.queue ≡ connection.old.queue }
+{
+    if !may_grow_to(MOST_REPLY, used, around.settings.longest_value) {
+        return push_too_large(reply);
+    }
+    let request = request.arguments();
+    let asked = read(request, now);
+    let limit = MOST_REPLY - used;
+    run(
+        around, me, connection, desk, request, asked, now, limit, reply,
+    )
+}
+
+/// Runs the requests that wait, one after another: the reply is an array of theirs. From the first on for which a reply's bytes have no
+/// room for one more value none is run, and the reply to each is an error.
 fn execute<S: Calls<Blob>, C: Clock, R: Wait>(
     around: &Around<'_, C, R>,
     me: &mut S,
@@ -87,18 +114,18 @@ fn execute<S: Calls<Blob>, C: Clock, R: Wait>(
     now: u64,
     reply: &mut Vec<u8>,
 ) -> Result<(), AllocError>
-    ensures ran { OnOk result ((rs : List Token) × (reply.new.items ≡ reply.old.items ++ flat_map token rs) × ((each : List Token) × AreRun S.limits around.now.settings.now.longest_value (waiting queue.now) each (S.shown me.old) (S.shown me.new) × (rs ≡ Count (length (waiting queue.now)) ∷ each))) }
+    ensures ran { OnOk result ((rs : List Token) × (reply.new.items ≡ reply.old.items ++ flat_map token rs) × ((each : List Token) × AreExecutedEach S.limits around.now.settings.now.longest_value (waiting queue.now) each (S.shown me.old) (S.shown me.new) × (rs ≡ Count (length (waiting queue.now)) ∷ each))) }
     ensures queue { connection.new.queue ≡ connection.old.queue }
 {
+    let before = reply.len();
     let requests = queue.requests();
     match push_count(reply, requests.len()) {
         Ok(()) => {}
         Err(refused) => return Err(refused),
     }
     for request in requests {
-        let request = request.arguments();
-        let asked = read(request, now);
-        match run(around, me, connection, desk, request, asked, now, reply) {
+        let used = reply.len() - before;
+        match run_within(around, me, connection, desk, request, now, used, reply) {
             Ok(()) => {}
             Err(refused) => return Err(refused),
         }
@@ -188,7 +215,9 @@ fn wait_or_run<S: Calls<Blob>, C: Clock, R: Wait>(
     ensures { OnOk result ((rs : List Token) × (reply.new.items ≡ reply.old.items ++ flat_map token rs) × Did S.limits around.now.settings.now.longest_value (known connection.old) (known connection.new) (listed request.entry) (S.shown me.old) (S.shown me.new) rs) }
 {
     match connection.queue.take() {
-        None => run(around, me, connection, desk, request, asked, now, reply),
+        None => run(
+            around, me, connection, desk, request, asked, now, MOST_REPLY, reply,
+        ),
         Some(mut queue) => {
             let most = around.settings.longest_queue;
             let waited = wait(around.alloc, most, &mut queue, request, asked, reply);
@@ -293,6 +322,31 @@ fn next_behind(asked: &Result<Command<'_>, Fault<'_>>) -> Next {
     }
 }
 
+/// Answers a request of a connection that has to log in first, and closes it where the request is larger than one may be that logs in.
+fn answer_unknown(
+    settings: &ServerSettings,
+    connection: &mut Connection,
+    request: Arguments<'_>,
+    asked: Result<Command<'_>, Fault<'_>>,
+    next: Next,
+    reply: &mut Vec<u8>,
+) -> Result<Next, AllocError>
+    requires { IfOk asked (λ c. Spells (listed request) c) }
+    ensures said { OnOk result ((rs : List Token) × (reply.new.items ≡ reply.old.items ++ flat_map token rs) × IsRefusedOr settings.now.password (known connection.old) (known connection.new) (listed request.entry) rs) }
+    ensures ends { IfOk result (λ after. (text : List ℕ) → Exceeds (listed request.entry) text → after ≡ Next.End) }
+{
+    if let Some(text) = excess_of(request) {
+        return match push_one_failure(reply, text) {
+            Ok(()) => Ok(Next::End),
+            Err(refused) => Err(refused),
+        };
+    }
+    match refuse_or_log_in(settings, connection, request, asked, reply) {
+        Ok(()) => Ok(next),
+        Err(refused) => Err(refused),
+    }
+}
+
 /// Answers a request, by the time that the clock tells.
 pub(crate) fn answer_request<S: Calls<Blob>, C: Clock, R: Wait>(
     around: &Around<'_, C, R>,
@@ -313,9 +367,6 @@ pub(crate) fn answer_request<S: Calls<Blob>, C: Clock, R: Wait>(
             Err(refused) => Err(refused),
         }
     } else {
-        match refuse_or_log_in(around.settings, connection, request, asked, reply) {
-            Ok(()) => Ok(next),
-            Err(refused) => Err(refused),
-        }
+        answer_unknown(around.settings, connection, request, asked, next, reply)
     }
 }

@@ -6,6 +6,7 @@ use crate::settings::ServerSettings;
 use crate::tally::{Tallies, Tally, count};
 use crate::usage::FarUsage;
 use far_map::Traffic;
+use rand::rngs::SmallRng;
 use std::alloc::Global;
 use std::rt::Clock;
 use std::thread::Parker;
@@ -28,7 +29,7 @@ pub(crate) struct Around<'a, C, R> {
 }
 
 impl<C, R> Around<'_, C, R> {
-    /// A number that no connection has got.
+    /// A number that no connection of any lane has got.
     pub(crate) fn next_id(&self) -> u64 {
         self.tallies.next_id()
     }
@@ -48,10 +49,14 @@ pub(crate) struct Desk {
     pub(crate) is_stuck: bool,
     /// Bytes that objects in frames may have.
     pub(crate) most_in_frames: u64,
+    /// Whether a device may take objects.
+    pub(crate) is_far: bool,
     /// Whether the sweep makes room, so that it is worth waiting for.
     pub(crate) is_swept: bool,
     /// Where it sleeps while it waits. Nobody wakes it.
     pub(crate) bed: Parker,
+    /// What RANDOMKEY draws by, once it was asked for.
+    pub(crate) draws: Option<SmallRng>,
 }
 
 impl Desk {
@@ -64,8 +69,10 @@ impl Desk {
             begun: tally,
             is_stuck: false,
             most_in_frames: settings.map.bytes,
+            is_far: settings.is_far,
             is_swept: settings.options.evicts,
             bed: Parker::new(),
+            draws: None,
         }
     }
 

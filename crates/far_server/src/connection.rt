@@ -1,8 +1,11 @@
 //! What a lane knows of a connection.
-ghost use Rattle.std.specs.Prelude.{◌≡◌, [], None};
+ghost use Rattle.std.specs.Prelude.{◌≡◌, ◌<◌, ◌≤◌, [], None, length, MatchBool, IfOk};
 
 use crate::queue::Queue;
 use std::alloc::{AllocError, Global};
+
+/// The most bytes of a connection's name.
+const LONGEST_NAME: usize = 1_024;
 
 /// What a lane knows of a connection.
 #[derive(Drop)]
@@ -19,24 +22,29 @@ pub(crate) struct Connection {
 
 impl Connection {
     /// One that is new.
-    pub(crate) fn new(alloc: Global, passed: bool) -> Connection
+    pub(crate) fn new(alloc: Global, id: u64, passed: bool) -> Connection
         ensures passed { result.passed ≡ passed }
         ensures queue { result.queue ≡ None }
     {
         Connection {
-            id: 0,
+            id,
             passed,
             name: Vec::new(alloc),
             queue: None,
         }
     }
 
-    /// It is called so from now on.
-    pub(crate) fn set_name(&mut self, name: &[u8]) -> Result<(), AllocError>
+    /// It is called so from now on, unless the name is too long: whether it is.
+    pub(crate) fn set_name(&mut self, name: &[u8]) -> Result<bool, AllocError>
+        ensures named { IfOk result (λ named. MatchBool named ((length name.now ≤ 1024) × (self.new.name.items ≡ name.now)) ((1024 < length name.now) × (self.new.name ≡ self.old.name))) }
         ensures passed { self.new.passed ≡ self.old.passed }
         ensures queue { self.new.queue ≡ self.old.queue }
     {
+        if name.len() > LONGEST_NAME {
+            return Ok(false);
+        }
         self.name.clear();
-        self.name.extend_from_slice(name)
+        self.name.extend_from_slice(name)?;
+        Ok(true)
     }
 }

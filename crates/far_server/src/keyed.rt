@@ -14,7 +14,7 @@ ghost use Rattle.far_server.specs.Keyed.{IsSettled, IsTried, IsEnded, IsKeyed};
 
 use crate::around::Desk;
 use crate::deadlines::is_over;
-use crate::refusing::{NO_ROOM, OVERTAKEN, text_of};
+use crate::refusing::{NO_ROOM, OVERTAKEN, text_of, told_as};
 use crate::room::{has_room, may_grow};
 use crate::tally::{Tally, count};
 use far_blob::Blob;
@@ -321,6 +321,7 @@ fn answer_now<S: Calls<Blob>, R: Wait>(
         Ok(true) => Ok(()),
         Ok(false) => fail(before, OVERTAKEN, reply),
         Err(why) => {
+            let why = told_as(why, desk.is_far);
             desk.tally.count_refusal(why);
             fail(before, text_of(why), reply)
         }

@@ -47,7 +47,7 @@ fn serve_frames<S: Calls<Blob>, C: Clock, R: Wait, I: BufRead + Drop, O: Write +
     requires { HasStood I.remaining O.contents wire.old holds }
     ensures same_reference { OnOk result (server.new.me.ghost_name ≡ server.old.me.ghost_name) }
     ensures went_on { IfOk result (λ left. GoesOnBy (WireTells I.remaining O.contents) (Acts S.limits server.old.around.now.settings.now.password server.old.around.now.settings.now.longest_value) wire.old.limits wire.old wire.new
-        (lane_of server.old.around.now.settings.now.password (S.shown server.old.me.now) server.old.kept.connections.items) (lane_of server.old.around.now.settings.now.password (S.shown server.new.me.now) server.new.kept.connections.items) holds left.1) }
+        (lane_of server.old.around.now.settings.now.password (S.shown server.old.me.now) server.old.kept.connections.entries) (lane_of server.old.around.now.settings.now.password (S.shown server.new.me.now) server.new.kept.connections.entries) holds left.1) }
     ensures whole { OnOk result (wire.new.broken ≡ false) }
     ensures limits { OnOk result (wire.new.limits ≡ wire.old.limits) }
 {

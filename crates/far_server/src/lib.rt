@@ -3,6 +3,7 @@
 
 mod answering;
 mod around;
+mod bound;
 mod connection;
 mod deadlines;
 mod ending;
@@ -10,9 +11,11 @@ mod keyed;
 mod lane;
 mod login;
 mod many;
+mod notes;
 mod pipes;
 mod places;
 mod queue;
+mod random_key;
 mod refusing;
 mod renewal;
 mod room;

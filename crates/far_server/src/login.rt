@@ -1,13 +1,14 @@
 //! Who may ask.
-ghost use Rattle.std.specs.Prelude.{◌≡◌, ◌⊎◌, ◌++◌, true, List, ℕ, IsTrue, OnOk};
+ghost use Rattle.std.specs.Prelude.{◌≡◌, ◌⊎◌, ◌++◌, true, List, ℕ, MatchBool, MatchOption, IsTrue, OnOk};
 ghost use Rattle.std.specs.List.{flat_map};
 ghost use Rattle.resp.specs.Replies.{Token, token};
-ghost use Rattle.far_server.specs.Logins.{IsLogin, IsRight};
+ghost use Rattle.commands.specs.Arguments.{listed};
+ghost use Rattle.far_server.specs.Logins.{IsLogin, IsRight, AreShort, HasLong, IsModest, Exceeds};
 
 use crate::connection::Connection;
 use crate::settings::ServerSettings;
 use crate::single::{push_one_failure, push_one_simple};
-use commands::{Greeting, Login};
+use commands::{Arguments, Greeting, Login};
 use sha2::{Digest, Sha256};
 use std::alloc::AllocError;
 
@@ -21,6 +22,44 @@ const WRONG_LOGIN: &[u8] = b"WRONGPASS invalid username-password pair or user is
 
 const NO_PASSWORD: &[u8] =
     b"ERR AUTH <password> called without any password configured for the default user. Are you sure your configuration is correct?";
+
+/// The most arguments of a request of a connection that has to log in first, and the most bytes of each: what a login needs, and little more.
+const MOST_ARGUMENTS: usize = 10;
+
+const MOST_BYTES: usize = 16_384;
+
+const MANY_ARGUMENTS: &[u8] = b"ERR Protocol error: unauthenticated multibulk length";
+
+const LONG_ARGUMENT: &[u8] = b"ERR Protocol error: unauthenticated bulk length";
+
+const LONG_NAME: &[u8] = b"ERR Client names cannot be longer than 1024 bytes.";
+
+/// Whether each argument has at most as many bytes as one may have.
+fn are_short(request: Arguments<'_>) -> bool
+    ensures { MatchBool result (AreShort (listed request.entry)) (HasLong (listed request.entry)) }
+{
+    let mut rest = request;
+    while let Some((argument, behind)) = rest.split_first() {
+        if argument.len() > MOST_BYTES {
+            return false;
+        }
+        rest = behind;
+    }
+    true
+}
+
+/// What is said of a request that is larger than one may be of a connection that has to log in first.
+pub(crate) fn excess_of(request: Arguments<'_>) -> Option<&'static [u8]>
+    ensures { MatchOption result (IsModest (listed request.entry)) (λ text. Exceeds (listed request.entry) text.now) }
+{
+    if request.len() > MOST_ARGUMENTS {
+        Some(MANY_ARGUMENTS)
+    } else if are_short(request) {
+        None
+    } else {
+        Some(LONG_ARGUMENT)
+    }
+}
 
 /// Whether two digests are the same. It looks at every byte, so that the time that it takes tells nothing of them.
 fn are_same(one: &[u8; 32], other: &[u8; 32]) -> bool
@@ -89,7 +128,26 @@ pub(crate) fn answer_hello(
         return push_one_failure(reply, NO_LOGIN_OF_HELLO);
     }
     if let Some(name) = greeting.name {
-        connection.set_name(name)?;
+        if !connection.set_name(name)? {
+            return push_one_failure(reply, LONG_NAME);
+        }
     }
     server_commands::hello(connection.id, reply)
+}
+
+/// CLIENT SETNAME.
+pub(crate) fn answer_set_name(
+    connection: &mut Connection,
+    name: &[u8],
+    reply: &mut Vec<u8>,
+) -> Result<(), AllocError>
+    ensures said { OnOk result ((rs : List Token) × (reply.new.items ≡ reply.old.items ++ flat_map token rs)) }
+    ensures passed { connection.new.passed ≡ connection.old.passed }
+    ensures queue { connection.new.queue ≡ connection.old.queue }
+{
+    if connection.set_name(name)? {
+        push_one_simple(reply, b"OK")
+    } else {
+        push_one_failure(reply, LONG_NAME)
+    }
 }

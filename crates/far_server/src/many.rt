@@ -1,13 +1,15 @@
 //! Commands on several keys: one after another, each by calls of its own.
-ghost use Rattle.std.specs.Prelude.{◌≡◌, ◌<◌, ◌^◌, ◌++◌, ◌∷◌, ℕ, List, length, MatchBool, MatchOption, IfSome, IsTrue, OnOk, OnErr};
+ghost use Rattle.std.specs.Prelude.{◌≡◌, ◌<◌, ◌^◌, ◌++◌, ◌∷◌, [], ℕ, List, length, take, MatchBool, MatchOption, IfSome, IsTrue, OnOk, OnErr};
 ghost use Rattle.std.specs.List.{flat_map};
-ghost use Rattle.resp.specs.Replies.{Token, token};
+ghost use Rattle.resp.specs.Replies.{Token, Failure, token};
 ghost use Rattle.commands.specs.Arguments.{listed};
 ghost use Rattle.version_words.specs.Views.{Goes};
+ghost use Rattle.far_server.specs.Bounds.{too_large};
 ghost use Rattle.far_server.specs.Keyed.{IsKeyed};
-ghost use Rattle.far_server.specs.Many.{one, none, ok, counted, IsCountedEach, IsListedEach, IsSetEach};
+ghost use Rattle.far_server.specs.Many.{one, none, ok, counted, IsCountedEach, IsListedIfShort, IsSetEach};
 
 use crate::around::Desk;
+use crate::bound::{may_grow_to, push_too_large};
 use crate::keyed::{Asking, answer_key};
 use commands::{Arguments, Change, Lifetime, Where};
 use far_blob::Blob;
@@ -152,24 +154,39 @@ pub(crate) fn count_keys<S: Calls<Blob>, R: Wait>(
     push_number(reply, count as i64)
 }
 
-/// GET of each key: their replies in an array, of which some may be errors.
+/// Replies an error in place of the replies to some keys, which are longer than the limit with one more value.
+fn take_back(before: usize, reply: &mut Vec<u8>) -> Result<(), AllocError>
+    ensures { OnOk result (reply.new.items ≡ take before reply.old.items ++ flat_map token (Failure too_large ∷ [])) }
+{
+    reply.truncate(before);
+    push_too_large(reply)
+}
+
+/// GET of each key: their replies in an array, of which some may be errors; or the error that the array would be too large, where at some
+/// key `limit` has no room for one more value.
 pub(crate) fn get_keys<S: Calls<Blob>, R: Wait>(
     rt: &R,
     alloc: Global,
     me: &mut S,
     keys: Arguments<'_>,
     asking: Asking<'_>,
+    limit: usize,
     desk: &mut Desk,
     reply: &mut Vec<u8>,
 ) -> Result<(), AllocError>
-    ensures { OnOk result ((rs : List Token) × (reply.new.items ≡ reply.old.items ++ flat_map token rs) × IsListedEach S.limits asking.entry.now asking.entry.most asking.entry.command (listed keys.entry) (S.shown me.old) (S.shown me.new) rs) }
+    ensures { OnOk result ((rs : List Token) × (reply.new.items ≡ reply.old.items ++ flat_map token rs) × IsListedIfShort S.limits asking.entry.now asking.entry.most asking.entry.command limit (listed keys.entry) (S.shown me.old) (S.shown me.new) rs) }
 {
+    let before = reply.len();
     match push_count(reply, keys.len()) {
         Ok(()) => {}
         Err(refused) => return Err(refused),
     }
     let mut rest = keys;
     while let Some((key, behind)) = rest.split_first() {
+        let used = reply.len() - before;
+        if !may_grow_to(limit, used, asking.most) {
+            return take_back(before, reply);
+        }
         match answer_next(rt, alloc, me, key, keys.len(), 1, rest, asking, desk, reply) {
             Ok(()) => {}
             Err(refused) => return Err(refused),

@@ -1,9 +1,9 @@
-//! The connections of a lane, each at the place of its number.
-ghost use Rattle.std.specs.Prelude.{◌≡◌, ◌≢◌, ◌<◌, ◌++◌, ℕ, List, map, length, slice_index_or, OnOk};
+//! The connections of a lane, each found by its number.
+ghost use Rattle.std.specs.Prelude.{◌≡◌, ◌≢◌, ◌++◌, ℕ, List, Bool, IfOk, OnOk};
 ghost use Rattle.std.specs.List.{flat_map};
 ghost use Rattle.resp.specs.Replies.{Token, token};
 ghost use Rattle.commands.specs.Arguments.{listed};
-ghost use Rattle.far_server.specs.Answers.{Known, known, new_known, IsAnswered};
+ghost use Rattle.far_server.specs.Answers.{Known, known_at, new_known, IsTold, IsAnswered};
 
 use crate::answering::answer_request;
 use crate::around::{Around, Desk};
@@ -14,72 +14,83 @@ use far_blob::Blob;
 use far_map::Calls;
 use lanes::Next;
 use std::alloc::{AllocError, Global};
+use std::collections::BTreeMap;
 use std::rt::Clock;
 use std::sync::Wait;
 
-/// Has a place for the connection of this number, and for all of smaller numbers: new ones are at the places that are made.
-pub(crate) fn make_places(
-    alloc: Global,
-    connections: &mut Vec<Connection>,
-    number: u32,
+/// Has a place for the connection of this number: a new one, where it has none. That counts as one that came.
+pub(crate) fn make_place<C, R>(
+    around: &Around<'_, C, R>,
+    connections: &mut BTreeMap<u64, Connection>,
+    number: u64,
+    desk: &mut Desk,
     passed: bool,
 ) -> Result<(), AllocError>
-    ensures known { (c : ℕ) → slice_index_or (map known connections.new.items) c (new_known passed) ≡ slice_index_or (map known connections.old.items) c (new_known passed) }
-    ensures made { OnOk result (number < length connections.new.items) }
+    ensures known { (c : ℕ) → known_at connections.new.entries c (new_known passed) ≡ known_at connections.old.entries c (new_known passed) }
 {
-    while connections.len() <= number as usize {
-        match connections.push(Connection::new(alloc, passed)) {
-            Ok(()) => {}
-            Err(refused) => return Err(refused.into()),
+    if connections.contains_key(&number) {
+        return Ok(());
+    }
+    let connection = Connection::new(around.alloc, around.next_id(), passed);
+    match connections.insert(number, connection) {
+        Ok(_) => {
+            count(&mut desk.tally.came);
+            Ok(())
+        }
+        Err(refused) => Err(refused.into()),
+    }
+}
+
+/// Nothing is known of the connection of this number any more. Says whether something was.
+pub(crate) fn forget(connections: &mut BTreeMap<u64, Connection>, number: u64) -> bool
+    ensures forgotten { (e : Known) → known_at connections.new.entries number e ≡ e }
+    ensures others { (d : ℕ) (e : Known) → d ≢ number → known_at connections.new.entries d e ≡ known_at connections.old.entries d e }
+{
+    connections.remove(&number).is_some()
+}
+
+/// What the lane does behind a request: whoever might not ask before and may now is let in, and the other way round.
+fn turned(might: bool, may: bool, next: Next) -> Next
+    ensures { IsTold might may result }
+{
+    match next {
+        Next::End => Next::End,
+        _ => {
+            if might == may {
+                Next::GoOn
+            } else if may {
+                Next::LetIn
+            } else {
+                Next::LetOut
+            }
         }
     }
-    Ok(())
 }
 
-/// A new one is at the place of this number. Says whether the old one had a number among all that came.
-pub(crate) fn forget(
-    alloc: Global,
-    connections: &mut Vec<Connection>,
-    number: u32,
-    passed: bool,
-) -> bool
-    ensures forgotten { slice_index_or (map known connections.new.items) number (new_known passed) ≡ new_known passed }
-    ensures others { (d : ℕ) → d ≢ number → slice_index_or (map known connections.new.items) d (new_known passed) ≡ slice_index_or (map known connections.old.items) d (new_known passed) }
-{
-    if connections.len() <= number as usize {
-        return false;
-    }
-    let had_come = connections[number as usize].id > 0;
-    connections[number as usize] = Connection::new(alloc, passed);
-    had_come
-}
-
-/// Numbers a connection that has no number yet among all that came.
-fn number_it<C, R>(around: &Around<'_, C, R>, connection: &mut Connection, desk: &mut Desk)
-    ensures { known connection.new ≡ known connection.old }
-{
-    if connection.id == 0 {
-        connection.id = around.next_id();
-        count(&mut desk.tally.came);
-    }
-    count(&mut desk.tally.commands);
-}
-
-/// Answers a request of the connection at the place of this number.
+/// Answers a request of the connection of this number, which has a place.
 pub(crate) fn answer_at<S: Calls<Blob>, C: Clock, R: Wait>(
     around: &Around<'_, C, R>,
     me: &mut S,
-    connections: &mut Vec<Connection>,
-    number: u32,
+    connections: &mut BTreeMap<u64, Connection>,
+    number: u64,
     desk: &mut Desk,
     request: Arguments<'_>,
     reply: &mut Vec<u8>,
 ) -> Result<Next, AllocError>
-    requires { number < length connections.old.items }
-    ensures answered { OnOk result ((rs : List Token) × (reply.new.items ≡ reply.old.items ++ flat_map token rs) × ((e : Known) → IsAnswered S.limits around.now.settings.now.password around.now.settings.now.longest_value (slice_index_or (map known connections.old.items) number e) (slice_index_or (map known connections.new.items) number e) (listed request.entry) (S.shown me.old) (S.shown me.new) rs)) }
-    ensures others { (d : ℕ) (e : Known) → d ≢ number → slice_index_or (map known connections.new.items) d e ≡ slice_index_or (map known connections.old.items) d e }
+    ensures answered { OnOk result ((rs : List Token) × (reply.new.items ≡ reply.old.items ++ flat_map token rs) × ((e : Known) → IsAnswered S.limits around.now.settings.now.password around.now.settings.now.longest_value (known_at connections.old.entries number e) (known_at connections.new.entries number e) (listed request.entry) (S.shown me.old) (S.shown me.new) rs)) }
+    ensures told { IfOk result (λ next. (e : Known) → IsTold (known_at connections.old.entries number e).passed (known_at connections.new.entries number e).passed next) }
+    ensures others { (d : ℕ) (e : Known) → d ≢ number → known_at connections.new.entries d e ≡ known_at connections.old.entries d e }
 {
-    let place = &mut connections[number as usize];
-    number_it(around, place, desk);
-    answer_request(around, me, place, desk, request, reply)
+    match connections.get_mut(&number) {
+        Some(place) => {
+            count(&mut desk.tally.commands);
+            let might = place.passed;
+            match answer_request(around, me, place, desk, request, reply) {
+                Ok(next) => Ok(turned(might, place.passed, next)),
+                Err(refused) => Err(refused),
+            }
+        }
+        // The lane opens each connection before it hands a request of it over.
+        None => Err(AllocError),
+    }
 }

@@ -1,6 +1,7 @@
 //! What is replied for a call that the map refuses.
-ghost use Rattle.std.specs.Prelude.{◌≡◌};
-ghost use Rattle.far_server.specs.Refusing.{text_of};
+ghost use Rattle.std.specs.Prelude.{◌≡◌, ◌≢◌, false};
+ghost use Rattle.far_map.specs.declared.refusal.Refusal.TheVariants as refusal;
+ghost use Rattle.far_server.specs.Refusing.{IsTold, text_of};
 
 use far_map::Refusal;
 
@@ -9,6 +10,17 @@ pub(crate) const OVERTAKEN: &[u8] = b"ERR the key is changed by others all the t
 
 /// The reply where memory is full, and objects can't be swapped out.
 pub(crate) const NO_ROOM: &[u8] = b"OOM command not allowed when used memory > 'maxmemory'.";
+
+/// How a refusal is told. Where no device keeps anything, that it takes no object means that memory is full.
+pub(crate) fn told_as(why: Refusal, is_far: bool) -> Refusal
+    ensures told { IsTold why result }
+    ensures of_memory { is_far ≡ false → result ≢ refusal.Device }
+{
+    match why {
+        Refusal::Device if !is_far => Refusal::Memory,
+        _ => why,
+    }
+}
 
 /// The reply for a refusal.
 pub(crate) fn text_of(why: Refusal) -> &'static [u8]

@@ -1,4 +1,10 @@
 //! Room for what a command sets: bytes in frames stay bounded where a device takes no more.
+//!
+//! # Before the command
+//!
+//! A command that may leave more bytes than it found looks first whether too many lie in frames. If so it has objects swapped out,
+//! where there is a device. If none takes any more, it waits for the sweep, where that may take other keys out; else it is refused.
+//! A lane takes no other key out itself: its calls are those of its commands.
 ghost use Rattle.version_words.specs.Views.{Goes};
 
 use crate::around::Desk;
@@ -11,8 +17,14 @@ use std::time::Duration;
 /// How many objects a command has swapped out at most, for those that it brings.
 const MOST_TURNS: u32 = 64;
 
-/// How often a command sleeps at most until the sweep has made room, and how many microseconds: a fifth of a second in all.
-const NAPS: (u32, u64) = (1_000, 200);
+/// How many microseconds a command sleeps before it looks again whether the sweep has made room.
+const NAP: u64 = 200;
+
+/// How often it sleeps at most while the bytes in frames do not change: for two seconds.
+const IDLE_NAPS: u32 = 10_000;
+
+/// How often it sleeps at most in all: for thirty seconds. Others may take the room that was made.
+const MOST_NAPS: u32 = 150_000;
 
 /// Whether a command may leave more bytes than it found.
 pub(crate) fn may_grow(command: KeyCommand<'_>) -> bool {
@@ -50,17 +62,24 @@ fn swaps_out<S: Calls<Blob>, R: Wait>(rt: &R, me: &mut S, most: u64) -> bool
     me.bytes_in_frames() <= most
 }
 
-/// Whether at most so many bytes lie in frames, once the sweep had time to take keys out.
-fn sleeps<S: Calls<Blob>, R: Wait>(rt: &R, me: &S, most: u64, desk: &Desk) -> bool {
-    let (naps, microseconds) = NAPS;
-    for _ in 0..naps {
-        if me.bytes_in_frames() <= most {
-            return true;
+/// Whether at most so many bytes lie in frames, once the sweep had time to take keys out. It has as long as it takes some out.
+fn waits<S: Calls<Blob>, R: Wait>(rt: &R, me: &S, most: u64, desk: &Desk) -> bool {
+    let mut last = me.bytes_in_frames();
+    let mut idle = 0u32;
+    for _ in 0..MOST_NAPS {
+        if last <= most || idle >= IDLE_NAPS {
+            break;
         }
-        desk.bed
-            .park_timeout(rt, Duration::from_micros(microseconds));
+        desk.bed.park_timeout(rt, Duration::from_micros(NAP));
+        let now = me.bytes_in_frames();
+        idle = if now == last {
+            idle.saturating_add(1)
+        } else {
+            0
+        };
+        last = now;
     }
-    me.bytes_in_frames() <= most
+    last <= most
 }
 
 /// Whether as many bytes lie in frames as may, and an eighth, once what can be done for it was.
@@ -69,5 +88,11 @@ pub(crate) fn has_room<S: Calls<Blob>, R: Wait>(rt: &R, me: &mut S, desk: &Desk)
 {
     let most = desk.most_in_frames;
     let most = most.saturating_add(most / 8);
-    swaps_out(rt, me, most) || desk.is_swept && sleeps(rt, me, most, desk)
+    if me.bytes_in_frames() <= most {
+        return true;
+    }
+    if desk.is_far && swaps_out(rt, me, most) {
+        return true;
+    }
+    desk.is_swept && waits(rt, me, most, desk)
 }

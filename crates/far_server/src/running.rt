@@ -10,9 +10,10 @@ use crate::around::{Around, Desk};
 use crate::connection::Connection;
 use crate::keyed::{Asking, answer_key};
 use crate::many::{count_keys, get_keys, set_pairs};
+use crate::random_key::answer_random_key;
 use crate::single::{push_one_fault, push_one_number, push_one_simple, push_one_string};
 use crate::telling::{answer_server, keys};
-use crate::visiting::{answer_flush, answer_random_key, answer_scan};
+use crate::visiting::{answer_flush, answer_scan};
 use commands::{Arguments, Command, Fault, OfKeys, OfNothing, ServerCommand};
 use far_blob::Blob;
 use far_map::Calls;
@@ -30,10 +31,11 @@ fn run_keys<S: Calls<Blob>, R: Wait>(
     keys: Arguments<'_>,
     now: u64,
     most: u32,
+    limit: usize,
     desk: &mut Desk,
     reply: &mut Vec<u8>,
 ) -> Result<(), AllocError>
-    ensures { OnOk result ((rs : List Token) × (reply.new.items ≡ reply.old.items ++ flat_map token rs) × IsOfKeys S.limits now most of (listed keys.entry) (S.shown me.old) (S.shown me.new) rs) }
+    ensures { OnOk result ((rs : List Token) × (reply.new.items ≡ reply.old.items ++ flat_map token rs) × IsOfKeys S.limits now most limit of (listed keys.entry) (S.shown me.old) (S.shown me.new) rs) }
 {
     let deletes = Asking {
         command: KeyCommand::Delete,
@@ -55,7 +57,7 @@ fn run_keys<S: Calls<Blob>, R: Wait>(
         OfKeys::Unlink => count_keys(rt, alloc, me, keys, deletes, desk, reply),
         OfKeys::Exists => count_keys(rt, alloc, me, keys, looks, desk, reply),
         OfKeys::Touch => count_keys(rt, alloc, me, keys, looks, desk, reply),
-        OfKeys::MGet => get_keys(rt, alloc, me, keys, gets, desk, reply),
+        OfKeys::MGet => get_keys(rt, alloc, me, keys, gets, limit, desk, reply),
     }
 }
 
@@ -67,21 +69,19 @@ fn run_other<S: Calls<Blob>, C: Clock, R: Wait>(
     desk: &mut Desk,
     command: Command<'_>,
     now: u64,
+    limit: usize,
     reply: &mut Vec<u8>,
 ) -> Result<(), AllocError>
-    ensures ran { OnOk result ((rs : List Token) × (reply.new.items ≡ reply.old.items ++ flat_map token rs) × IsOther S.limits now around.now.settings.now.longest_value command.entry (S.shown me.old) (S.shown me.new) rs) }
+    ensures ran { OnOk result ((rs : List Token) × (reply.new.items ≡ reply.old.items ++ flat_map token rs) × IsOther S.limits now around.now.settings.now.longest_value limit command.entry (S.shown me.old) (S.shown me.new) rs) }
     ensures queue { connection.new.queue ≡ connection.old.queue }
 {
     let (rt, alloc) = (around.rt, around.alloc);
     let most = around.settings.longest_value;
     match command {
-        Command::Keys(of, keys) => run_keys(rt, alloc, me, of, keys, now, most, desk, reply),
+        Command::Keys(of, keys) => run_keys(rt, alloc, me, of, keys, now, most, limit, desk, reply),
         Command::SetMany(pairs) => set_pairs(rt, alloc, me, pairs, now, most, desk, reply),
         Command::Nothing(OfNothing::DbSize) => push_one_number(reply, keys(around)),
-        Command::Nothing(OfNothing::RandomKey) => {
-            let draw = desk.tally.commands.wrapping_mul(0x9e37_79b9_7f4a_7c15) >> 32;
-            answer_random_key(rt, alloc, me, draw as u32, now, reply)
-        }
+        Command::Nothing(OfNothing::RandomKey) => answer_random_key(around, me, desk, now, reply),
         Command::Ping(None) => push_one_simple(reply, b"PONG"),
         Command::Ping(Some(text)) => push_one_string(reply, text),
         Command::Echo(text) => push_one_string(reply, text),
@@ -102,9 +102,10 @@ fn run_command<S: Calls<Blob>, C: Clock, R: Wait>(
     desk: &mut Desk,
     command: Command<'_>,
     now: u64,
+    limit: usize,
     reply: &mut Vec<u8>,
 ) -> Result<(), AllocError>
-    ensures ran { OnOk result ((rs : List Token) × (reply.new.items ≡ reply.old.items ++ flat_map token rs) × IsRunAs S.limits now around.now.settings.now.longest_value command.entry (S.shown me.old) (S.shown me.new) rs) }
+    ensures ran { OnOk result ((rs : List Token) × (reply.new.items ≡ reply.old.items ++ flat_map token rs) × IsRunAs S.limits now around.now.settings.now.longest_value limit command.entry (S.shown me.old) (S.shown me.new) rs) }
     ensures queue { connection.new.queue ≡ connection.old.queue }
 {
     match on_one_key(command) {
@@ -113,11 +114,11 @@ fn run_command<S: Calls<Blob>, C: Clock, R: Wait>(
             let asking = Asking { command, now, most };
             answer_key(around.rt, around.alloc, me, key, asking, desk, reply)
         }
-        None => run_other(around, me, connection, desk, command, now, reply),
+        None => run_other(around, me, connection, desk, command, now, limit, reply),
     }
 }
 
-/// What a request asks for: its command is run, or the fault that Redis finds first is the reply.
+/// What a request asks for: its command is run, or the fault that Redis finds first is the reply. Its reply may have `limit` bytes.
 pub(crate) fn run<S: Calls<Blob>, C: Clock, R: Wait>(
     around: &Around<'_, C, R>,
     me: &mut S,
@@ -126,15 +127,16 @@ pub(crate) fn run<S: Calls<Blob>, C: Clock, R: Wait>(
     request: Arguments<'_>,
     asked: Result<Command<'_>, Fault<'_>>,
     now: u64,
+    limit: usize,
     reply: &mut Vec<u8>,
 ) -> Result<(), AllocError>
     requires { IfOk asked (λ c. Spells (listed request) c) }
-    ensures ran { OnOk result ((rs : List Token) × (reply.new.items ≡ reply.old.items ++ flat_map token rs) × IsRequest S.limits around.now.settings.now.longest_value (listed request.entry) (S.shown me.old) (S.shown me.new) rs) }
+    ensures ran { OnOk result ((rs : List Token) × (reply.new.items ≡ reply.old.items ++ flat_map token rs) × IsRequest S.limits around.now.settings.now.longest_value limit (listed request.entry) (S.shown me.old) (S.shown me.new) rs) }
     ensures queue { connection.new.queue ≡ connection.old.queue }
 {
     let _ = request;
     match asked {
-        Ok(command) => run_command(around, me, connection, desk, command, now, reply),
+        Ok(command) => run_command(around, me, connection, desk, command, now, limit, reply),
         Err(fault) => push_one_fault(reply, fault),
     }
 }

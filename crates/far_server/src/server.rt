@@ -1,9 +1,11 @@
 //! A lane's service: the connections of a lane, and its session.
-ghost use Rattle.std.specs.Prelude.{◌≡◌, []};
+ghost use Rattle.std.specs.Prelude.{◌≡◌, ℕ, Bool, []};
+ghost use Rattle.far_server.specs.Answers.{known_at, unknown, IsTold};
 
 use crate::around::{Around, Desk};
 use crate::connection::Connection;
-use crate::places::{answer_at, forget, make_places};
+use crate::notes::take_note;
+use crate::places::{answer_at, forget, make_place};
 use crate::settings::ServerSettings;
 use crate::tally::count;
 use commands::{Arguments, Span};
@@ -11,13 +13,14 @@ use far_blob::Blob;
 use far_map::Calls;
 use lanes::{Next, Service, Woken};
 use std::alloc::{AllocError, Global};
+use std::collections::BTreeMap;
 use std::rt::Clock;
 use std::sync::Wait;
 
 /// What a lane keeps from one request to the next, and from one map to the next.
 #[derive(Drop)]
 pub(crate) struct Kept {
-    connections: Vec<Connection>,
+    connections: BTreeMap<u64, Connection>,
     desk: Desk,
     /// How many requests are answered before it is looked at how many names are left.
     until_look: u32,
@@ -26,10 +29,10 @@ pub(crate) struct Kept {
 impl Kept {
     /// What a lane keeps that knows no connection.
     pub(crate) fn new(alloc: Global, settings: &ServerSettings) -> Kept
-        ensures { result.connections.items ≡ [] }
+        ensures { result.connections.entries ≡ [] }
     {
         Kept {
-            connections: Vec::new(alloc),
+            connections: BTreeMap::new(alloc),
             desk: Desk::new(alloc, settings),
             until_look: 1,
         }
@@ -69,7 +72,7 @@ impl<'a, S: Calls<Blob>, C: Clock, R: Wait> Server<'a, S, C, R, Kept> {
         ensures same_reference { result.me.ghost_name ≡ me.entry.ghost_name }
         ensures session { result.me.now ≡ me.old }
         ensures around { result.around.now ≡ around.now }
-        ensures connections { result.kept.connections.items ≡ kept.connections.items }
+        ensures connections { result.kept.connections.entries ≡ kept.connections.entries }
     {
         let mut kept = kept;
         let counted = kept.desk.tally;
@@ -79,10 +82,11 @@ impl<'a, S: Calls<Blob>, C: Clock, R: Wait> Server<'a, S, C, R, Kept> {
 
     /// What comes behind a reply: where names are few, one lane has all woken, so that each leaves.
     fn behind(&mut self, next: Next) -> Next
+        ensures told { (might may : Bool) → IsTold might may next → IsTold might may result }
         ensures same_reference { self.new.me.ghost_name ≡ self.old.me.ghost_name }
         ensures session { self.new.me.now ≡ self.old.me.now }
         ensures around { self.new.around.now ≡ self.old.around.now }
-        ensures connections { self.new.kept.connections.items ≡ self.old.kept.connections.items }
+        ensures connections { self.new.kept.connections.entries ≡ self.old.kept.connections.entries }
     {
         let renewal = self.around.renewal;
         self.kept.until_look = self.kept.until_look.saturating_sub(1);
@@ -101,12 +105,28 @@ impl<'a, S: Calls<Blob>, C: Clock, R: Wait> Server<'a, S, C, R, Kept> {
         next
     }
 
+    /// Has a place for the connection of this number.
+    fn make_place(&mut self, connection: u64) -> Result<(), AllocError>
+        ensures same_reference { self.new.me.ghost_name ≡ self.old.me.ghost_name }
+        ensures session { self.new.me.now ≡ self.old.me.now }
+        ensures around { self.new.around.now ≡ self.old.around.now }
+        ensures known { (c : ℕ) → known_at self.new.kept.connections.entries c (unknown self.old.around.now.settings.now.password) ≡ known_at self.old.kept.connections.entries c (unknown self.old.around.now.settings.now.password) }
+    {
+        let passed = self.around.settings.password.is_none();
+        let Kept {
+            connections,
+            desk,
+            ..
+        } = &mut self.kept;
+        make_place(self.around, connections, connection, desk, passed)
+    }
+
     /// Tells what was counted.
     fn tell(&mut self)
         ensures same_reference { self.new.me.ghost_name ≡ self.old.me.ghost_name }
         ensures session { self.new.me.now ≡ self.old.me.now }
         ensures around { self.new.around.now ≡ self.old.around.now }
-        ensures connections { self.new.kept.connections.items ≡ self.old.kept.connections.items }
+        ensures connections { self.new.kept.connections.entries ≡ self.old.kept.connections.entries }
     {
         self.kept.desk.tell(self.around, &self.me.traffic());
     }
@@ -115,25 +135,25 @@ impl<'a, S: Calls<Blob>, C: Clock, R: Wait> Server<'a, S, C, R, Kept> {
 impl<'a, S: Calls<Blob>, C: Clock, R: Wait> Service for Server<'a, S, C, R, Kept> {
     ghost use Rattle.far_server.specs.Services.{lane_of, Acts};
 
-    ghost does = { λ s call t. (t.me.ghost_name ≡ s.me.ghost_name) × (t.around.now ≡ s.around.now) × Acts S.limits s.around.now.settings.now.password s.around.now.settings.now.longest_value (lane_of s.around.now.settings.now.password (S.shown s.me.now) s.kept.connections.items) call (lane_of s.around.now.settings.now.password (S.shown t.me.now) t.kept.connections.items) };
+    ghost does = { λ s call t. (t.me.ghost_name ≡ s.me.ghost_name) × (t.around.now ≡ s.around.now) × Acts S.limits s.around.now.settings.now.password s.around.now.settings.now.longest_value (lane_of s.around.now.settings.now.password (S.shown s.me.now) s.kept.connections.entries) call (lane_of s.around.now.settings.now.password (S.shown t.me.now) t.kept.connections.entries) };
+
+    fn open(&mut self, connection: u64, _address: &[u8]) -> Result<bool, AllocError> {
+        match self.make_place(connection) {
+            Ok(()) => {
+                self.tell();
+                Ok(self.around.settings.password.is_none())
+            }
+            Err(refused) => Err(refused),
+        }
+    }
 
     fn answer(
         &mut self,
-        connection: u32,
+        connection: u64,
         bytes: &[u8],
         spans: &[Span],
         out: &mut Vec<u8>,
     ) -> Result<Next, AllocError> {
-        let passed = self.around.settings.password.is_none();
-        match make_places(
-            self.around.alloc,
-            &mut self.kept.connections,
-            connection,
-            passed,
-        ) {
-            Ok(()) => {}
-            Err(refused) => return Err(refused),
-        }
         let request = Arguments { bytes, spans };
         match answer_at(
             self.around,
@@ -152,19 +172,16 @@ impl<'a, S: Calls<Blob>, C: Clock, R: Wait> Service for Server<'a, S, C, R, Kept
         }
     }
 
-    fn leave(&mut self, connection: u32) -> Result<(), AllocError> {
-        let passed = self.around.settings.password.is_none();
-        let had_come = forget(
-            self.around.alloc,
-            &mut self.kept.connections,
-            connection,
-            passed,
-        );
-        if had_come {
+    fn leave(&mut self, connection: u64) -> Result<(), AllocError> {
+        if forget(&mut self.kept.connections, connection) {
             count(&mut self.kept.desk.tally.left);
         }
         self.tell();
         Ok(())
+    }
+
+    fn note(&mut self, text: &[u8], reply: &mut Vec<u8>) -> Result<(), AllocError> {
+        take_note(self.around.tallies, text, reply)
     }
 
     fn wake(&mut self) -> Result<Woken, AllocError> {

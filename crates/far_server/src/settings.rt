@@ -23,6 +23,8 @@ pub struct ServerSettings {
     pub far_limit: u64,
     /// The SHA-256 digest of the password, and none where none is asked for.
     pub password: Option<[u8; 32]>,
+    /// What RANDOMKEY draws from; another number for each start.
+    pub seed: u64,
     /// What CONFIG GET answers; where it says that keys are evicted, they are.
     pub options: Options,
 }

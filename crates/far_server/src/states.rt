@@ -20,7 +20,7 @@ impl<I: BufRead + Drop, O: Write + Drop> Model for LeftLane<I, O> {
 
     ghost Value = { LeftView I O };
 
-    ghost view = { λ l. record { wire = l.wire; views = l.holds; connections = l.kept.connections.items } };
+    ghost view = { λ l. record { wire = l.wire; views = l.holds; connections = l.kept.connections.entries } };
 
     ghost invariant = { λ l. HasStood I.remaining O.contents l.wire l.holds };
 }

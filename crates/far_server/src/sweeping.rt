@@ -9,6 +9,12 @@
 //!
 //! Nothing tells where the expired values lie, so a round looks at each bucket, a few at a time. Where a round has met no value with a
 //! deadline, and none was set since it began, there is none to wait for, and no further round begins until one is set.
+//!
+//! # In memory and on disk by turns
+//!
+//! Where memory is full and no device takes an object, a bucket in memory has to go: that alone makes room at once, since what a device
+//! keeps of small objects is no place for a large one. But were these taken alone, old keys would stay on the device for ever. So the
+//! next one is of a device.
 ghost use Rattle.std.specs.Prelude.{◌<◌, Bool, true};
 ghost use Rattle.version_words.specs.Views.{Goes};
 ghost use Rattle.far_server.specs.Sweeps.{IsSweeping, Sweeps};
@@ -33,7 +39,7 @@ const DEVICE_READS: u64 = 8;
 /// How many milliseconds a nap has: so some hundredths of a processor go round 4,000,000 buckets in memory in some 80 seconds.
 const NAP: u64 = 5;
 
-/// How many buckets are looked at for one that lies on a device, before one in memory is taken.
+/// How many buckets are looked at in a turn for one that is taken out.
 const LOOKS: u32 = 64;
 
 /// Where the sweep has come to.
@@ -48,6 +54,8 @@ pub(crate) struct Hand {
     /// The next bucket that may be evicted, and how many before it had nothing to evict.
     next_victim: u32,
     fruitless: u32,
+    /// Whether the next one is to lie on a device.
+    wants_far: bool,
 }
 
 impl Hand {
@@ -59,6 +67,7 @@ impl Hand {
             has_met: false,
             next_victim: 0,
             fruitless: 0,
+            wants_far: false,
         }
     }
 }
@@ -202,7 +211,29 @@ fn evict_keys<S: Calls<Blob>, R: Wait>(
     is_empty
 }
 
-/// Takes all keys of the first of the next buckets out that has some, of one on a device as far as there are such: whether that was done,
+/// The next bucket that may be evicted, round and round.
+fn next_victim(hand: &mut Hand, buckets: u32) -> u32 {
+    let bucket = if hand.next_victim < buckets {
+        hand.next_victim
+    } else {
+        0
+    };
+    hand.next_victim = bucket.saturating_add(1);
+    bucket
+}
+
+/// No bucket that was looked at is one that is wanted: whether there are some to look at. Few may lie on a device, so the next one may
+/// lie in memory. Where a whole round met none there, the next one is to lie on a device.
+fn look_elsewhere(hand: &mut Hand, buckets: u32) -> bool {
+    let goes_on = hand.wants_far || hand.fruitless < buckets;
+    if hand.wants_far || !goes_on {
+        hand.wants_far = !hand.wants_far;
+        hand.fruitless = 0;
+    }
+    goes_on
+}
+
+/// Takes all keys of the first of the next buckets out that has some, in memory and on a device by turns: whether that was done,
 /// or there are buckets that were not looked at.
 fn evict_bucket<S: Calls<Blob>, C: Clock, R: Wait>(
     around: &Around<'_, C, R>,
@@ -214,27 +245,23 @@ fn evict_bucket<S: Calls<Blob>, C: Clock, R: Wait>(
 {
     let (rt, alloc) = (around.rt, around.alloc);
     let buckets = me.buckets();
-    for look in 1..=LOOKS {
-        let bucket = if hand.next_victim < buckets {
-            hand.next_victim
-        } else {
-            0
-        };
-        hand.next_victim = bucket.saturating_add(1);
+    for _ in 0..LOOKS {
+        let bucket = next_victim(hand, buckets);
         if bucket >= buckets {
             return false;
         }
+        hand.fruitless = hand.fruitless.saturating_add(1);
         let Ok(keys) = keys_in(rt, alloc, me, bucket, 0) else {
-            return false;
+            return look_elsewhere(hand, buckets);
         };
-        let is_victim = is_on_device(me, &keys) || !around.settings.is_far || look == LOOKS;
+        let is_victim = is_on_device(me, &keys) == hand.wants_far || !desk.is_far;
         if is_victim && !keys.is_empty() {
             hand.fruitless = 0;
+            hand.wants_far = !hand.wants_far;
             return evict_keys(rt, alloc, me, bucket, desk);
         }
-        hand.fruitless = hand.fruitless.saturating_add(1);
     }
-    hand.fruitless < buckets
+    look_elsewhere(hand, buckets)
 }
 
 /// Whether there is room in frames.
@@ -247,7 +274,7 @@ enum Room {
     Wanting,
 }
 
-/// Looks whether more lies in frames than may. Where no device keeps anything the evictor is not to try in vain, so the bound is lower.
+/// Looks whether more lies in frames than may, and has an object swapped out if there is a device.
 fn look_for_room<S: Calls<Blob>, C: Clock, R: Wait>(
     around: &Around<'_, C, R>,
     me: &mut S,
@@ -255,12 +282,10 @@ fn look_for_room<S: Calls<Blob>, C: Clock, R: Wait>(
 ) -> Room
     ensures { Goes (S.shown me.old).pass (S.shown me.new).pass }
 {
-    let is_far = around.settings.is_far;
-    let bound = if is_far { most } else { most - most / 16 };
-    if me.bytes_in_frames() <= bound {
+    if me.bytes_in_frames() <= most {
         return Room::Enough;
     }
-    if !is_far {
+    if !around.settings.is_far {
         return Room::Wanting;
     }
     match me.evict(around.rt) {

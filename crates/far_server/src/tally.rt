@@ -7,7 +7,7 @@ use std::sync::atomic::{AtomicU32, AtomicU64, Ordering};
 /// What a lane has counted since the start.
 #[derive(Clone, Copy, Debug, Default, PartialEq, Eq)]
 pub(crate) struct Tally {
-    /// Connections that have sent a request, and those of them that are over.
+    /// Connections that came, and those of them that are over.
     pub(crate) came: u64,
     pub(crate) left: u64,
     pub(crate) commands: u64,
@@ -143,6 +143,8 @@ pub(crate) struct Tallies {
     told: Vec<AtomicU64>,
     /// How many connections have got a number.
     ids: AtomicU64,
+    /// How many connections the gateway refused, as it last told.
+    rejected: AtomicU64,
     /// How many lanes have not left the map.
     serving: AtomicU32,
     /// How many keys were counted that the map does not have, since it was renewed without them.
@@ -164,6 +166,7 @@ impl Tallies {
         Ok(Tallies {
             told,
             ids: AtomicU64::new(0),
+            rejected: AtomicU64::new(0),
             serving: AtomicU32::new(lanes),
             missing: AtomicU64::new(0),
         })
@@ -187,6 +190,16 @@ impl Tallies {
     /// A number that no connection has got, from 1 on.
     pub(crate) fn next_id(&self) -> u64 {
         self.ids.fetch_add(1, Ordering::SeqCst).wrapping_add(1)
+    }
+
+    /// So many connections were refused by the gateway.
+    pub(crate) fn tell_rejected(&self, count: u64) {
+        self.rejected.store(count, Ordering::SeqCst);
+    }
+
+    /// How many connections the gateway refused, as it last told.
+    pub(crate) fn rejected(&self) -> u64 {
+        self.rejected.load(Ordering::SeqCst)
     }
 
     /// Tells what a lane has counted, of which it last told so much.

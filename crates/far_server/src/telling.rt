@@ -6,7 +6,7 @@ ghost use Rattle.far_server.specs.Logins.{AsksToPass};
 
 use crate::around::{Around, Desk};
 use crate::connection::Connection;
-use crate::login::{answer_auth, answer_hello};
+use crate::login::{answer_auth, answer_hello, answer_set_name};
 use crate::single::{push_one_nothing, push_one_number, push_one_simple, push_one_string};
 use commands::ServerCommand;
 use far_blob::Blob;
@@ -33,6 +33,7 @@ fn facts<S: Calls<Blob>, C, R>(around: &Around<'_, C, R>, me: &S, now: u64) -> F
         clients: sum.came.saturating_sub(sum.left),
         accepted: sum.came,
         commands: sum.commands,
+        rejected: around.tallies.rejected(),
         most_clients: settings.options.most_clients,
         most_memory: settings.options.most_memory,
         evicts: settings.options.evicts,
@@ -96,10 +97,7 @@ pub(crate) fn answer_server<S: Calls<Blob>, C, R>(
             connection.id.min(i64::MAX as u64) as i64,
         ),
         ServerCommand::ClientGetName => push_name(reply, connection),
-        ServerCommand::ClientSetName(name) => {
-            connection.set_name(name)?;
-            push_one_simple(reply, b"OK")
-        }
+        ServerCommand::ClientSetName(name) => answer_set_name(connection, name, reply),
         ServerCommand::CommandList => command_list(reply),
         ServerCommand::CommandCount => command_count(reply),
         ServerCommand::CommandDocs(names) => command_docs(names, reply),

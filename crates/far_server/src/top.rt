@@ -18,12 +18,24 @@ use crate::tally::Tallies;
 use crate::usage::FarUsage;
 use far_blob::Blob;
 use far_device::Device;
-use far_map::{RunFault, run_renewed};
+use far_map::{RunFault, Settings, run_renewed};
 use std::alloc::{AllocError, Global};
 use std::io::{BufRead, Write};
 use std::rt::Clock;
 use std::sync::Wait;
 use std::thread::Threads;
+
+/// The map's settings. Where no device keeps anything its bytes in frames have no bound: else the map would try to swap objects
+/// out, in vain. Then the commands themselves keep to the bound, and the sweep (`room.rt`, `sweeping.rt`).
+fn map_of(settings: &ServerSettings) -> Settings
+    ensures config { (devices : ℕ) → config_of result devices ≡ config_of settings.now.map devices }
+    ensures within { (devices : ℕ) → first_bad result devices ≡ first_bad settings.now.map devices }
+    ensures limit { result.limit ≡ settings.now.map.limit }
+{
+    let map = settings.map;
+    let bytes = if settings.is_far { map.bytes } else { u64::MAX };
+    Settings { bytes, ..map }
+}
 
 /// So many workers that have not begun.
 fn fresh<I: BufRead + Drop, O: Write + Drop>(
@@ -106,7 +118,8 @@ where
         Ok(states) => states,
         Err(_) => return Err(RunFault::Memory),
     };
-    match run_renewed::<Blob, D, _, R>(rt, alloc, settings.map, devices, spool, &lanes, states) {
+    let map = map_of(&settings);
+    match run_renewed::<Blob, D, _, R>(rt, alloc, map, devices, spool, &lanes, states) {
         Ok(ended) => ends_of(alloc, ended.kept),
         Err(fault) => Err(fault),
     }

@@ -1,14 +1,15 @@
 //! What is asked of all keys: each bucket is visited by itself.
-ghost use Rattle.std.specs.Prelude.{◌≡◌, ◌<◌, ◌≤◌, ◌++◌, ◌∷◌, [], ℕ, List, IfOk, OnOk};
+ghost use Rattle.std.specs.Prelude.{◌≡◌, ◌<◌, ◌++◌, ◌∷◌, [], ℕ, List, IfOk, OnOk};
 ghost use Rattle.std.specs.List.{flat_map};
 ghost use Rattle.resp.specs.Replies.{Token, Count, String, token};
 ghost use Rattle.version_words.specs.Views.{Goes};
 ghost use Rattle.far_server.specs.Flushes.{Flushes};
 
 use crate::around::Desk;
+use crate::bound::{FRAMING, MOST_PAGE};
 use crate::deadlines::is_over;
 use crate::refusing::text_of;
-use crate::single::{push_one_failure, push_one_nothing, push_one_simple, push_one_string};
+use crate::single::{push_one_failure, push_one_simple};
 use commands::{Scan, matches};
 use far_blob::Blob;
 use far_map::{Calls, Refusal};
@@ -49,29 +50,86 @@ pub(crate) fn keys_in<S: Calls<Blob>, R: Wait>(
     Ok(keys)
 }
 
-/// What a SCAN has found so far, and how many keys it looked at.
+/// What a SCAN has found so far, how many bytes that has in the reply, and how many keys it looked at.
 #[derive(Drop)]
 struct Found {
     keys: Vec<Text>,
+    bytes: usize,
     looked: u64,
 }
 
-/// Adds the keys of a bucket that are asked for.
-fn add_keys(found: &mut Found, keys: Vec<Text>, scan: Scan<'_>) -> Result<(), AllocError> {
+impl Found {
+    fn new(alloc: Global) -> Found {
+        Found {
+            keys: Vec::new(alloc),
+            bytes: 0,
+            looked: 0,
+        }
+    }
+
+    /// Whether this and other keys are too much for one page. A bucket's keys always have one.
+    fn is_over_with(&self, other: &Found) -> bool {
+        !self.keys.is_empty() && self.bytes.saturating_add(other.bytes) > MOST_PAGE
+    }
+
+    /// Adds the keys of a bucket.
+    fn add(&mut self, other: Found) -> Result<(), AllocError> {
+        let Found {
+            keys,
+            bytes,
+            looked,
+        } = other;
+        for key in keys {
+            self.keys.push(key)?;
+        }
+        self.bytes = self.bytes.saturating_add(bytes);
+        self.looked = self.looked.saturating_add(looked);
+        Ok(())
+    }
+}
+
+/// Those of a bucket's keys that are asked for.
+fn asked_of(alloc: Global, keys: Vec<Text>, scan: Scan<'_>) -> Result<Found, AllocError> {
+    let mut found = Found::new(alloc);
     for key in keys {
         found.looked = found.looked.saturating_add(1);
+        let bytes = key.as_bytes();
         let is_wanted = match scan.pattern {
-            Some(pattern) => matches(pattern, key.as_bytes()),
+            Some(pattern) => matches(pattern, bytes),
             None => true,
         };
         if is_wanted && scan.strings {
+            found.bytes = found
+                .bytes
+                .saturating_add(bytes.len().saturating_add(FRAMING));
             found.keys.push(key)?;
         }
     }
-    Ok(())
+    Ok(found)
 }
 
-/// The keys from a bucket on, and the bucket at which the next SCAN goes on; 0 at the end.
+/// What is asked for of a bucket.
+fn find_in<S: Calls<Blob>, R: Wait>(
+    rt: &R,
+    alloc: Global,
+    me: &mut S,
+    bucket: u32,
+    scan: Scan<'_>,
+    now: u64,
+) -> Result<Found, Refusal>
+    requires { bucket < S.limits.buckets }
+    ensures { Goes (S.shown me.old).pass (S.shown me.new).pass }
+{
+    match keys_in(rt, alloc, me, bucket, now) {
+        Ok(keys) => match asked_of(alloc, keys, scan) {
+            Ok(found) => Ok(found),
+            Err(_) => Err(Refusal::Memory),
+        },
+        Err(why) => Err(why),
+    }
+}
+
+/// The keys from a bucket on, as many as a page has, and the bucket at which the next SCAN goes on; 0 at the end.
 fn find<S: Calls<Blob>, R: Wait>(
     rt: &R,
     alloc: Global,
@@ -82,21 +140,21 @@ fn find<S: Calls<Blob>, R: Wait>(
     ensures { Goes (S.shown me.old).pass (S.shown me.new).pass }
 {
     let buckets = me.buckets();
-    let mut found = Found {
-        keys: Vec::new(alloc),
-        looked: 0,
-    };
+    let mut found = Found::new(alloc);
     let first = scan.cursor.min(u64::from(buckets)) as u32;
     let most = scan.count.saturating_mul(BUCKETS_A_KEY);
     for bucket in first..buckets {
         if found.looked >= scan.count || u64::from(bucket - first) >= most {
             return Ok((bucket, found));
         }
-        let keys = match keys_in(rt, alloc, me, bucket, now) {
-            Ok(keys) => keys,
+        let more = match find_in(rt, alloc, me, bucket, scan, now) {
+            Ok(more) => more,
             Err(why) => return Err(why),
         };
-        if add_keys(&mut found, keys, scan).is_err() {
+        if found.is_over_with(&more) {
+            return Ok((bucket, found));
+        }
+        if found.add(more).is_err() {
             return Err(Refusal::Memory);
         }
     }
@@ -154,68 +212,6 @@ pub(crate) fn answer_scan<S: Calls<Blob>, R: Wait>(
 {
     match find(rt, alloc, me, scan, now) {
         Ok((next, found)) => push_found(reply, next, &found),
-        Err(why) => push_one_failure(reply, text_of(why)),
-    }
-}
-
-/// A key of the first of these buckets that has one.
-fn find_between<S: Calls<Blob>, R: Wait>(
-    rt: &R,
-    alloc: Global,
-    me: &mut S,
-    from: u32,
-    to: u32,
-    now: u64,
-) -> Result<Option<Text>, Refusal>
-    requires { to ≤ S.limits.buckets }
-    ensures { Goes (S.shown me.old).pass (S.shown me.new).pass }
-{
-    for bucket in from..to {
-        match keys_in(rt, alloc, me, bucket, now) {
-            Ok(mut keys) => {
-                if let Some(key) = keys.pop() {
-                    return Ok(Some(key));
-                }
-            }
-            Err(why) => return Err(why),
-        }
-    }
-    Ok(None)
-}
-
-/// A key of the first bucket that has one, from this one on, and then from 0 on.
-fn find_any<S: Calls<Blob>, R: Wait>(
-    rt: &R,
-    alloc: Global,
-    me: &mut S,
-    first: u32,
-    now: u64,
-) -> Result<Option<Text>, Refusal>
-    ensures { Goes (S.shown me.old).pass (S.shown me.new).pass }
-{
-    let buckets = me.buckets();
-    match find_between(rt, alloc, me, first, buckets, now) {
-        Ok(None) => find_between(rt, alloc, me, 0, first.min(buckets), now),
-        found => found,
-    }
-}
-
-/// Answers RANDOMKEY: a key of the first bucket that has one from the drawn one on.
-pub(crate) fn answer_random_key<S: Calls<Blob>, R: Wait>(
-    rt: &R,
-    alloc: Global,
-    me: &mut S,
-    draw: u32,
-    now: u64,
-    reply: &mut Vec<u8>,
-) -> Result<(), AllocError>
-    ensures goes { Goes (S.shown me.old).pass (S.shown me.new).pass }
-    ensures said { OnOk result ((rs : List Token) × (reply.new.items ≡ reply.old.items ++ flat_map token rs)) }
-{
-    let first = draw % me.buckets().max(1);
-    match find_any(rt, alloc, me, first, now) {
-        Ok(Some(key)) => push_one_string(reply, key.as_bytes()),
-        Ok(None) => push_one_nothing(reply),
         Err(why) => push_one_failure(reply, text_of(why)),
     }
 }

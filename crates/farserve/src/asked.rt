@@ -27,6 +27,9 @@ const POLICIES: [&str; 2] = ["noeviction", "allkeys"];
 /// The most connections at once, where nothing is said.
 const CLIENTS: u32 = 10_000;
 
+/// Seconds that a client has to give the password, where nothing is said.
+const AUTH_TIMEOUT: u32 = 10;
+
 /// The most connections that may be asked for.
 const MOST_CLIENTS: i64 = 1_000_000;
 
@@ -65,6 +68,8 @@ pub struct Asked<'a> {
     pub password_file: Option<&'a str>,
     /// Seconds that a client may be silent, 0 for any.
     pub timeout: u32,
+    /// Seconds in which a client has to give the password, 0 for any.
+    pub auth_timeout: u32,
     /// The most connections at once.
     pub most_clients: u32,
     /// How many names a map has before it is renewed, as it was written.
@@ -170,6 +175,13 @@ fn with_addresses<'a>(alloc: Global, command: Command<'a>) -> Result<Command<'a>
         4_294_967_295,
         "Seconds after which a silent client is closed, 0 for never [0]",
     );
+    let auth_timeout = number(
+        alloc,
+        "auth-timeout",
+        0,
+        4_294_967_295,
+        "Seconds after which a client that has not given the password is closed, 0 for never [10]",
+    );
     let most_clients = number(
         alloc,
         "maxclients",
@@ -216,6 +228,7 @@ fn with_addresses<'a>(alloc: Global, command: Command<'a>) -> Result<Command<'a>
             "A file whose first line is the password that AUTH wants [none: no password]",
         ))?
         .arg(timeout.value_name("SECONDS"))?
+        .arg(auth_timeout.value_name("SECONDS"))?
         .arg(most_clients)?
         .arg(pipes.hide(true))?
         .arg(names.hide(true))?;
@@ -314,6 +327,9 @@ impl<'a> Asked<'a> {
             unix: matches.get_str("unix"),
             password_file: matches.get_str("password-file"),
             timeout: matches.get_one::<u32>("timeout").unwrap_or(0),
+            auth_timeout: matches
+                .get_one::<u32>("auth-timeout")
+                .unwrap_or(AUTH_TIMEOUT),
             most_clients: matches.get_one::<u32>("maxclients").unwrap_or(CLIENTS),
             names: matches.get_str("names"),
             pipes,

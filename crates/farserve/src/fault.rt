@@ -37,6 +37,8 @@ pub enum Fault<'a> {
     Stored(&'static str),
     /// The pipes to the front's connections to a store can't be opened.
     Links,
+    /// The system gives no random bytes.
+    Random(io::Error),
     /// A growth of memory was refused.
     Memory,
     /// The words for the front could not be written.
@@ -51,7 +53,12 @@ impl Fault<'_> {
     /// The status that the program ends with: 2 for wrong options and folders, and 1 for what the system refused.
     pub fn status(&self) -> u8 {
         match self {
-            Fault::Memory | Fault::Write | Fault::Links | Fault::Run(_) | Fault::Lane(_) => 1,
+            Fault::Random(_)
+            | Fault::Memory
+            | Fault::Write
+            | Fault::Links
+            | Fault::Run(_)
+            | Fault::Lane(_) => 1,
             _ => 2,
         }
     }
@@ -97,6 +104,7 @@ impl Display for Fault<'_> {
                 "--{option}: it is of folders, and --far-resp takes their place"
             ),
             Fault::Links => f.write_str("the pipes to the far store can't be opened"),
+            Fault::Random(fault) => write!(f, "the system gives no random bytes: {fault}"),
             Fault::Memory => f.write_str("memory"),
             Fault::Write => f.write_str("standard output can't be written"),
             Fault::Run(fault) => write!(f, "the map could not be run: {fault}"),

@@ -1,9 +1,8 @@
-//! A device's pipes to the front, which has a connection to the far store for each device.
+//! A device's pipes to the gateway, which has a connection to the far store for each device.
 //!
-//! They carry frames: a kind in a byte, a number and a length in 4 bytes each, highest byte first, and so many bytes. The number is a
-//! connection's. To the front go `OPEN`, by which another connection takes the place of the last, `DATA` for the store, and `WAIT`
-//! before bytes are waited for. From it come `DATA` of the store, and `CLOSE` where no more comes of a connection: as the store has
-//! ended it, was too late, or isn't there.
+//! They carry packets, as docs/FORMATS.md defines them. To the gateway go `OPEN`, by which another connection takes the place of the
+//! last, `DATA` for the store, and `WAIT` before bytes are waited for. From it come `DATA` of the store, and `CLOSE` if no more comes
+//! of a connection, because the store has ended it, was too late, or isn't there.
 
 use std::alloc::{AllocError, Global};
 use std::fs::File;
@@ -18,10 +17,10 @@ const CLOSE: u8 = 2;
 
 const WAIT: u8 = 3;
 
-/// Bytes of a frame before those that it carries.
-const HEAD: usize = 9;
+/// Bytes of a packet before those that it carries.
+const HEAD: usize = 13;
 
-/// The most bytes of a frame.
+/// The most bytes of a packet.
 const MOST: usize = 1 << 20;
 
 /// Bytes that are passed over at once.
@@ -32,19 +31,19 @@ const PIECE: usize = 4096;
 struct Ends {
     replies: BufReader<File>,
     requests: BufWriter<File>,
-    /// Bytes that are still to come of the last frame.
+    /// Bytes that are still to come of the last packet.
     left: u32,
 }
 
 impl Ends {
-    fn put_head(&mut self, kind: u8, number: u32, length: usize) -> io::Result<()> {
+    fn put_head(&mut self, kind: u8, number: u64, length: usize) -> io::Result<()> {
         let mut head = [kind; HEAD];
-        head[1..5].copy_from_slice(&number.to_be_bytes());
-        head[5..].copy_from_slice(&(length.min(MOST) as u32).to_be_bytes());
+        head[1..9].copy_from_slice(&number.to_be_bytes());
+        head[9..].copy_from_slice(&(length.min(MOST) as u32).to_be_bytes());
         self.requests.write_all(&head)
     }
 
-    /// Passes over what is still to come of the last frame.
+    /// Passes over what is still to come of the last packet.
     fn pass_over(&mut self) -> io::Result<()> {
         let mut room = [0; PIECE];
         for _ in 0..u32::MAX {
@@ -58,17 +57,17 @@ impl Ends {
         Ok(())
     }
 
-    /// Waits for a frame of this connection, and says whether it has data: else it is over. Those of earlier ones are passed over.
-    fn next(&mut self, number: u32) -> io::Result<bool> {
+    /// Waits for a packet of this connection, and says whether it has data: else it is over. Those of earlier ones are passed over.
+    fn next(&mut self, number: u64) -> io::Result<bool> {
         self.put_head(WAIT, number, 0)?;
         self.requests.flush()?;
         for _ in 0..u64::MAX {
             self.pass_over()?;
             let mut head = [0; HEAD];
             self.replies.read_exact(&mut head)?;
-            let [kind, a, b, c, d, e, f, g, h] = head;
-            self.left = u32::from_be_bytes([e, f, g, h]);
-            if u32::from_be_bytes([a, b, c, d]) == number {
+            let [kind, a, b, c, d, e, f, g, h, i, j, k, l] = head;
+            self.left = u32::from_be_bytes([i, j, k, l]);
+            if u64::from_be_bytes([a, b, c, d, e, f, g, h]) == number {
                 match kind {
                     DATA if self.left > 0 => return Ok(true),
                     DATA => {}
@@ -85,10 +84,10 @@ impl Ends {
 #[derive(Drop)]
 pub struct Link {
     ends: Option<Ends>,
-    number: u32,
-    /// Whether the front was asked for it, and whether the last frame is its own.
+    number: u64,
+    /// Whether the front was asked for it, and whether the last packet is its own.
     asked: bool,
-    has_frame: bool,
+    has_packet: bool,
     over: bool,
 }
 
@@ -99,7 +98,7 @@ impl Link {
             ends: None,
             number: 0,
             asked: false,
-            has_frame: false,
+            has_packet: false,
             over: true,
         }
     }
@@ -114,7 +113,7 @@ impl Link {
             }),
             number: 1,
             asked: false,
-            has_frame: false,
+            has_packet: false,
             over: false,
         }
     }
@@ -125,7 +124,7 @@ impl Link {
             ends: self.ends,
             number: self.number.wrapping_add(1),
             asked: false,
-            has_frame: false,
+            has_packet: false,
             over: false,
         }
     }
@@ -140,9 +139,9 @@ impl Read for Link {
         if self.over {
             return Ok(0);
         }
-        if !self.has_frame || ends.left == 0 {
-            self.has_frame = ends.next(self.number)?;
-            self.over = !self.has_frame;
+        if !self.has_packet || ends.left == 0 {
+            self.has_packet = ends.next(self.number)?;
+            self.over = !self.has_packet;
             if self.over {
                 return Ok(0);
             }

@@ -31,6 +31,7 @@ use std::env::Env;
 use std::fs::File;
 use std::io::ErrorKind;
 use std::process::ExitCode;
+use std::random::RandomSource;
 use std::rt::Files;
 use std::sync::Wait;
 use std::thread::Threads;
@@ -57,13 +58,14 @@ fn settings(
     sizes: Sizes,
     names: u64,
     password: Option<[u8; 32]>,
+    seed: u64,
 ) -> ServerSettings {
     let value = asked.value_limit;
     let bucket = value.saturating_mul(4).clamp(BUCKET.0, BUCKET.1);
     let map = Settings {
         bytes: sizes.bytes,
         names,
-        ..Settings::new(sizes.buckets, sizes.buckets, bucket)
+        ..Settings::new(sizes.buckets, sizes.frames, bucket)
     };
     let requests = Limits {
         arguments: ARGUMENTS,
@@ -79,6 +81,7 @@ fn settings(
         longest_queue: requests.bytes,
         far_limit: told_limit(asked.far_limit),
         password,
+        seed,
         options: Options {
             most_memory: asked.memory,
             evicts: asked.evicts,
@@ -88,6 +91,15 @@ fn settings(
             port: u32::from(asked.port),
             lanes: asked.threads,
         },
+    }
+}
+
+/// A number that the system draws.
+fn drawn<'a, R: RandomSource>(rt: &R) -> Result<u64, Fault<'a>> {
+    let mut bytes = [0; 8];
+    match rt.fill_bytes(&mut bytes) {
+        Ok(()) => Ok(u64::from_le_bytes(bytes)),
+        Err(fault) => Err(Fault::Random(fault)),
     }
 }
 
@@ -107,10 +119,9 @@ fn tell_links(rt: &impl Print, folder: &str, store: Store<'_>) -> io::Result<()>
 /// Writes how many lanes there are, and what the front is started with.
 fn tell_front(rt: &impl Print, asked: &Asked<'_>) -> io::Result<()> {
     let (lanes, port, bind, timeout) = (asked.threads, asked.port, asked.bind, asked.timeout);
-    let clients = asked.most_clients;
-    print!(rt;
-        "{lanes}\0--port\0{port}\0--bind\0{bind}\0--timeout\0{timeout}\0--connections\0{clients}\0"
-    )?;
+    let (auth_timeout, clients) = (asked.auth_timeout, asked.most_clients);
+    print!(rt; "{lanes}\0--port\0{port}\0--bind\0{bind}\0--timeout\0{timeout}\0")?;
+    print!(rt; "--auth-timeout\0{auth_timeout}\0--connections\0{clients}\0")?;
     if let Some(path) = asked.unix {
         print!(rt; "--unix\0{path}\0")?;
     }
@@ -126,7 +137,7 @@ fn tell_front(rt: &impl Print, asked: &Asked<'_>) -> io::Result<()> {
 /// Says what was chosen.
 fn tell_log(rt: &impl Eprint, asked: &Asked<'_>, sizes: Sizes) -> io::Result<()> {
     let (memory, threads, value) = (asked.memory, asked.threads, asked.value_limit);
-    let Sizes { buckets, bytes } = sizes;
+    let (buckets, bytes) = (sizes.buckets, sizes.bytes);
     eprint!(rt;
         "farserve: {memory} bytes of memory, {bytes} of them for objects, {buckets} buckets, {threads} threads, "
     )?;
@@ -210,7 +221,8 @@ where
         None => None,
     };
     let names = asked.names(sizes.buckets)?;
-    let settings = settings(asked, sizes, names, password);
+    let seed = drawn(&host)?;
+    let settings = settings(asked, sizes, names, password, seed);
     let usage = FarUsage::new();
     match tier {
         Tier::Nowhere => {

@@ -1,18 +1,17 @@
 -- A frame that came is dealt with.
-use Rattle.std.proofs.Common.{◌≡◌, ℕ, ◌<◌, true, false, List, [], ◌∷◌, ◌++◌, length, refl, sym, ap, ◌∙◌, arith, append_assoc, subst}
+use Rattle.std.proofs.Common.{◌≡◌, ℕ, ◌<◌, List, [], ◌∷◌, ◌++◌, length, refl, sym, ap, ◌∙◌, arith, append_assoc, subst}
 use Rattle.std.proofs.lemmas.List.{map-append}
 use Rattle.resp.specs.declared.limits.Limits.{Limits}
 use Rattle.resp.proofs.Commands.{nothing_there}
-use Rattle.lanes.specs.declared.slots.Slot.{Slot}
-use Rattle.lanes.specs.declared.service.Woken.{Woken}
-use Rattle.lanes.specs.Marks.{Mark, Piece, Stop, Else}
-use Rattle.lanes.specs.Calls.{Call, Left, Awake, Exchange, Ended, Woke, step_marks}
+use Rattle.lanes.specs.declared.slots.Slots.{Slots}
+use Rattle.lanes.specs.Marks.{Mark, Piece, Stop, Else, EndsOnce}
+use Rattle.lanes.specs.Calls.{Call, Left, Exchange, Step, Ended, step_mark, step_marks, Does}
 use Rattle.lanes.specs.Lanes.{Frame, frame_mark, marks, IsBegun, AreSettled}
 use Rattle.lanes.specs.Served.{AreBegun}
-use Rattle.lanes.specs.Slots.{Seen, slot_at, Replaces, StandsSo, StandsAt, AllStand, IsAnswered}
-use Rattle.lanes.specs.Turns.{Says, Stands, Comes, Turns, Faulty, closing}
-use Rattle.lanes.proofs.Saying.{StopsAt, says_piece, says_else, stops_at}
-use Rattle.lanes.proofs.Standing.{same_on, nothing_on, idle, seen_same, enter, leave_off}
+use Rattle.lanes.specs.Slots.{Seen, Runs, Closed, Gone, slot_at, Replaces, IsPassed, StandsAt, AllStand, IsAnswered}
+use Rattle.lanes.specs.Turns.{Says, Signals, Stands, Comes, Turns, Faulty, closing}
+use Rattle.lanes.proofs.Saying.{StopsAt, says_piece, says_else, once_else, stops_at}
+use Rattle.lanes.proofs.Standing.{SameOn, same_on, nothing_on, idle, passed, settled_by, enter, leave_off}
 use Rattle.lanes.proofs.Closing.{client_left, client_left_too, passed_over, begun, begun_says, begun_same}
 use Rattle.lanes.proofs.Turning.{marks_more, run_more, says_close, ends_step}
 
@@ -28,7 +27,7 @@ nothing_begun limits = record {
   few = omega arith;
 }
 
-pub comes_turns : {D X : Type 0} (tells : D → D → List Frame → List Frame → Type 0) (does : X → Call → X → Type 0) (limits : Limits) (past : List (Mark Exchange)) (c : ℕ) (start now : D) (x y : X) (slots : List Slot) (held bytes : List ℕ) (wanted : ℕ) → slot_at slots c ≡ record { over = false; held = held; wanted = wanted } → Comes tells does limits past start now x y slots (Piece c bytes) → Turns (IsAnswered limits (held ++ bytes)) tells does limits past c start now x y slots []
+pub comes_turns : {D X : Type 0} (tells : D → D → List Frame → List Frame → Type 0) (does : X → Call → X → Type 0) (limits : Limits) (past : List (Mark Exchange)) (c : ℕ) (start now : D) (x y : X) (slots : Slots) (held bytes : List ℕ) (wanted : ℕ) → slot_at slots c ≡ Runs held wanted → Comes tells does limits past start now x y slots (Piece c bytes) → Turns (IsAnswered limits (held ++ bytes)) tells does limits past c start now x y slots []
 comes_turns tells does limits past c start now x y slots held bytes wanted is h =
     let P : List (Mark ℕ) → Type 0 = λ m. Says c bytes h.before m in
     record {
@@ -40,8 +39,8 @@ comes_turns tells does limits past c start now x y slots held bytes wanted is h 
       turn = enter limits c slots held bytes wanted h.before (marks h.came) (marks h.sent) (past ++ step_marks h.steps) h.stand is (subst P (sym h.is) (says_piece c bytes h.before));
     }
 
-pub comes_over : {D X : Type 0} (tells : D → D → List Frame → List Frame → Type 0) (does : X → Call → X → Type 0) (limits : Limits) (past : List (Mark Exchange)) (c : ℕ) (start now : D) (x y : X) (slots : List Slot) (held bytes : List ℕ) (wanted : ℕ) → slot_at slots c ≡ record { over = true; held = held; wanted = wanted } → Comes tells does limits past start now x y slots (Piece c bytes) → Stands tells does limits past start now x y slots
-comes_over tells does limits past c start now x y slots held bytes wanted is h =
+pub comes_over : {D X : Type 0} (tells : D → D → List Frame → List Frame → Type 0) (does : X → Call → X → Type 0) (limits : Limits) (past : List (Mark Exchange)) (c : ℕ) (start now : D) (x y : X) (slots : Slots) (bytes : List ℕ) → slot_at slots c ≡ Closed → Comes tells does limits past start now x y slots (Piece c bytes) → Stands tells does limits past start now x y slots
+comes_over tells does limits past c start now x y slots bytes is h =
     let P : List (Mark ℕ) → Type 0 = λ m. Says c bytes h.before m in
     record {
       came = h.came;
@@ -49,7 +48,7 @@ comes_over tells does limits past c start now x y slots held bytes wanted is h =
       steps = h.steps;
       told = h.told;
       run = h.run;
-      stand = passed_over limits c slots held bytes wanted h.before (marks h.came) (marks h.sent) (past ++ step_marks h.steps) h.stand is (subst P (sym h.is) (says_piece c bytes h.before));
+      stand = passed_over limits c slots bytes h.before (marks h.came) (marks h.sent) (past ++ step_marks h.steps) h.stand is (subst P (sym h.is) (says_piece c bytes h.before));
     }
 
 begun_longer : (limits : Limits) (held bytes : List ℕ) (wanted : ℕ) → length (held ++ bytes) < wanted → IsBegun limits held wanted → IsBegun limits (held ++ bytes) wanted
@@ -65,10 +64,10 @@ begun_longer limits held bytes wanted few b = record {
 }
 
 -- fewer bytes came than are missing
-pub comes_waits : {D X : Type 0} (tells : D → D → List Frame → List Frame → Type 0) (does : X → Call → X → Type 0) (limits : Limits) (past : List (Mark Exchange)) (c : ℕ) (start now : D) (x y : X) (slots after : List Slot) (held bytes : List ℕ) (wanted : ℕ) → slot_at slots c ≡ record { over = false; held = held; wanted = wanted } → length (held ++ bytes) < wanted → Replaces c (record { over = false; held = held ++ bytes; wanted = wanted }) slots after → Comes tells does limits past start now x y slots (Piece c bytes) → Stands tells does limits past start now x y after
+pub comes_waits : {D X : Type 0} (tells : D → D → List Frame → List Frame → Type 0) (does : X → Call → X → Type 0) (limits : Limits) (past : List (Mark Exchange)) (c : ℕ) (start now : D) (x y : X) (slots after : Slots) (held bytes : List ℕ) (wanted : ℕ) → slot_at slots c ≡ Runs held wanted → length (held ++ bytes) < wanted → Replaces c (Runs (held ++ bytes) wanted) slots after → Comes tells does limits past start now x y slots (Piece c bytes) → Stands tells does limits past start now x y after
 comes_waits tells does limits past c start now x y slots after held bytes wanted is few r h =
     let P : Seen → Type 0 = λ s. StandsAt limits c h.before (marks h.sent) (past ++ step_marks h.steps) s in
-    let was : StandsSo limits c h.before (marks h.sent) (past ++ step_marks h.steps) false held wanted = subst P is (h.stand.now c) in
+    let was : StandsAt limits c h.before (marks h.sent) (past ++ step_marks h.steps) (Runs held wanted) = subst P is (h.stand.now c) in
     let t = comes_turns tells does limits past c start now x y slots held bytes wanted is h in
     record {
       came = t.came;
@@ -76,11 +75,11 @@ comes_waits tells does limits past c start now x y slots after held bytes wanted
       steps = t.steps;
       told = t.told;
       run = t.run;
-      stand = leave_off limits c slots after (held ++ bytes) wanted (marks t.came) (marks t.sent) (past ++ step_marks t.steps) t.turn (begun_longer limits held bytes wanted few was.2.begun) r;
+      stand = leave_off limits c slots after (held ++ bytes) wanted (marks t.came) (marks t.sent) (past ++ step_marks t.steps) t.turn (begun_longer limits held bytes wanted few was.3.begun) r;
     }
 
 -- the client closes, and so does the lane
-pub comes_closed : {D X : Type 0} (tells : D → D → List Frame → List Frame → Type 0) (does : X → Call → X → Type 0) (limits : Limits) (past : List (Mark Exchange)) (c : ℕ) (start now then : D) (x y z : X) (slots after : List Slot) (held : List ℕ) (wanted : ℕ) → slot_at slots c ≡ record { over = false; held = held; wanted = wanted } → does y (Left c) z → (h : Comes tells does limits past start now x y slots (Stop c)) → tells start then h.came (h.sent ++ closing c ∷ []) → Replaces c (record { over = false; held = []; wanted = 1 }) slots after → Stands tells does limits past start then x z after
+pub comes_closed : {D X : Type 0} (tells : D → D → List Frame → List Frame → Type 0) (does : X → Call → X → Type 0) (limits : Limits) (past : List (Mark Exchange)) (c : ℕ) (start now then : D) (x y z : X) (slots after : Slots) (held : List ℕ) (wanted : ℕ) → slot_at slots c ≡ Runs held wanted → does y (Left c) z → (h : Comes tells does limits past start now x y slots (Stop c)) → tells start then h.came (h.sent ++ closing c ∷ []) → Replaces c (Gone) slots after → Stands tells does limits past start then x z after
 comes_closed tells does limits past c start now then x y z slots after held wanted is left h told r =
     let P : List (Mark ℕ) → Type 0 = λ m. StopsAt c h.before m in
     record {
@@ -89,12 +88,12 @@ comes_closed tells does limits past c start now then x y z slots after held want
       steps = h.steps ++ Ended c ∷ [];
       told = told;
       run = run_more does h.steps x y z (Ended c) h.run left;
-      stand = client_left limits c slots after held wanted 1 h.before (marks h.came) (marks h.sent) (marks (h.sent ++ closing c ∷ [])) (past ++ step_marks h.steps) (past ++ step_marks (h.steps ++ Ended c ∷ [])) (nothing_begun limits) h.stand is (subst P (sym h.is) (stops_at c h.before)) (ends_step past c h.steps) (says_close c h.sent) r;
+      stand = client_left limits c slots after held wanted h.before (marks h.came) (marks h.sent) (marks (h.sent ++ closing c ∷ [])) (past ++ step_marks h.steps) (past ++ step_marks (h.steps ++ Ended c ∷ [])) h.stand is (subst P (sym h.is) (stops_at c h.before)) (ends_step past c h.steps) (says_close c h.sent) r;
     }
 
 -- the client closes behind the lane
-pub comes_closed_too : {D X : Type 0} (tells : D → D → List Frame → List Frame → Type 0) (does : X → Call → X → Type 0) (limits : Limits) (past : List (Mark Exchange)) (c : ℕ) (start now : D) (x y : X) (slots after : List Slot) (held : List ℕ) (wanted : ℕ) → slot_at slots c ≡ record { over = true; held = held; wanted = wanted } → Comes tells does limits past start now x y slots (Stop c) → Replaces c (record { over = false; held = []; wanted = 1 }) slots after → Stands tells does limits past start now x y after
-comes_closed_too tells does limits past c start now x y slots after held wanted is h r =
+pub comes_closed_too : {D X : Type 0} (tells : D → D → List Frame → List Frame → Type 0) (does : X → Call → X → Type 0) (limits : Limits) (past : List (Mark Exchange)) (c : ℕ) (start now : D) (x y : X) (slots after : Slots) → slot_at slots c ≡ Closed → Comes tells does limits past start now x y slots (Stop c) → Replaces c (Gone) slots after → Stands tells does limits past start now x y after
+comes_closed_too tells does limits past c start now x y slots after is h r =
     let P : List (Mark ℕ) → Type 0 = λ m. StopsAt c h.before m in
     record {
       came = h.came;
@@ -102,50 +101,70 @@ comes_closed_too tells does limits past c start now x y slots after held wanted 
       steps = h.steps;
       told = h.told;
       run = h.run;
-      stand = client_left_too limits c slots after held wanted 1 h.before (marks h.came) (marks h.sent) (past ++ step_marks h.steps) (nothing_begun limits) h.stand is (subst P (sym h.is) (stops_at c h.before)) r;
+      stand = client_left_too limits c slots after h.before (marks h.came) (marks h.sent) (past ++ step_marks h.steps) h.stand is (subst P (sym h.is) (stops_at c h.before)) r;
     }
 
--- a frame that says nothing of a connection, of slots that are seen as the same
-pub comes_idle : {D X : Type 0} (tells : D → D → List Frame → List Frame → Type 0) (does : X → Call → X → Type 0) (limits : Limits) (past : List (Mark Exchange)) (start now : D) (x y : X) (slots after : List Slot) → ((d : ℕ) → slot_at after d ≡ slot_at slots d) → Comes tells does limits past start now x y slots Else → Stands tells does limits past start now x y after
+-- a frame that says nothing of a connection, and numbers that are passed
+pub comes_idle : {D X : Type 0} (tells : D → D → List Frame → List Frame → Type 0) (does : X → Call → X → Type 0) (limits : Limits) (past : List (Mark Exchange)) (start now : D) (x y : X) (slots after : Slots) → ((d : ℕ) → IsPassed (slot_at slots d) (slot_at after d)) → Comes tells does limits past start now x y slots Else → Stands tells does limits past start now x y after
 comes_idle tells does limits past start now x y slots after same h =
-    let P : List (Mark ℕ) → Type 0 = λ m. Says 0 [] h.before m in
-    let s : Says 0 [] h.before (marks h.came) = subst P (sym h.is) (says_else 0 h.before) in
+    let P : ℕ → List (Mark ℕ) → Type 0 = λ d m. SameOn d h.before m in
+    let steps = past ++ step_marks h.steps in
     record {
       came = h.came;
       sent = h.sent;
       steps = h.steps;
       told = h.told;
       run = h.run;
-      stand = seen_same limits slots after (marks h.came) (marks h.sent) (past ++ step_marks h.steps) same (idle limits slots h.before (marks h.came) (marks h.sent) (marks h.sent) (past ++ step_marks h.steps) (past ++ step_marks h.steps) (λ d. nothing_on 0 d h.before (marks h.came) s) (λ d. same_on d (marks h.sent)) (λ d. same_on d (past ++ step_marks h.steps)) h.stand);
+      stand = passed limits slots after (marks h.came) (marks h.sent) steps same (idle limits slots h.before (marks h.came) (marks h.sent) (marks h.sent) steps steps (λ d. subst (P d) (sym h.is) (nothing_on d h.before)) (λ d. same_on d (marks h.sent)) (λ d. same_on d steps) (λ d o. o) (λ d o. o) h.stand);
     }
 
-pub comes_woke : {D X : Type 0} (tells : D → D → List Frame → List Frame → Type 0) (does : X → Call → X → Type 0) (limits : Limits) (past : List (Mark Exchange)) (start now : D) (x y z : X) (slots : List Slot) (woken : Woken) → does y (Awake woken) z → Comes tells does limits past start now x y slots Else → Stands tells does limits past start now x z slots
-comes_woke tells does limits past start now x y z slots woken woke h =
-    let t = comes_idle tells does limits past start now x y slots slots (λ d. refl) h in
-    let P : List (Mark Exchange) → Type 0 = λ m. Says 0 [] (past ++ step_marks t.steps) m in
-    let s : Says 0 [] (past ++ step_marks t.steps) (past ++ step_marks (t.steps ++ Woke woken ∷ [])) = subst P (sym (marks_more past t.steps (Woke woken))) (says_else 0 (past ++ step_marks t.steps)) in
+-- a call that is of no connection's requests
+pub comes_called : {D X : Type 0} (tells : D → D → List Frame → List Frame → Type 0) (does : X → Call → X → Type 0) (limits : Limits) (past : List (Mark Exchange)) (start now : D) (x y z : X) (slots after : Slots) (step : Step) → step_mark step ≡ Else → ((d : ℕ) → IsPassed (slot_at slots d) (slot_at after d)) → Does does y step z → Comes tells does limits past start now x y slots Else → Stands tells does limits past start now x z after
+comes_called tells does limits past start now x y z slots after step is same called h =
+    let t = comes_idle tells does limits past start now x y slots after same h in
+    let old = past ++ step_marks t.steps in
+    let new = past ++ step_marks (t.steps ++ step ∷ []) in
+    let more : new ≡ old ++ Else ∷ [] = marks_more past t.steps step ∙ ap (λ m. old ++ m ∷ []) is in
+    let P : ℕ → List (Mark Exchange) → Type 0 = λ d m. SameOn d old m in
+    let Q : ℕ → List (Mark Exchange) → Type 0 = λ d m. EndsOnce d m in
     record {
       came = t.came;
       sent = t.sent;
-      steps = t.steps ++ Woke woken ∷ [];
+      steps = t.steps ++ step ∷ [];
       told = t.told;
-      run = run_more does t.steps x y z (Woke woken) t.run woke;
-      stand = idle limits slots (marks t.came) (marks t.came) (marks t.sent) (marks t.sent) (past ++ step_marks t.steps) (past ++ step_marks (t.steps ++ Woke woken ∷ [])) (λ d. same_on d (marks t.came)) (λ d. same_on d (marks t.sent)) (λ d. nothing_on 0 d (past ++ step_marks t.steps) (past ++ step_marks (t.steps ++ Woke woken ∷ [])) s) t.stand;
+      run = run_more does t.steps x y z step t.run called;
+      stand = idle limits after (marks t.came) (marks t.came) (marks t.sent) (marks t.sent) old new (λ d. same_on d (marks t.came)) (λ d. same_on d (marks t.sent)) (λ d. subst (P d) (sym more) (nothing_on d old)) (λ d o. o) (λ d o. subst (Q d) (sym more) (once_else d old o)) t.stand;
+    }
+
+-- a frame without bytes of a connection was sent
+pub stands_signalled : {D X : Type 0} (tells : D → D → List Frame → List Frame → Type 0) (does : X → Call → X → Type 0) (limits : Limits) (past : List (Mark Exchange)) (start now then : D) (x y : X) (slots : Slots) → Signals tells now then → Stands tells does limits past start now x y slots → Stands tells does limits past start then x y slots
+stands_signalled tells does limits past start now then x y slots signals t =
+    let s = signals start t.came t.sent t.told in
+    let steps = past ++ step_marks t.steps in
+    let P : ℕ → List (Mark ℕ) → Type 0 = λ d m. SameOn d (marks t.sent) m in
+    let Q : ℕ → List (Mark ℕ) → Type 0 = λ d m. EndsOnce d m in
+    record {
+      came = t.came;
+      sent = s.0;
+      steps = t.steps;
+      told = s.1;
+      run = t.run;
+      stand = idle limits slots (marks t.came) (marks t.came) (marks t.sent) (marks s.0) steps steps (λ d. same_on d (marks t.came)) (λ d. subst (P d) (sym s.2) (nothing_on d (marks t.sent))) (λ d. same_on d steps) (λ d o. subst (Q d) (sym s.2) (once_else d (marks t.sent) o)) (λ d o. o) t.stand;
     }
 
 -- ---- faults
 
 begun_mark : (limits : Limits) (m : Mark ℕ) (before sent : List (Mark ℕ)) (steps : List (Mark Exchange)) → AreBegun limits before sent steps → AreBegun limits (before ++ m ∷ []) sent steps
 begun_mark limits (Piece c xs) before sent steps b = begun_says limits c xs before (before ++ Piece c xs ∷ []) sent steps (says_piece c xs before) b
-begun_mark limits (Stop c) before sent steps b = begun_same limits before (before ++ Stop c ∷ []) sent sent steps steps (stops_at c before).same (λ d k. refl) (λ d k. refl) b
+begun_mark limits (Stop c) before sent steps b = begun_same limits before (before ++ Stop c ∷ []) sent sent steps steps (stops_at c before).same (λ d. refl) (λ d. refl) b
 begun_mark limits Else before sent steps b = begun_says limits 0 [] before (before ++ Else ∷ []) sent steps (says_else 0 before) b
 
-comes_begun : {D X : Type 0} (tells : D → D → List Frame → List Frame → Type 0) (does : X → Call → X → Type 0) (limits : Limits) (past : List (Mark Exchange)) (start now : D) (x y : X) (slots : List Slot) (m : Mark ℕ) → (h : Comes tells does limits past start now x y slots m) → AreBegun limits (marks h.came) (marks h.sent) (past ++ step_marks h.steps)
+comes_begun : {D X : Type 0} (tells : D → D → List Frame → List Frame → Type 0) (does : X → Call → X → Type 0) (limits : Limits) (past : List (Mark Exchange)) (start now : D) (x y : X) (slots : Slots) (m : Mark ℕ) → (h : Comes tells does limits past start now x y slots m) → AreBegun limits (marks h.came) (marks h.sent) (past ++ step_marks h.steps)
 comes_begun tells does limits past start now x y slots m h =
     let P : List (Mark ℕ) → Type 0 = λ l. AreBegun limits l (marks h.sent) (past ++ step_marks h.steps) in
     subst P (sym h.is) (begun_mark limits m h.before (marks h.sent) (past ++ step_marks h.steps) (begun limits slots h.before (marks h.sent) (past ++ step_marks h.steps) h.stand))
 
-pub comes_faulty : {D X : Type 0} (tells : D → D → List Frame → List Frame → Type 0) (does : X → Call → X → Type 0) (limits : Limits) (past : List (Mark Exchange)) (start now then : D) (x y : X) (slots : List Slot) (m : Mark ℕ) → ((came sent : List Frame) → tells start now came sent → tells start then came sent) → Comes tells does limits past start now x y slots m → Faulty tells does limits past start then x
+pub comes_faulty : {D X : Type 0} (tells : D → D → List Frame → List Frame → Type 0) (does : X → Call → X → Type 0) (limits : Limits) (past : List (Mark Exchange)) (start now then : D) (x y : X) (slots : Slots) (m : Mark ℕ) → ((came sent : List Frame) → tells start now came sent → tells start then came sent) → Comes tells does limits past start now x y slots m → Faulty tells does limits past start then x
 comes_faulty tells does limits past start now then x y slots m kept h = record {
   came = h.came;
   sent = h.sent;
@@ -156,7 +175,7 @@ comes_faulty tells does limits past start now then x y slots m kept h = record {
   each = comes_begun tells does limits past start now x y slots m h;
 }
 
-pub stands_faulty : {D X : Type 0} (tells : D → D → List Frame → List Frame → Type 0) (does : X → Call → X → Type 0) (limits : Limits) (past : List (Mark Exchange)) (start now then : D) (x y : X) (slots : List Slot) → ((came sent : List Frame) → tells start now came sent → tells start then came sent) → Stands tells does limits past start now x y slots → Faulty tells does limits past start then x
+pub stands_faulty : {D X : Type 0} (tells : D → D → List Frame → List Frame → Type 0) (does : X → Call → X → Type 0) (limits : Limits) (past : List (Mark Exchange)) (start now then : D) (x y : X) (slots : Slots) → ((came sent : List Frame) → tells start now came sent → tells start then came sent) → Stands tells does limits past start now x y slots → Faulty tells does limits past start then x
 stands_faulty tells does limits past start now then x y slots kept h = record {
   came = h.came;
   sent = h.sent;
@@ -167,7 +186,7 @@ stands_faulty tells does limits past start now then x y slots kept h = record {
   each = begun limits slots (marks h.came) (marks h.sent) (past ++ step_marks h.steps) h.stand;
 }
 
-pub closed_faulty : {D X : Type 0} (tells : D → D → List Frame → List Frame → Type 0) (does : X → Call → X → Type 0) (limits : Limits) (past : List (Mark Exchange)) (c : ℕ) (start now then : D) (x y : X) (slots : List Slot) → ((came sent : List Frame) → tells start now came sent → tells start then came (sent ++ closing c ∷ [])) → Comes tells does limits past start now x y slots (Stop c) → Faulty tells does limits past start then x
+pub closed_faulty : {D X : Type 0} (tells : D → D → List Frame → List Frame → Type 0) (does : X → Call → X → Type 0) (limits : Limits) (past : List (Mark Exchange)) (c : ℕ) (start now then : D) (x y : X) (slots : Slots) → ((came sent : List Frame) → tells start now came sent → tells start then came (sent ++ closing c ∷ [])) → Comes tells does limits past start now x y slots (Stop c) → Faulty tells does limits past start then x
 closed_faulty tells does limits past c start now then x y slots sends h = record {
   came = h.came;
   sent = h.sent ++ closing c ∷ [];
@@ -175,16 +194,16 @@ closed_faulty tells does limits past c start now then x y slots sends h = record
   last = y;
   told = sends h.came h.sent h.told;
   run = h.run;
-  each = begun_same limits (marks h.came) (marks h.came) (marks h.sent) (marks (h.sent ++ closing c ∷ [])) (past ++ step_marks h.steps) (past ++ step_marks h.steps) (λ d k. refl) (says_close c h.sent).same (λ d k. refl) (comes_begun tells does limits past start now x y slots (Stop c) h);
+  each = begun_same limits (marks h.came) (marks h.came) (marks h.sent) (marks (h.sent ++ closing c ∷ [])) (past ++ step_marks h.steps) (past ++ step_marks h.steps) (λ d. refl) (says_close c h.sent).same (λ d. refl) (comes_begun tells does limits past start now x y slots (Stop c) h);
 }
 
 -- ---- the whole run
 
-pub settled : (limits : Limits) (slots : List Slot) (came sent : List Frame) (said : List (Mark Exchange)) → AllStand limits slots (marks came) (marks sent) said → AreSettled limits came sent
-settled limits slots came sent said h c k = (_, h.settled c k)
+pub settled : (limits : Limits) (slots : Slots) (came sent : List Frame) (said : List (Mark Exchange)) → AllStand limits slots (marks came) (marks sent) said → AreSettled limits came sent
+settled limits slots came sent said h c = (_, (settled_by limits _ _ _ _ _ _ (slot_at slots c) (h.now c), h.once_sent c))
 
 -- a frame more came
-pub made_comes : {D X : Type 0} (tells : D → D → List Frame → List Frame → Type 0) (does : X → Call → X → Type 0) (limits : Limits) (past : List (Mark Exchange)) (start now then : D) (x y : X) (slots : List Slot) (f : Frame) → (s : Stands tells does limits past start now x y slots) → tells start then (s.came ++ f ∷ []) s.sent → Comes tells does limits past start then x y slots (frame_mark f)
+pub made_comes : {D X : Type 0} (tells : D → D → List Frame → List Frame → Type 0) (does : X → Call → X → Type 0) (limits : Limits) (past : List (Mark Exchange)) (start now then : D) (x y : X) (slots : Slots) (f : Frame) → (s : Stands tells does limits past start now x y slots) → tells start then (s.came ++ f ∷ []) s.sent → Comes tells does limits past start then x y slots (frame_mark f)
 made_comes tells does limits past start now then x y slots f s told = record {
   came = s.came ++ f ∷ [];
   sent = s.sent;

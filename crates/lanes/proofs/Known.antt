@@ -3,8 +3,8 @@ use Rattle.std.proofs.Common.{◌≡◌, ℕ, ◌+◌, List, [], ◌∷◌, ◌+
 use Rattle.std.specs.Prelude.{OnErr, MatchOption}
 use Rattle.std.proofs.lemmas.List.{get_or-drop}
 use Rattle.std.specs.Io.KnownBytes.{Keeps, Consumes, Appends, prepend_known}
-use Rattle.std.specs.Int.{w32, to_be_bytes, from_be_bytes}
-use Rattle.std.proofs.lemmas.Nat.{be_bytes_4}
+use Rattle.std.specs.Int.{w32, w64, to_be_bytes, from_be_bytes}
+use Rattle.std.proofs.lemmas.Nat.{be_bytes_4, be_bytes_8}
 use Rattle.lanes.specs.declared.frame.Head.{Head}
 use Rattle.lanes.specs.declared.frame.Kind.{Kind}
 use Rattle.lanes.specs.declared.over.Wire.{Wire}
@@ -74,16 +74,16 @@ taken None b old new none k = tt
 taken (Some xs) None old new none k = absurd k
 taken (Some xs) (Some ys) old new none k = sym (k ∙ ap (λ l. l ++ xs) none)
 
-pub header_is : (header mark first second : List ℕ) (kind : Kind) (connection len : ℕ) → ((i : ℕ) → get_or first i 0 < 256) → ((i : ℕ) → get_or second i 0 < 256) → length first ≡ 4 → length second ≡ 4 → mark ≡ kind_byte kind ∷ [] → header ≡ mark ++ (first ++ second) → connection ≡ from_be_bytes w32 first → len ≡ from_be_bytes w32 second → header ≡ kind_byte kind ∷ (to_be_bytes w32 connection ++ to_be_bytes w32 len)
+pub header_is : (header mark first second : List ℕ) (kind : Kind) (connection len : ℕ) → ((i : ℕ) → get_or first i 0 < 256) → ((i : ℕ) → get_or second i 0 < 256) → length first ≡ 8 → length second ≡ 4 → mark ≡ kind_byte kind ∷ [] → header ≡ mark ++ (first ++ second) → connection ≡ from_be_bytes w64 first → len ≡ from_be_bytes w32 second → header ≡ kind_byte kind ∷ (to_be_bytes w64 connection ++ to_be_bytes w32 len)
 header_is header mark first second kind connection len f s lf ls m is c l =
     is
     ∙ (ap (λ x. x ++ (first ++ second)) m
-    ∙ ap (λ x. kind_byte kind ∷ x) (ap (λ x. x ++ second) (sym (be_bytes_4 first connection lf f c)) ∙ ap (λ x. to_be_bytes w32 connection ++ x) (sym (be_bytes_4 second len ls s l))))
+    ∙ ap (λ x. kind_byte kind ∷ x) (ap (λ x. x ++ second) (sym (be_bytes_8 first connection lf f c)) ∙ ap (λ x. to_be_bytes w64 connection ++ x) (sym (be_bytes_4 second len ls s l))))
 
-pub frame_taken : (a b c : Option (List ℕ)) (header room : List ℕ) (head : Head) (len : ℕ) → Consumes a b header → Consumes b c room → header ≡ kind_byte head.kind ∷ (to_be_bytes w32 head.connection ++ to_be_bytes w32 len) → length room ≡ len → Consumes a c (frame_bytes (record { head = head; bytes = room }))
+pub frame_taken : (a b c : Option (List ℕ)) (header room : List ℕ) (head : Head) (len : ℕ) → Consumes a b header → Consumes b c room → header ≡ kind_byte head.kind ∷ (to_be_bytes w64 head.connection ++ to_be_bytes w32 len) → length room ≡ len → Consumes a c (frame_bytes (record { head = head; bytes = room }))
 frame_taken a b c header room head len first second is counted =
     let whole : header ++ room ≡ frame_bytes (record { head = head; bytes = room }) =
-    ap (λ l. l ++ room) is ∙ ap (λ l. kind_byte head.kind ∷ l) (append_assoc (to_be_bytes w32 head.connection) (to_be_bytes w32 len) room ∙ ap (λ n. to_be_bytes w32 head.connection ++ (to_be_bytes w32 n ++ room)) (sym counted)) in
+    ap (λ l. l ++ room) is ∙ ap (λ l. kind_byte head.kind ∷ l) (append_assoc (to_be_bytes w64 head.connection) (to_be_bytes w32 len) room ∙ ap (λ n. to_be_bytes w64 head.connection ++ (to_be_bytes w32 n ++ room)) (sym counted)) in
     let P : List ℕ → Type 0 = Consumes a c in
     subst P whole (consumes_more a b c header room first second)
 
@@ -203,3 +203,11 @@ wire_told remaining contents v w came sent off told =
       subst C (ap (λ (l : List ℕ). frames_bytes came ++ l) (told.0.1 off) ∙ append-nil (frames_bytes came)) told.0.2,
       subst A (ap (λ (l : List ℕ). frames_bytes sent ++ l) (told.1.1 off) ∙ append-nil (frames_bytes sent)) told.1.2,
     )
+
+-- a frame is written part by part
+pub frame_written : (a b c d e f : Option (List ℕ)) (head : Head) (bytes : List ℕ) (kind : ℕ) (connection len : List ℕ) → Appends a b (kind ∷ []) → Appends b c connection → Appends c d len → Appends d e bytes → Keeps e f → kind ≡ kind_byte head.kind → connection ≡ to_be_bytes w64 head.connection → len ≡ to_be_bytes w32 (length bytes) → Appends a f (frame_bytes (record { head = head; bytes = bytes }))
+frame_written a b c d e f head bytes kind connection len p q r s k is is_too is_long =
+    let P : List ℕ → Type 0 = Appends a f in
+    let same : kind ∷ (connection ++ (len ++ bytes)) ≡ frame_bytes (record { head = head; bytes = bytes }) =
+    ap (λ n. n ∷ (connection ++ (len ++ bytes))) is ∙ (ap (λ l. kind_byte head.kind ∷ (l ++ (len ++ bytes))) is_too ∙ ap (λ l. kind_byte head.kind ∷ (to_be_bytes w64 head.connection ++ (l ++ bytes))) is_long) in
+    subst P same (appends_more a b f (kind ∷ []) (connection ++ (len ++ bytes)) p (appends_more b c f connection (len ++ bytes) q (appends_more c d f len bytes r (appends-kept d e f bytes s k))))

@@ -2,6 +2,7 @@ pub mod Saying
 pub mod Standing
 pub mod Closing
 pub mod Turning
+pub mod Sending
 pub mod Requests
 pub mod Seeing
 pub mod Framing

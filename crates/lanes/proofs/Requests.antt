@@ -7,7 +7,7 @@ use Rattle.resp.specs.Replies.{Token, token}
 use Rattle.std.specs.List.{flat_map}
 use Rattle.resp.specs.Requests.{Command, command, Array, Negative, Inline}
 use Rattle.lanes.specs.declared.service.Next.{Next}
-use Rattle.lanes.specs.declared.service.Next.TheVariants.{GoOn, WakeAll, End}
+use Rattle.lanes.specs.declared.service.Next.TheVariants.{GoOn, WakeAll, End, LetIn, LetOut}
 use Rattle.lanes.specs.Calls.{Call, Asked, Answered, Passed}
 use Rattle.lanes.specs.Turns.{NextIs, TakesWhole}
 
@@ -19,6 +19,8 @@ command_some (Inline text) = omega (arith, length-append text (10 ∷ []))
 next_is : (next : Next) (what : Command) (r : List Token) → NextIs next (Answered what r next)
 next_is GoOn what r = λ e. (let none : ⊥ = cc in none)
 next_is WakeAll what r = λ e. (let none : ⊥ = cc in none)
+next_is LetIn what r = λ e. (let none : ⊥ = cc in none)
+next_is LetOut what r = λ e. (let none : ⊥ = cc in none)
 next_is End what r = refl
 
 some_arguments : (bytes : List ℕ) (spans : List Span) → 0 < length spans → 0 < length (arguments_in bytes spans)

@@ -1,27 +1,34 @@
 -- A service goes on where an earlier one left.
-use Rattle.std.proofs.Common.{◌≡◌, ℕ, Bool, true, false, List, [], ◌∷◌, ◌++◌, Option, Some, None, refl, sym, ◌∙◌, append-nil, subst}
+use Rattle.std.proofs.Common.{◌≡◌, ℕ, List, [], ◌∷◌, ◌++◌, Option, Some, None, refl, sym, append-nil, subst}
 use Rattle.std.specs.Prelude.{MatchOption}
 use Rattle.resp.specs.declared.limits.Limits.{Limits}
-use Rattle.lanes.specs.declared.slots.Slot.{Slot}
+use Rattle.lanes.specs.declared.slots.Slots.{Slots}
 use Rattle.lanes.specs.declared.frame.Head.{Head}
-use Rattle.lanes.specs.Marks.{Mark, stops}
+use Rattle.lanes.specs.Marks.{Mark}
 use Rattle.lanes.specs.Calls.{Call, Exchange, step_marks}
 use Rattle.lanes.specs.Lanes.{Frame, mark_of, marks}
 use Rattle.lanes.specs.Served.{Served, Begun}
-use Rattle.lanes.specs.Slots.{Seen, views_of, StandsSo, AllStand}
+use Rattle.lanes.specs.Slots.{Seen, Views, none_seen, views_of, seen_in, StandsAt, AllStand}
 use Rattle.lanes.specs.Standing.{Standing, Settled, GoesOnBy}
 use Rattle.lanes.specs.Turns.{Stands, Comes, Faulty}
-use Rattle.lanes.proofs.Closing.{all_free}
+use Rattle.lanes.proofs.Closing.{free_stands}
+use Rattle.lanes.proofs.Seeing.{none_at}
+use Rattle.lanes.proofs.Standing.{settled_by, left_by}
 use Rattle.lanes.proofs.Framing.{nothing_begun, made_comes}
 
 -- where nothing came yet, and nothing is held
-pub begins : {D : Type 0} (tells : D → D → List Frame → List Frame → Type 0) (limits : Limits) (start : D) → tells start start [] [] → Standing tells limits start start [] []
-begins tells limits start told =
-    let free : AllStand limits [] [] [] [] = all_free limits (nothing_begun limits) in
-    record { came = []; sent = []; told = told; settled = free.settled; stands = free.now }
+pub begins : {D : Type 0} (tells : D → D → List Frame → List Frame → Type 0) (limits : Limits) (start : D) → tells start start [] [] → Standing tells limits start start none_seen []
+begins tells limits start told = record {
+  came = [];
+  sent = [];
+  told = told;
+  stands = λ c. (let P : Seen → Type 0 = λ s. StandsAt limits c [] [] [] s in subst P (sym (none_at c)) (free_stands limits (nothing_begun limits) c));
+  once_sent = λ c. tt;
+  once = λ c. tt;
+}
 
 -- no step was done yet
-pub resumes : {D X : Type 0} (tells : D → D → List Frame → List Frame → Type 0) (does : X → Call → X → Type 0) (limits : Limits) (past : List (Mark Exchange)) (start now : D) (x : X) (slots : List Slot) → Standing tells limits start now (views_of slots) past → Stands tells does limits past start now x x slots
+pub resumes : {D X : Type 0} (tells : D → D → List Frame → List Frame → Type 0) (does : X → Call → X → Type 0) (limits : Limits) (past : List (Mark Exchange)) (start now : D) (x : X) (slots : Slots) → Standing tells limits start now (views_of slots) past → Stands tells does limits past start now x x slots
 resumes tells does limits past start now x slots s =
     let P : List (Mark Exchange) → Type 0 = λ m. AllStand limits slots (marks s.came) (marks s.sent) m in
     record {
@@ -30,7 +37,7 @@ resumes tells does limits past start now x slots s =
       steps = [];
       told = s.told;
       run = refl;
-      stand = subst P (sym (append-nil past)) (record { settled = s.settled; now = s.stands });
+      stand = subst P (sym (append-nil past)) (record { now = s.stands; once_sent = s.once_sent; once_steps = s.once });
     }
 
 -- ---- as a lane goes on
@@ -46,7 +53,7 @@ nothing_came tells now then room r is told =
     let P : Option Head → Type 0 = λ o. Came tells now then room o in
     subst P is told
 
-pub frame_came : {D X : Type 0} (tells : D → D → List Frame → List Frame → Type 0) (does : X → Call → X → Type 0) (limits : Limits) (past : List (Mark Exchange)) (start now then : D) (x y : X) (slots : List Slot) (room bytes : List ℕ) (r : Option Head) (h : Head) → r ≡ Some h → bytes ≡ room → Came tells now then room r → Stands tells does limits past start now x y slots → Comes tells does limits past start then x y slots (mark_of h.kind h.connection bytes)
+pub frame_came : {D X : Type 0} (tells : D → D → List Frame → List Frame → Type 0) (does : X → Call → X → Type 0) (limits : Limits) (past : List (Mark Exchange)) (start now then : D) (x y : X) (slots : Slots) (room bytes : List ℕ) (r : Option Head) (h : Head) → r ≡ Some h → bytes ≡ room → Came tells now then room r → Stands tells does limits past start now x y slots → Comes tells does limits past start then x y slots (mark_of h.kind h.connection bytes)
 frame_came {D} {X} tells does limits past start now then x y slots room bytes r h is same told s =
     let P : Option Head → Type 0 = λ o. Came tells now then room o in
     let Q : List ℕ → Type 0 = λ l. Comes tells does limits past start then x y slots (mark_of h.kind h.connection l) in
@@ -54,42 +61,39 @@ frame_came {D} {X} tells does limits past start now then x y slots room bytes r 
     subst Q (sym same) (made_comes tells does limits past start now then x y slots (record { head = h; bytes = room }) s (more start s.came s.sent s.told))
 
 -- as far as the steps went
-pub went_on : {D X : Type 0} (tells : D → D → List Frame → List Frame → Type 0) (does : X → Call → X → Type 0) (limits then : Limits) (old now last : D) (x y : X) (before : List Seen) (slots : List Slot) → then ≡ limits → ((start : D) (came sent : List Frame) → tells start now came sent → tells start last came sent) → ((start : D) (past : List (Mark Exchange)) → Standing tells limits start old before past → Stands tells does limits past start now x y slots) → GoesOnBy tells does then old last x y before (views_of slots)
+pub went_on : {D X : Type 0} (tells : D → D → List Frame → List Frame → Type 0) (does : X → Call → X → Type 0) (limits then : Limits) (old now last : D) (x y : X) (before : Views) (slots : Slots) → then ≡ limits → ((start : D) (came sent : List Frame) → tells start now came sent → tells start last came sent) → ((start : D) (past : List (Mark Exchange)) → Standing tells limits start old before past → Stands tells does limits past start now x y slots) → GoesOnBy tells does then old last x y before (views_of slots)
 went_on tells does limits then old now last x y before slots is kept goes =
     let P : Limits → Type 0 = λ l. GoesOnBy tells does l old last x y before (views_of slots) in
     subst P (sym is) (λ start past h.
     let s = goes start past h in (
       s.steps,
       s.run,
-      record { came = s.came; sent = s.sent; told = kept start s.came s.sent s.told; settled = s.stand.settled; stands = s.stand.now },
+      record { came = s.came; sent = s.sent; told = kept start s.came s.sent s.told; stands = s.stand.now; once_sent = s.stand.once_sent; once = s.stand.once_steps },
     ))
 
 -- a fault ends it
-pub fails_on : {D X : Type 0} (tells : D → D → List Frame → List Frame → Type 0) (does : X → Call → X → Type 0) (limits then : Limits) (old last : D) (x : X) (before : List Seen) → then ≡ limits → ((start : D) (past : List (Mark Exchange)) → Standing tells limits start old before past → Faulty tells does limits past start last x) → (start : D) (past : List (Mark Exchange)) → Standing tells then start old before past → Faulty tells does then past start last x
+pub fails_on : {D X : Type 0} (tells : D → D → List Frame → List Frame → Type 0) (does : X → Call → X → Type 0) (limits then : Limits) (old last : D) (x : X) (before : Views) → then ≡ limits → ((start : D) (past : List (Mark Exchange)) → Standing tells limits start old before past → Faulty tells does limits past start last x) → (start : D) (past : List (Mark Exchange)) → Standing tells then start old before past → Faulty tells does then past start last x
 fails_on {D} {X} tells does limits then old last x before is goes =
     let P : Limits → Type 0 = λ l. (start : D) (past : List (Mark Exchange)) → Standing tells l start old before past → Faulty tells does l past start last x in
     subst P (sym is) goes
 
-left_so : (limits : Limits) (c : ℕ) (came sent : List (Mark ℕ)) (steps : List (Mark Exchange)) (over : Bool) (held : List ℕ) (wanted : ℕ) → StandsSo limits c came sent steps over held wanted → stops c steps ≡ stops c sent
-left_so limits c came sent steps false held wanted s = s.1 ∙ sym s.0
-left_so limits c came sent steps true held wanted s = s.1 ∙ sym s.0
-
 -- where a lane stands no reply is owed
-pub settles : {D : Type 0} (tells : D → D → List Frame → List Frame → Type 0) (limits : Limits) (start now : D) (views : List Seen) (past : List (Mark Exchange)) → Standing tells limits start now views past → Settled tells limits start now past
+pub settles : {D : Type 0} (tells : D → D → List Frame → List Frame → Type 0) (limits : Limits) (start now : D) (views : Views) (past : List (Mark Exchange)) → Standing tells limits start now views past → Settled tells limits start now past
 settles tells limits start now views past s = record {
   came = s.came;
   sent = s.sent;
   told = s.told;
-  each = s.settled;
-  left = λ c. left_so limits c (marks s.came) (marks s.sent) past _ _ _ (s.stands c);
+  each = λ c. (settled_by limits _ _ _ _ _ _ (seen_in views c) (s.stands c), s.once_sent c);
+  left = λ c. left_by limits _ _ _ _ _ _ (seen_in views c) (s.stands c);
+  once = s.once;
 }
 
 -- one service from the first frame on
-pub served : {D X : Type 0} (tells : D → D → List Frame → List Frame → Type 0) (does : X → Call → X → Type 0) (limits : Limits) (start now : D) (x y : X) (views : List Seen) → tells start start [] [] → GoesOnBy tells does limits start now x y [] views → (came : List Frame) × (sent : List Frame) × tells start now came sent × Served does limits x y came sent
+pub served : {D X : Type 0} (tells : D → D → List Frame → List Frame → Type 0) (does : X → Call → X → Type 0) (limits : Limits) (start now : D) (x y : X) (views : Views) → tells start start [] [] → GoesOnBy tells does limits start now x y none_seen views → (came : List Frame) × (sent : List Frame) × tells start now came sent × Served does limits x y came sent
 served tells does limits start now x y views told goes =
     let g = goes start [] (begins tells limits start told) in
     let s = settles tells limits start now views (step_marks g.0) g.2 in
-    (s.came, s.sent, s.told, record { steps = g.0; run = g.1; each = s.each; left = s.left })
+    (s.came, s.sent, s.told, record { steps = g.0; run = g.1; each = s.each; left = s.left; once = s.once })
 
 pub faulty : {D X : Type 0} (tells : D → D → List Frame → List Frame → Type 0) (does : X → Call → X → Type 0) (limits : Limits) (start now : D) (x : X) → Faulty tells does limits [] start now x → (came : List Frame) × (sent : List Frame) × tells start now came sent × Begun does limits x came sent
 faulty tells does limits start now x f = (f.came, f.sent, f.told, record { steps = f.steps; last = f.last; run = f.run; each = f.each })

@@ -8,17 +8,17 @@ use Rattle.resp.specs.Requests.{command, IsAdmitted, longest}
 use Rattle.resp.specs.declared.outcome.Fault.{Fault}
 use Rattle.resp.specs.Parsing.{IsCause}
 use Rattle.lanes.specs.declared.service.Next.{Next}
-use Rattle.lanes.specs.declared.service.Next.TheVariants.{GoOn, WakeAll, End}
+use Rattle.lanes.specs.declared.service.Next.TheVariants.{GoOn, WakeAll, End, LetIn, LetOut}
 use Rattle.lanes.specs.declared.answering.Turned.{Turned}
 use Rattle.lanes.specs.declared.answering.Turned.TheVariants.{Holds, Closes}
-use Rattle.lanes.specs.declared.slots.Slot.{Slot}
-use Rattle.lanes.specs.declared.frame.Kind.TheVariants.{Data, Wake}
-use Rattle.lanes.specs.Marks.{Mark, Piece}
+use Rattle.lanes.specs.declared.slots.Slots.{Slots}
+use Rattle.lanes.specs.declared.frame.Kind.TheVariants.{Data}
+use Rattle.lanes.specs.Marks.{Mark, Piece, Else}
 use Rattle.lanes.specs.Calls.{Call, Left, Exchange, request_bytes, reply_bytes, asked, replied, IsTaken, GoesOn, IsLast, Step, Took, Ended, step_mark, step_marks, Does, Run}
 use Rattle.lanes.specs.Lanes.{Frame, frame_mark, marks, protocol_error, IsBegun, IsOver}
 use Rattle.lanes.specs.Served.{IsBegunBy}
-use Rattle.lanes.specs.Slots.{IsAnswered, InTurn, Replaces}
-use Rattle.lanes.specs.Turns.{Says, Stands, Turns, Faulty, NextIs, TakesWhole, goes_on, closing, AnswersSo}
+use Rattle.lanes.specs.Slots.{Runs, Closed, IsAnswered, InTurn, Replaces}
+use Rattle.lanes.specs.Turns.{Says, Sends, Stands, Turns, Faulty, NextIs, TakesWhole, goes_on, closing, AnswersSo}
 use Rattle.lanes.proofs.Saying.{StopsAt, stops_at, says_piece, says_nothing, says_else}
 use Rattle.lanes.proofs.Standing.{asked-append, replied-append, taken-append, go_on-append, took, wrote, leave_off, shut}
 use Rattle.lanes.proofs.Closing.{begun_turn, begun_answered, begun_closed, begun_same}
@@ -93,9 +93,11 @@ rest_is bytes front rest at n is long = sym (drop-drop n at bytes) ∙ (ap (drop
 goes_so : (next : Next) (e : Exchange) → next ≢ End → NextIs next e → GoesOn e
 goes_so GoOn e not is = is
 goes_so WakeAll e not is = is
+goes_so LetIn e not is = is
+goes_so LetOut e not is = is
 goes_so End e not is = absurd (not refl)
 
-pub turn_more : {D X : Type 0} (tells : D → D → List Frame → List Frame → Type 0) (does : X → Call → X → Type 0) (limits : Limits) (past : List (Mark Exchange)) (c : ℕ) (start now : D) (x y z : X) (slots : List Slot) (bytes out out' : List ℕ) (at consumed : ℕ) (next : Next) → next ≢ End → TakesWhole does limits c y z (drop at bytes) consumed next out out' → Turns (IsAnswered limits (drop at bytes)) tells does limits past c start now x y slots out → Turns (IsAnswered limits (drop (at + consumed) bytes)) tells does limits past c start now x z slots out'
+pub turn_more : {D X : Type 0} (tells : D → D → List Frame → List Frame → Type 0) (does : X → Call → X → Type 0) (limits : Limits) (past : List (Mark Exchange)) (c : ℕ) (start now : D) (x y z : X) (slots : Slots) (bytes out out' : List ℕ) (at consumed : ℕ) (next : Next) → next ≢ End → TakesWhole does limits c y z (drop at bytes) consumed next out out' → Turns (IsAnswered limits (drop at bytes)) tells does limits past c start now x y slots out → Turns (IsAnswered limits (drop (at + consumed) bytes)) tells does limits past c start now x z slots out'
 turn_more tells does limits past c start now x y z slots bytes out out' at consumed next goes w t =
     let behind : drop (at + consumed) bytes ≡ w.rest = rest_is bytes (request_bytes w.what) w.rest at consumed w.is w.long in
     let is : drop at bytes ≡ request_bytes w.what ++ drop (at + consumed) bytes = w.is ∙ ap (λ l. request_bytes w.what ++ l) (sym behind) in
@@ -111,7 +113,7 @@ turn_more tells does limits past c start now x y z slots bytes out out' at consu
           (took (IsAnswered limits (drop at bytes)) (IsAnswered limits (drop (at + consumed) bytes)) limits c slots out out' (w.what ∷ []) (marks t.came) (marks t.sent) (past ++ step_marks t.steps) (past ++ step_marks t.steps ++ Piece c (w.what ∷ []) ∷ []) (answered_more limits (drop at bytes) (drop (at + consumed) bytes) out out' w.what is w.out_is w.taken (goes_so next w.what goes w.next_is)) (says_piece c (w.what ∷ []) (past ++ step_marks t.steps)) t.turn);
     }
 
-pub turn_last : {D X : Type 0} (tells : D → D → List Frame → List Frame → Type 0) (does : X → Call → X → Type 0) (limits : Limits) (past : List (Mark Exchange)) (c : ℕ) (start now : D) (x y z : X) (slots : List Slot) (rest out out' : List ℕ) (consumed : ℕ) → TakesWhole does limits c y z rest consumed End out out' → Turns (IsAnswered limits rest) tells does limits past c start now x y slots out → Turns (IsOver limits) tells does limits past c start now x z slots out'
+pub turn_last : {D X : Type 0} (tells : D → D → List Frame → List Frame → Type 0) (does : X → Call → X → Type 0) (limits : Limits) (past : List (Mark Exchange)) (c : ℕ) (start now : D) (x y z : X) (slots : Slots) (rest out out' : List ℕ) (consumed : ℕ) → TakesWhole does limits c y z rest consumed End out out' → Turns (IsAnswered limits rest) tells does limits past c start now x y slots out → Turns (IsOver limits) tells does limits past c start now x z slots out'
 turn_last tells does limits past c start now x y z slots rest out out' consumed w t = record {
   came = t.came;
   sent = t.sent;
@@ -124,7 +126,7 @@ turn_last tells does limits past c start now x y z slots rest out out' consumed 
       (took (IsAnswered limits rest) (IsOver limits) limits c slots out out' (w.what ∷ []) (marks t.came) (marks t.sent) (past ++ step_marks t.steps) (past ++ step_marks t.steps ++ Piece c (w.what ∷ []) ∷ []) (answered_last limits rest w.rest out out' w.what w.is w.out_is w.taken w.next_is) (says_piece c (w.what ∷ []) (past ++ step_marks t.steps)) t.turn);
 }
 
-pub turn_bad : {D X : Type 0} (tells : D → D → List Frame → List Frame → Type 0) (does : X → Call → X → Type 0) (limits : Limits) (past : List (Mark Exchange)) (c : ℕ) (start now : D) (x y : X) (slots : List Slot) (rest out out' : List ℕ) (at : ℕ) (fault : Fault) → Spoilt command (IsAdmitted limits) rest at → IsCause limits rest at fault → out' ≡ out ++ protocol_error fault → Turns (IsAnswered limits rest) tells does limits past c start now x y slots out → Turns (IsOver limits) tells does limits past c start now x y slots out'
+pub turn_bad : {D X : Type 0} (tells : D → D → List Frame → List Frame → Type 0) (does : X → Call → X → Type 0) (limits : Limits) (past : List (Mark Exchange)) (c : ℕ) (start now : D) (x y : X) (slots : Slots) (rest out out' : List ℕ) (at : ℕ) (fault : Fault) → Spoilt command (IsAdmitted limits) rest at → IsCause limits rest at fault → out' ≡ out ++ protocol_error fault → Turns (IsAnswered limits rest) tells does limits past c start now x y slots out → Turns (IsOver limits) tells does limits past c start now x y slots out'
 turn_bad tells does limits past c start now x y slots rest out out' at fault bad cause is t = record {
   came = t.came;
   sent = t.sent;
@@ -135,7 +137,7 @@ turn_bad tells does limits past c start now x y slots rest out out' at fault bad
 }
 
 -- frames were sent, with a part of the replies
-pub turn_wrote : {D X : Type 0} (P : List ℕ → List ℕ → List Exchange → Type 0) (tells : D → D → List Frame → List Frame → Type 0) (does : X → Call → X → Type 0) (limits : Limits) (past : List (Mark Exchange)) (c : ℕ) (start now then : D) (x y : X) (slots : List Slot) (out part rest : List ℕ) → out ≡ part ++ rest → (t : Turns P tells does limits past c start now x y slots out) → (more : List Frame) → tells start then t.came more → Says c part (marks t.sent) (marks more) → Turns P tells does limits past c start then x y slots rest
+pub turn_wrote : {D X : Type 0} (P : List ℕ → List ℕ → List Exchange → Type 0) (tells : D → D → List Frame → List Frame → Type 0) (does : X → Call → X → Type 0) (limits : Limits) (past : List (Mark Exchange)) (c : ℕ) (start now then : D) (x y : X) (slots : Slots) (out part rest : List ℕ) → out ≡ part ++ rest → (t : Turns P tells does limits past c start now x y slots out) → (more : List Frame) → tells start then t.came more → Says c part (marks t.sent) (marks more) → Turns P tells does limits past c start then x y slots rest
 turn_wrote P tells does limits past c start now then x y slots out part rest is t more told s = record {
   came = t.came;
   sent = more;
@@ -145,7 +147,7 @@ turn_wrote P tells does limits past c start now then x y slots out part rest is 
   turn = wrote P limits c slots out part rest (marks t.came) (marks t.sent) (marks more) (past ++ step_marks t.steps) is s t.turn;
 }
 
-pub turn_faulty : {D X : Type 0} (P : List ℕ → List ℕ → List Exchange → Type 0) (tells : D → D → List Frame → List Frame → Type 0) (does : X → Call → X → Type 0) (limits : Limits) (past : List (Mark Exchange)) (c : ℕ) (start now then : D) (x y : X) (slots : List Slot) (out : List ℕ) → ((a b : List ℕ) (es : List Exchange) → P a b es → IsBegunBy limits a b es) → (t : Turns P tells does limits past c start now x y slots out) → tells start then t.came t.sent → Faulty tells does limits past start then x
+pub turn_faulty : {D X : Type 0} (P : List ℕ → List ℕ → List Exchange → Type 0) (tells : D → D → List Frame → List Frame → Type 0) (does : X → Call → X → Type 0) (limits : Limits) (past : List (Mark Exchange)) (c : ℕ) (start now then : D) (x y : X) (slots : Slots) (out : List ℕ) → ((a b : List ℕ) (es : List Exchange) → P a b es → IsBegunBy limits a b es) → (t : Turns P tells does limits past c start now x y slots out) → tells start then t.came t.sent → Faulty tells does limits past start then x
 turn_faulty P tells does limits past c start now then x y slots out tell t told = record {
   came = t.came;
   sent = t.sent;
@@ -156,6 +158,13 @@ turn_faulty P tells does limits past c start now then x y slots out tell t told 
   each = begun_turn P limits c slots out (marks t.came) (marks t.sent) (past ++ step_marks t.steps) tell t.turn;
 }
 
+-- the frames that were sent are the last ones
+pub sends_faulty : {D X : Type 0} (P : List ℕ → List ℕ → List Exchange → Type 0) (tells : D → D → List Frame → List Frame → Type 0) (does : X → Call → X → Type 0) (limits : Limits) (past : List (Mark Exchange)) (c : ℕ) (start now then : D) (x y : X) (slots : Slots) (out rest : List ℕ) → ((a b : List ℕ) (es : List Exchange) → P a b es → IsBegunBy limits a b es) → Turns P tells does limits past c start now x y slots out → Sends tells c now then out rest → Faulty tells does limits past start then x
+sends_faulty P tells does limits past c start now then x y slots out rest tell t sends =
+    let s = sends start t.came t.sent t.told in
+    let u = turn_wrote P tells does limits past c start now then x y slots out s.1 rest s.4 t s.0 s.2 s.3 in
+    turn_faulty P tells does limits past c start then then x y slots rest tell u u.told
+
 -- ---- frames
 
 pub says_data : (c : ℕ) (bytes : List ℕ) (sent : List Frame) → Says c bytes (marks sent) (marks (sent ++ record { head = record { kind = Data; connection = c }; bytes = bytes } ∷ []))
@@ -163,10 +172,10 @@ says_data c bytes sent =
     let P : List (Mark ℕ) → Type 0 = λ m. Says c bytes (marks sent) m in
     subst P (sym (map-append frame_mark sent (record { head = record { kind = Data; connection = c }; bytes = bytes } ∷ []))) (says_piece c bytes (marks sent))
 
-pub says_wake : (c d : ℕ) (bytes : List ℕ) (sent : List Frame) → Says c [] (marks sent) (marks (sent ++ record { head = record { kind = Wake; connection = d }; bytes = bytes } ∷ []))
-says_wake c d bytes sent =
+pub says_signal : (c : ℕ) (sent more : List Frame) → marks more ≡ marks sent ++ Else ∷ [] → Says c [] (marks sent) (marks more)
+says_signal c sent more is =
     let P : List (Mark ℕ) → Type 0 = λ m. Says c [] (marks sent) m in
-    subst P (sym (map-append frame_mark sent (record { head = record { kind = Wake; connection = d }; bytes = bytes } ∷ []))) (says_else c (marks sent))
+    subst P (sym is) (says_else c (marks sent))
 
 pub says_none : (c : ℕ) (bytes : List ℕ) (sent : List Frame) → bytes ≡ [] → Says c bytes (marks sent) (marks sent)
 says_none c bytes sent none =
@@ -188,19 +197,23 @@ ends_step past c steps =
 pub not_end : (next : Next) → goes_on next ≡ true → next ≢ End
 not_end GoOn is = λ e. (let none : ⊥ = cc in none)
 not_end WakeAll is = λ e. (let none : ⊥ = cc in none)
+not_end LetIn is = λ e. (let none : ⊥ = cc in none)
+not_end LetOut is = λ e. (let none : ⊥ = cc in none)
 not_end End is = (let none : ⊥ = cc in absurd none)
 
 pub is_end : (next : Next) → goes_on next ≡ false → next ≡ End
 is_end GoOn is = (let none : ⊥ = cc in absurd none)
 is_end WakeAll is = (let none : ⊥ = cc in absurd none)
+is_end LetIn is = (let none : ⊥ = cc in absurd none)
+is_end LetOut is = (let none : ⊥ = cc in absurd none)
 is_end End is = refl
 
-pub answers_faulty : {D X : Type 0} (tells : D → D → List Frame → List Frame → Type 0) (does : X → Call → X → Type 0) (limits : Limits) (past : List (Mark Exchange)) (c : ℕ) (start now then : D) (x y : X) (slots : List Slot) (bytes out : List ℕ) (t : Turned) → ((came sent : List Frame) → tells start now came sent → tells start then came sent) → AnswersSo tells does limits past c start now x y slots bytes out t → Faulty tells does limits past start then x
-answers_faulty tells does limits past c start now then x y slots bytes out (Holds at wanted) kept h = turn_faulty (IsAnswered limits (drop at bytes)) tells does limits past c start now then x y slots out (begun_answered limits (drop at bytes)) h.2 (kept h.2.came h.2.sent h.2.told)
-answers_faulty tells does limits past c start now then x y slots bytes out Closes kept h = turn_faulty (IsOver limits) tells does limits past c start now then x y slots out (begun_closed limits) h (kept h.came h.sent h.told)
+pub answers_faulty : {D X : Type 0} (tells : D → D → List Frame → List Frame → Type 0) (does : X → Call → X → Type 0) (limits : Limits) (past : List (Mark Exchange)) (c : ℕ) (start now then : D) (x y : X) (slots : Slots) (bytes out rest : List ℕ) (t : Turned) → Sends tells c now then out rest → AnswersSo tells does limits past c start now x y slots bytes out t → Faulty tells does limits past start then x
+answers_faulty tells does limits past c start now then x y slots bytes out rest (Holds at wanted) sends h = sends_faulty (IsAnswered limits (drop at bytes)) tells does limits past c start now then x y slots out rest (begun_answered limits (drop at bytes)) h.2 sends
+answers_faulty tells does limits past c start now then x y slots bytes out rest Closes sends h = sends_faulty (IsOver limits) tells does limits past c start now then x y slots out rest (begun_closed limits) h sends
 
 -- the beginning of a request is held
-pub stands_held : {D X : Type 0} (tells : D → D → List Frame → List Frame → Type 0) (does : X → Call → X → Type 0) (limits : Limits) (past : List (Mark Exchange)) (c : ℕ) (start now : D) (x y : X) (slots after : List Slot) (rest : List ℕ) (wanted : ℕ) → IsBegun limits rest wanted → Turns (IsAnswered limits rest) tells does limits past c start now x y slots [] → Replaces c (record { over = false; held = rest; wanted = wanted }) slots after → Stands tells does limits past start now x y after
+pub stands_held : {D X : Type 0} (tells : D → D → List Frame → List Frame → Type 0) (does : X → Call → X → Type 0) (limits : Limits) (past : List (Mark Exchange)) (c : ℕ) (start now : D) (x y : X) (slots after : Slots) (rest : List ℕ) (wanted : ℕ) → IsBegun limits rest wanted → Turns (IsAnswered limits rest) tells does limits past c start now x y slots [] → Replaces c (Runs rest wanted) slots after → Stands tells does limits past start now x y after
 stands_held tells does limits past c start now x y slots after rest wanted begun t r = record {
   came = t.came;
   sent = t.sent;
@@ -223,17 +236,17 @@ begun_rest limits rest missing wanted lacks is few = record {
 }
 
 -- the connection is closed
-pub stands_shut : {D X : Type 0} (tells : D → D → List Frame → List Frame → Type 0) (does : X → Call → X → Type 0) (limits : Limits) (past : List (Mark Exchange)) (c : ℕ) (start now then : D) (x y z : X) (slots after : List Slot) (held : List ℕ) (wanted : ℕ) → (t : Turns (IsOver limits) tells does limits past c start now x y slots []) → does y (Left c) z → tells start then t.came (t.sent ++ closing c ∷ []) → Replaces c (record { over = true; held = held; wanted = wanted }) slots after → Stands tells does limits past start then x z after
-stands_shut tells does limits past c start now then x y z slots after held wanted t left told r = record {
+pub stands_shut : {D X : Type 0} (tells : D → D → List Frame → List Frame → Type 0) (does : X → Call → X → Type 0) (limits : Limits) (past : List (Mark Exchange)) (c : ℕ) (start now then : D) (x y z : X) (slots after : Slots) → (t : Turns (IsOver limits) tells does limits past c start now x y slots []) → does y (Left c) z → tells start then t.came (t.sent ++ closing c ∷ []) → Replaces c (Closed) slots after → Stands tells does limits past start then x z after
+stands_shut tells does limits past c start now then x y z slots after t left told r = record {
   came = t.came;
   sent = t.sent ++ closing c ∷ [];
   steps = t.steps ++ Ended c ∷ [];
   told = told;
   run = run_more does t.steps x y z (Ended c) t.run left;
-  stand = shut limits c slots after held wanted (marks t.came) (marks t.sent) (marks (t.sent ++ closing c ∷ [])) (past ++ step_marks t.steps) (past ++ step_marks (t.steps ++ Ended c ∷ [])) t.turn (ends_step past c t.steps) (says_close c t.sent) r;
+  stand = shut limits c slots after (marks t.came) (marks t.sent) (marks (t.sent ++ closing c ∷ [])) (past ++ step_marks t.steps) (past ++ step_marks (t.steps ++ Ended c ∷ [])) t.turn (ends_step past c t.steps) (says_close c t.sent) r;
 }
 
-pub shut_faulty : {D X : Type 0} (tells : D → D → List Frame → List Frame → Type 0) (does : X → Call → X → Type 0) (limits : Limits) (past : List (Mark Exchange)) (c : ℕ) (start now then : D) (x y : X) (slots : List Slot) → (t : Turns (IsOver limits) tells does limits past c start now x y slots []) → tells start then t.came (t.sent ++ closing c ∷ []) → Faulty tells does limits past start then x
+pub shut_faulty : {D X : Type 0} (tells : D → D → List Frame → List Frame → Type 0) (does : X → Call → X → Type 0) (limits : Limits) (past : List (Mark Exchange)) (c : ℕ) (start now then : D) (x y : X) (slots : Slots) → (t : Turns (IsOver limits) tells does limits past c start now x y slots []) → tells start then t.came (t.sent ++ closing c ∷ []) → Faulty tells does limits past start then x
 shut_faulty tells does limits past c start now then x y slots t told = record {
   came = t.came;
   sent = t.sent ++ closing c ∷ [];
@@ -241,5 +254,5 @@ shut_faulty tells does limits past c start now then x y slots t told = record {
   last = y;
   told = told;
   run = t.run;
-  each = begun_same limits (marks t.came) (marks t.came) (marks t.sent) (marks (t.sent ++ closing c ∷ [])) (past ++ step_marks t.steps) (past ++ step_marks t.steps) (λ d k. refl) (says_close c t.sent).same (λ d k. refl) (begun_turn (IsOver limits) limits c slots [] (marks t.came) (marks t.sent) (past ++ step_marks t.steps) (begun_closed limits) t.turn);
+  each = begun_same limits (marks t.came) (marks t.came) (marks t.sent) (marks (t.sent ++ closing c ∷ [])) (past ++ step_marks t.steps) (past ++ step_marks t.steps) (λ d. refl) (says_close c t.sent).same (λ d. refl) (begun_turn (IsOver limits) limits c slots [] (marks t.came) (marks t.sent) (past ++ step_marks t.steps) (begun_closed limits) t.turn);
 }

@@ -1,5 +1,5 @@
 -- What came on a connection, and what has to be sent on it.
-use Rattle.std.specs.Prelude.{◌≡◌, ℕ, ◌+◌, ◌<◌, ◌≤◌, List, [], ◌∷◌, ◌++◌, length, map, ◌⊎◌, codes}
+use Rattle.std.specs.Prelude.{◌≡◌, ℕ, ◌+◌, ◌<◌, ◌≤◌, Bool, true, List, [], ◌∷◌, ◌++◌, length, map, ◌⊎◌, codes}
 use Rattle.resp.specs.declared.limits.Limits.{Limits}
 use Rattle.resp.specs.Lines.{Lacks, Spoilt}
 use Rattle.resp.specs.Requests.{command, IsAdmitted, longest}
@@ -9,8 +9,8 @@ use Rattle.resp.specs.Parsing.{IsCause}
 use Rattle.resp.specs.Replies.{token, Failure}
 use Rattle.lanes.specs.declared.frame.Head.{Head}
 use Rattle.lanes.specs.declared.frame.Kind.{Kind}
-use Rattle.lanes.specs.declared.frame.Kind.TheVariants.{Data, Open, Close, Wake}
-use Rattle.lanes.specs.Marks.{Mark as Said, Piece, Stop, Else, said, stops}
+use Rattle.lanes.specs.declared.frame.Kind.TheVariants.{Data, Open, Close, Wake, LetIn, LetOut, Note}
+use Rattle.lanes.specs.Marks.{Mark as Said, Piece, Stop, Else, said, is_stopped, EndsOnce}
 use Rattle.lanes.specs.Calls.{Exchange, asked, replied, AreTaken, AllGoOn, IsLast}
 
 pub record Frame : Type 0 where
@@ -22,6 +22,9 @@ mark_of Data c bytes = Piece c bytes
 mark_of Open c bytes = Else
 mark_of Close c bytes = Stop c
 mark_of Wake c bytes = Else
+mark_of LetIn c bytes = Else
+mark_of LetOut c bytes = Else
+mark_of Note c bytes = Else
 
 abbrev pub frame_mark : Frame → Said ℕ
 frame_mark f = mark_of f.head.kind f.head.connection f.bytes
@@ -90,16 +93,15 @@ pub record IsEnded (limits : Limits) (came sent : List ℕ) (es : List Exchange)
 abbrev pub IsOver : Limits → List ℕ → List ℕ → List Exchange → Type 0
 IsOver limits came sent es = IsBroken limits came sent es ⊎ IsEnded limits came sent es
 
--- Where k connections of the number went before: no reply is owed on it. The lane has closed it if it is over, and else
--- just if the client has.
-abbrev pub IsSettledBy : Limits → ℕ → ℕ → ℕ → List ℕ → List ℕ → List Exchange → Type 0
-IsSettledBy limits k came_stops sent_stops came sent es =
-    ((held : List ℕ) × (wanted : ℕ) × IsOpen limits came sent es held wanted × (k < sent_stops → k < came_stops) × (k < came_stops → k < sent_stops))
-    ⊎ (IsOver limits came sent es × (k < sent_stops))
+-- No reply is owed on a connection. The lane has closed it if it is over, and else just if the client has.
+abbrev pub IsSettledBy : Limits → Bool → Bool → List ℕ → List ℕ → List Exchange → Type 0
+IsSettledBy limits came_stopped sent_stopped came sent es =
+    ((held : List ℕ) × (wanted : ℕ) × IsOpen limits came sent es held wanted × (sent_stopped ≡ came_stopped))
+    ⊎ (IsOver limits came sent es × (sent_stopped ≡ true))
 
--- the same of the k-th connection of number c, from frames that came and that were sent
-abbrev pub IsSettledAt : Limits → ℕ → ℕ → List (Said ℕ) → List (Said ℕ) → List Exchange → Type 0
-IsSettledAt limits c k came sent es = IsSettledBy limits k (stops c came) (stops c sent) (said c k came) (said c k sent) es
+-- the same of connection c, from frames that came and that were sent; nothing was sent on it behind the lane's close
+abbrev pub IsSettledAt : Limits → ℕ → List (Said ℕ) → List (Said ℕ) → List Exchange → Type 0
+IsSettledAt limits c came sent es = IsSettledBy limits (is_stopped c came) (is_stopped c sent) (said c came) (said c sent) es × EndsOnce c sent
 
 abbrev pub AreSettled : Limits → List Frame → List Frame → Type 0
-AreSettled limits came sent = (c k : ℕ) → (es : List Exchange) × IsSettledAt limits c k (marks came) (marks sent) es
+AreSettled limits came sent = (c : ℕ) → (es : List Exchange) × IsSettledAt limits c (marks came) (marks sent) es

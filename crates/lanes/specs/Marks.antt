@@ -1,5 +1,5 @@
--- What is said on connections. A number is used again once its connection was stopped.
-use Rattle.std.specs.Prelude.{ℕ, zero, suc, List, [], ◌∷◌, ◌++◌, ◌==◌, if◌then◌else◌}
+-- What is said on connections.
+use Rattle.std.specs.Prelude.{◌≡◌, ℕ, Bool, true, false, List, [], ◌∷◌, ◌++◌, ◌==◌, if◌then◌else◌}
 
 -- items on a connection, its end, or what is of no connection
 pub data Mark (A : Type 0) : Type 0 where
@@ -7,18 +7,23 @@ pub data Mark (A : Type 0) : Type 0 where
   Stop : (connection : ℕ) → Mark A
   Else : Mark A
 
--- what was said on connection c behind its first k stops, and before the next
-abbrev pub said : {A : Type 0} → ℕ → ℕ → List (Mark A) → List A
-said c k [] = []
-said c zero (Piece d items ∷ marks) = if d == c then items ++ said c zero marks else said c zero marks
-said c (suc k) (Piece d items ∷ marks) = said c (suc k) marks
-said c zero (Stop d ∷ marks) = if d == c then [] else said c zero marks
-said c (suc k) (Stop d ∷ marks) = if d == c then said c k marks else said c (suc k) marks
-said c k (Else ∷ marks) = said c k marks
+-- all that was said on connection c
+abbrev pub said : {A : Type 0} → ℕ → List (Mark A) → List A
+said c [] = []
+said c (Piece d items ∷ marks) = if d == c then items ++ said c marks else said c marks
+said c (Stop d ∷ marks) = said c marks
+said c (Else ∷ marks) = said c marks
 
--- how often a connection was stopped
-abbrev pub stops : {A : Type 0} → ℕ → List (Mark A) → ℕ
-stops c [] = 0
-stops c (Piece d items ∷ marks) = stops c marks
-stops c (Stop d ∷ marks) = if d == c then suc (stops c marks) else stops c marks
-stops c (Else ∷ marks) = stops c marks
+-- whether connection c was stopped
+abbrev pub is_stopped : {A : Type 0} → ℕ → List (Mark A) → Bool
+is_stopped c [] = false
+is_stopped c (Piece d items ∷ marks) = is_stopped c marks
+is_stopped c (Stop d ∷ marks) = if d == c then true else is_stopped c marks
+is_stopped c (Else ∷ marks) = is_stopped c marks
+
+-- behind the stop of connection c nothing is said on it, and it is not stopped again
+abbrev pub EndsOnce : {A : Type 0} → ℕ → List (Mark A) → Type 0
+EndsOnce c [] = Unit {0}
+EndsOnce c (Piece d items ∷ marks) = EndsOnce c marks
+EndsOnce c (Stop d ∷ marks) = (d ≡ c → (said c marks ≡ []) × (is_stopped c marks ≡ false)) × EndsOnce c marks
+EndsOnce c (Else ∷ marks) = EndsOnce c marks

@@ -1,73 +1,100 @@
 -- What a lane holds of each number.
-use Rattle.std.specs.Prelude.{◌≡◌, ◌≢◌, ℕ, suc, Bool, true, false, List, [], ◌++◌, map, get_or}
+use Rattle.std.specs.Prelude.{◌≡◌, ◌≢◌, ◌⊎◌, ℕ, Bool, true, false, nat_lt, if◌then◌else◌, List, [], ◌++◌, map, Option, Some, None}
+use Rattle.std.specs.Option.{unwrap_or}
+use Rattle.std.specs.Ordering.{nat_cmp}
+use Rattle.std.specs.Map.{lookup}
+use Rattle.std.specs.BTreeMap.{is_at}
 use Rattle.resp.specs.declared.limits.Limits.{Limits}
 use Rattle.lanes.specs.declared.slots.Slot.{Slot}
+use Rattle.lanes.specs.declared.slots.Slots.{Slots}
 use Rattle.lanes.specs.declared.slots.State.{State}
-use Rattle.lanes.specs.declared.slots.State.TheVariants.{Free, Running, Over}
-use Rattle.lanes.specs.Marks.{Mark, said, stops}
+use Rattle.lanes.specs.declared.slots.State.TheVariants.{Running, Over}
+use Rattle.lanes.specs.Marks.{Mark, said, is_stopped, EndsOnce}
 use Rattle.lanes.specs.Calls.{Exchange, asked, replied, AreTaken, AllGoOn}
-use Rattle.lanes.specs.Lanes.{IsOpen, IsOver, IsSettledAt}
+use Rattle.lanes.specs.Lanes.{IsOpen, IsOver, IsSettledBy}
 
--- whether the lane has closed the connection before the client, what it holds of it, and how much it waits for
-pub record Seen : Type 0 where
-  pub over : Bool
-  pub held : List ℕ
-  pub wanted : ℕ
+-- how a connection stands: it goes on, with what is held of it and how much is waited for; or the lane has closed it, and the
+-- client not yet; or it has begun and is gone, or never begins
+pub data Seen : Type 0 where
+  Runs : (held : List ℕ) (wanted : ℕ) → Seen
+  Closed : Seen
+  Gone : Seen
 
-abbrev pub is_over : State → Bool
-is_over Free = false
-is_over Running = false
-is_over Over = true
+abbrev pub seen_so : State → List ℕ → ℕ → Seen
+seen_so Running held wanted = Runs held wanted
+seen_so Over held wanted = Closed
 
 abbrev pub seen : Slot → Seen
-seen s = record { over = is_over s.state; held = s.held.items; wanted = s.wanted }
+seen s = seen_so s.state s.held.items s.wanted
 
+-- a connection that has not begun is seen as one on which nothing came
 abbrev pub unseen : Seen
-unseen = record { over = false; held = []; wanted = 1 }
+unseen = Runs [] 1
 
-abbrev pub views_of : List Slot → List Seen
-views_of slots = map seen slots
+abbrev pub state_of : Seen → Option State
+state_of (Runs held wanted) = Some Running
+state_of Closed = Some Over
+state_of Gone = None
 
--- a number that was never used is as a free one
-abbrev pub seen_in : List Seen → ℕ → Seen
-seen_in views c = get_or views c unseen
+-- what a lane holds: of each connection that is not gone, by its number, and a number above each that was used
+pub record Views : Type 0 where
+  pub entries : List (ℕ × Seen)
+  pub next : ℕ
 
-abbrev pub slot_at : List Slot → ℕ → Seen
+-- nothing, where no number was used
+abbrev pub none_seen : Views
+none_seen = record { entries = []; next = 0 }
+
+abbrev pub views_of : Slots → Views
+views_of slots = record { entries = map (λ e. (e.0, seen e.1)) slots.map.entries; next = slots.next }
+
+-- a number without a slot is gone where one above it was used
+abbrev pub seen_in : Views → ℕ → Seen
+seen_in views c = unwrap_or (lookup (is_at (nat_cmp c)) views.entries) (if nat_lt c views.next then Gone else unseen)
+
+abbrev pub find_slot : Slots → ℕ → Option Slot
+find_slot slots c = lookup (is_at (nat_cmp c)) slots.map.entries
+
+abbrev pub slot_at : Slots → ℕ → Seen
 slot_at slots c = seen_in (views_of slots) c
 
 -- the slots are the same but for this one
-pub record Replaces (c : ℕ) (view : Seen) (old new : List Slot) : Type 0 where
+pub record Replaces (c : ℕ) (view : Seen) (old new : Slots) : Type 0 where
   pub here : slot_at new c ≡ view
   pub others : (d : ℕ) → d ≢ c → slot_at new d ≡ slot_at old d
 
-abbrev pub OthersSame : ℕ → List Slot → List Slot → Type 0
+abbrev pub OthersSame : ℕ → Slots → Slots → Type 0
 OthersSame c old new = (d : ℕ) → d ≢ c → slot_at new d ≡ slot_at old d
 
+-- a number that was passed is gone, if its connection had not begun
+abbrev pub IsPassed : Seen → Seen → Type 0
+IsPassed old new = (new ≡ old) ⊎ ((old ≡ unseen) × (new ≡ Gone))
+
 -- how a connection stands, of which this is seen
-abbrev pub StandsSo : Limits → ℕ → List (Mark ℕ) → List (Mark ℕ) → List (Mark Exchange) → Bool → List ℕ → ℕ → Type 0
-StandsSo limits c came sent steps false held wanted =
-    (stops c sent ≡ stops c came) × (stops c steps ≡ stops c came)
-    × IsOpen limits (said c (stops c came) came) (said c (stops c came) sent) (said c (stops c came) steps) held wanted
-StandsSo limits c came sent steps true held wanted =
-    (stops c sent ≡ suc (stops c came)) × (stops c steps ≡ suc (stops c came))
-    × IsOver limits (said c (stops c came) came) (said c (stops c came) sent) (said c (stops c came) steps)
-    × (said c (suc (stops c came)) sent ≡ []) × (said c (suc (stops c came)) steps ≡ [])
+abbrev pub StandsBy : Limits → Bool → Bool → Bool → List ℕ → List ℕ → List Exchange → Seen → Type 0
+StandsBy limits came_stopped sent_stopped steps_stopped came sent es (Runs held wanted) =
+    (came_stopped ≡ false) × (sent_stopped ≡ false) × (steps_stopped ≡ false) × IsOpen limits came sent es held wanted
+StandsBy limits came_stopped sent_stopped steps_stopped came sent es Closed = (sent_stopped ≡ true) × (steps_stopped ≡ true) × IsOver limits came sent es
+StandsBy limits came_stopped sent_stopped steps_stopped came sent es Gone = IsSettledBy limits came_stopped sent_stopped came sent es × (steps_stopped ≡ sent_stopped)
 
 abbrev pub StandsAt : Limits → ℕ → List (Mark ℕ) → List (Mark ℕ) → List (Mark Exchange) → Seen → Type 0
-StandsAt limits c came sent steps s = StandsSo limits c came sent steps s.over s.held s.wanted
+StandsAt limits c came sent steps s = StandsBy limits (is_stopped c came) (is_stopped c sent) (is_stopped c steps) (said c came) (said c sent) (said c steps) s
 
-pub record AllStand (limits : Limits) (slots : List Slot) (came sent : List (Mark ℕ)) (steps : List (Mark Exchange)) : Type 0 where
-  pub settled : (d k : ℕ) → IsSettledAt limits d k came sent (said d k steps)
+pub record AllStand (limits : Limits) (slots : Slots) (came sent : List (Mark ℕ)) (steps : List (Mark Exchange)) : Type 0 where
   pub now : (d : ℕ) → StandsAt limits d came sent steps (slot_at slots d)
+  pub once_sent : (d : ℕ) → EndsOnce d sent
+  pub once_steps : (d : ℕ) → EndsOnce d steps
 
 -- In a turn of connection c: all others stand, and of this one P is told of what came, what was or is to be sent, and the
 -- requests that were taken.
-pub record InTurn (P : List ℕ → List ℕ → List Exchange → Type 0) (limits : Limits) (c : ℕ) (slots : List Slot) (out : List ℕ) (came sent : List (Mark ℕ)) (steps : List (Mark Exchange)) : Type 0 where
-  pub settled : (d k : ℕ) → (d ≡ c → k ≡ stops c came → ⊥) → IsSettledAt limits d k came sent (said d k steps)
+pub record InTurn (P : List ℕ → List ℕ → List Exchange → Type 0) (limits : Limits) (c : ℕ) (slots : Slots) (out : List ℕ) (came sent : List (Mark ℕ)) (steps : List (Mark Exchange)) : Type 0 where
   pub others : (d : ℕ) → d ≢ c → StandsAt limits d came sent steps (slot_at slots d)
-  pub sent_stops : stops c sent ≡ stops c came
-  pub step_stops : stops c steps ≡ stops c came
-  pub mine : P (said c (stops c came) came) (said c (stops c came) sent ++ out) (said c (stops c came) steps)
+  pub came_on : is_stopped c came ≡ false
+  pub sent_on : is_stopped c sent ≡ false
+  pub steps_on : is_stopped c steps ≡ false
+  pub once_sent : (d : ℕ) → EndsOnce d sent
+  pub once_steps : (d : ℕ) → EndsOnce d steps
+  pub mine : P (said c came) (said c sent ++ out) (said c steps)
 
 -- these bytes of the connection are still to be looked at
 pub record IsAnswered (limits : Limits) (rest : List ℕ) (came sent : List ℕ) (es : List Exchange) : Type 0 where

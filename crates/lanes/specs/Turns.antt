@@ -1,32 +1,50 @@
 -- What the parts of a lane's loop do.
-use Rattle.std.specs.Prelude.{◌≡◌, ℕ, ◌+◌, ◌<◌, ◌≤◌, Bool, true, false, List, [], ◌∷◌, ◌++◌, length, drop}
+use Rattle.std.specs.Prelude.{◌≡◌, ◌≢◌, ℕ, ◌+◌, ◌<◌, ◌≤◌, Bool, true, false, List, [], ◌∷◌, ◌++◌, length, drop}
 use Rattle.resp.specs.declared.limits.Limits.{Limits}
 use Rattle.resp.specs.Lines.{Lacks, Spoilt}
 use Rattle.resp.specs.Requests.{command, IsAdmitted, longest}
 use Rattle.resp.specs.declared.outcome.Fault.{Fault}
 use Rattle.resp.specs.Parsing.{IsCause}
 use Rattle.lanes.specs.declared.service.Next.{Next}
-use Rattle.lanes.specs.declared.service.Next.TheVariants.{GoOn, WakeAll, End}
+use Rattle.lanes.specs.declared.service.Next.TheVariants.{GoOn, WakeAll, End, LetIn, LetOut}
 use Rattle.lanes.specs.declared.taking.Taken.{Taken}
 use Rattle.lanes.specs.declared.taking.Taken.TheVariants.{Whole, Short, Bad}
 use Rattle.lanes.specs.declared.answering.Turned.{Turned}
 use Rattle.lanes.specs.declared.answering.Turned.TheVariants.{Holds, Closes}
+use Rattle.lanes.specs.declared.frame.Kind.{Kind}
 use Rattle.lanes.specs.declared.frame.Kind.TheVariants.{Close}
-use Rattle.lanes.specs.declared.slots.Slot.{Slot}
-use Rattle.lanes.specs.Marks.{Mark, said, stops}
+use Rattle.lanes.specs.declared.slots.Slots.{Slots}
+use Rattle.lanes.specs.Marks.{Mark, Else, said, is_stopped, EndsOnce}
 use Rattle.lanes.specs.Calls.{Call, Exchange, request_bytes, reply_bytes, IsTaken, GoesOn, IsLast, Step, Took, step_marks, Does, Run}
-use Rattle.lanes.specs.Lanes.{Frame, marks, protocol_error, IsBegun, IsOver}
+use Rattle.lanes.specs.Lanes.{Frame, mark_of, marks, protocol_error, IsBegun, IsOver}
 use Rattle.lanes.specs.Served.{AreBegun}
-use Rattle.lanes.specs.Slots.{Seen, AllStand, InTurn, IsAnswered}
+use Rattle.lanes.specs.Slots.{Seen, Runs, Closed, AllStand, InTurn, IsAnswered}
 
 -- these were said on connection c besides, and nothing on others
 pub record Says {A : Type 0} (c : ℕ) (xs : List A) (old new : List (Mark A)) : Type 0 where
-  pub here : said c (stops c old) new ≡ said c (stops c old) old ++ xs
-  pub elsewhere : (d k : ℕ) → (d ≡ c → k ≡ stops c old → ⊥) → said d k new ≡ said d k old
-  pub stops_are : (d : ℕ) → stops d new ≡ stops d old
+  pub here : said c new ≡ said c old ++ xs
+  pub elsewhere : (d : ℕ) → d ≢ c → said d new ≡ said d old
+  pub stops_are : (d : ℕ) → is_stopped d new ≡ is_stopped d old
+  pub once : is_stopped c old ≡ false → (d : ℕ) → EndsOnce d old → EndsOnce d new
+
+-- of what was to be sent on connection c the rest is to be sent still, and no more was sent
+abbrev pub Sends : {D : Type 0} → (D → D → List Frame → List Frame → Type 0) → ℕ → D → D → List ℕ → List ℕ → Type 0
+Sends {D} tells c old new out rest =
+    (start : D) (came sent : List Frame) → tells start old came sent
+    → (more : List Frame) × (part : List ℕ) × tells start new came more × Says c part (marks sent) (marks more) × (out ≡ part ++ rest)
+
+-- a frame of this kind has no bytes of a connection
+abbrev pub IsSignal : Kind → Type 0
+IsSignal kind = (c : ℕ) (bytes : List ℕ) → mark_of kind c bytes ≡ Else
+
+-- such a frame was sent
+abbrev pub Signals : {D : Type 0} → (D → D → List Frame → List Frame → Type 0) → D → D → Type 0
+Signals {D} tells old new =
+    (start : D) (came sent : List Frame) → tells start old came sent
+    → (more : List Frame) × tells start new came more × (marks more ≡ marks sent ++ Else ∷ [])
 
 -- all frames that came were dealt with
-pub record Stands {D X : Type 0} (tells : D → D → List Frame → List Frame → Type 0) (does : X → Call → X → Type 0) (limits : Limits) (past : List (Mark Exchange)) (start now : D) (x y : X) (slots : List Slot) : Type 0 where
+pub record Stands {D X : Type 0} (tells : D → D → List Frame → List Frame → Type 0) (does : X → Call → X → Type 0) (limits : Limits) (past : List (Mark Exchange)) (start now : D) (x y : X) (slots : Slots) : Type 0 where
   pub came : List Frame
   pub sent : List Frame
   pub steps : List Step
@@ -35,7 +53,7 @@ pub record Stands {D X : Type 0} (tells : D → D → List Frame → List Frame 
   pub stand : AllStand limits slots (marks came) (marks sent) (past ++ step_marks steps)
 
 -- all but the last, whose mark this is
-pub record Comes {D X : Type 0} (tells : D → D → List Frame → List Frame → Type 0) (does : X → Call → X → Type 0) (limits : Limits) (past : List (Mark Exchange)) (start now : D) (x y : X) (slots : List Slot) (m : Mark ℕ) : Type 0 where
+pub record Comes {D X : Type 0} (tells : D → D → List Frame → List Frame → Type 0) (does : X → Call → X → Type 0) (limits : Limits) (past : List (Mark Exchange)) (start now : D) (x y : X) (slots : Slots) (m : Mark ℕ) : Type 0 where
   pub came : List Frame
   pub sent : List Frame
   pub steps : List Step
@@ -46,7 +64,7 @@ pub record Comes {D X : Type 0} (tells : D → D → List Frame → List Frame �
   pub stand : AllStand limits slots before (marks sent) (past ++ step_marks steps)
 
 -- in a turn of connection c
-pub record Turns {D X : Type 0} (P : List ℕ → List ℕ → List Exchange → Type 0) (tells : D → D → List Frame → List Frame → Type 0) (does : X → Call → X → Type 0) (limits : Limits) (past : List (Mark Exchange)) (c : ℕ) (start now : D) (x y : X) (slots : List Slot) (out : List ℕ) : Type 0 where
+pub record Turns {D X : Type 0} (P : List ℕ → List ℕ → List Exchange → Type 0) (tells : D → D → List Frame → List Frame → Type 0) (does : X → Call → X → Type 0) (limits : Limits) (past : List (Mark Exchange)) (c : ℕ) (start now : D) (x y : X) (slots : Slots) (out : List ℕ) : Type 0 where
   pub came : List Frame
   pub sent : List Frame
   pub steps : List Step
@@ -67,6 +85,8 @@ pub record Faulty {D X : Type 0} (tells : D → D → List Frame → List Frame 
 abbrev pub NextIs : Next → Exchange → Type 0
 NextIs GoOn e = GoesOn e
 NextIs WakeAll e = GoesOn e
+NextIs LetIn e = GoesOn e
+NextIs LetOut e = GoesOn e
 NextIs End e = IsLast e
 
 -- a request at the front of bytes was taken
@@ -88,18 +108,20 @@ Takes does limits c x y bytes old out (Short missing) = (x ≡ y) × Lacks comma
 Takes does limits c x y bytes old out Bad = (x ≡ y) × (at : ℕ) × (fault : Fault) × Spoilt command (IsAdmitted limits) bytes at × IsCause limits bytes at fault × (out ≡ old ++ protocol_error fault)
 
 -- so far as the requests were answered: the beginning of one is left, or the connection is over
-abbrev pub AnswersSo : {D X : Type 0} → (D → D → List Frame → List Frame → Type 0) → (X → Call → X → Type 0) → Limits → List (Mark Exchange) → ℕ → D → D → X → X → List Slot → List ℕ → List ℕ → Turned → Type 0
+abbrev pub AnswersSo : {D X : Type 0} → (D → D → List Frame → List Frame → Type 0) → (X → Call → X → Type 0) → Limits → List (Mark Exchange) → ℕ → D → D → X → X → Slots → List ℕ → List ℕ → Turned → Type 0
 AnswersSo tells does limits past c start now x y slots bytes out (Holds at wanted) = (at ≤ length bytes) × IsBegun limits (drop at bytes) wanted × Turns (IsAnswered limits (drop at bytes)) tells does limits past c start now x y slots out
 AnswersSo tells does limits past c start now x y slots bytes out Closes = Turns (IsOver limits) tells does limits past c start now x y slots out
 
 -- what a slot holds behind a turn
 abbrev pub seen_after : List ℕ → Turned → Seen
-seen_after bytes (Holds at wanted) = record { over = false; held = drop at bytes; wanted = wanted }
-seen_after bytes Closes = record { over = true; held = []; wanted = 0 }
+seen_after bytes (Holds at wanted) = Runs (drop at bytes) wanted
+seen_after bytes Closes = Closed
 
 abbrev pub goes_on : Next → Bool
 goes_on GoOn = true
 goes_on WakeAll = true
+goes_on LetIn = true
+goes_on LetOut = true
 goes_on End = false
 
 abbrev pub closing : ℕ → Frame

@@ -1,15 +1,15 @@
 //! The requests at the front of bytes are answered.
-ghost use Rattle.std.specs.Prelude.{◌≡◌, ℕ, List, [], ◌∷◌, ◌++◌, length, IfOk, OnOk, OnErr};
-ghost use Rattle.lanes.specs.declared.slots.Slot.{Slot};
-ghost use Rattle.lanes.specs.Lanes.{Frame, marks};
+ghost use Rattle.std.specs.Prelude.{◌≡◌, ℕ, true, List, [], ◌∷◌, ◌++◌, length, IfOk, OnOk, OnErr};
+ghost use Rattle.lanes.specs.declared.slots.Slots.{Slots};
+ghost use Rattle.lanes.specs.Lanes.{Frame};
 ghost use Rattle.lanes.specs.Slots.{IsAnswered, Replaces};
 ghost use Rattle.lanes.specs.Marks.{Mark};
 ghost use Rattle.lanes.specs.Calls.{Exchange, Left};
-ghost use Rattle.lanes.specs.Turns.{Says, Stands, Turns, Faulty, AnswersSo, seen_after, goes_on, closing, IsWithin};
+ghost use Rattle.lanes.specs.Turns.{Sends, Signals, IsSignal, Stands, Turns, Faulty, AnswersSo, seen_after, goes_on, closing, IsWithin};
 
 use crate::duplex::Duplex;
 use crate::fault::{FrameFault, LaneFault};
-use crate::frame::{Head, Kind};
+use crate::frame::{Head, Kind, most_of};
 use crate::service::{Next, Service};
 use crate::taking::{Taken, take_one};
 use resp::{Limits, Span};
@@ -26,60 +26,79 @@ pub(crate) enum Turned {
     Closes,
 }
 
-/// Writes the replies, if there is one.
-fn put<D: Duplex>(duplex: &mut D, connection: u32, out: &mut Vec<u8>) -> Result<(), FrameFault>
-    ensures put { OnOk result ((start : D) (came sent : List Frame) → D.tells start duplex.old came sent → (more : List Frame) × D.tells start duplex.new came more × Says connection out.old.items (marks sent) (marks more)) }
-    ensures empty { OnOk result (out.new.items ≡ []) }
-    ensures failed { OnErr result ((start : D) (came sent : List Frame) → D.tells start duplex.old came sent → D.tells start duplex.new came sent) }
+/// Writes bytes of a connection, in as many frames as they need.
+fn put_pieces<D: Duplex>(duplex: &mut D, connection: u64, bytes: &[u8]) -> Result<(), FrameFault>
+    ensures put { OnOk result (Sends D.tells connection duplex.old duplex.new bytes.now []) }
+    ensures part { OnErr result ((rest : List ℕ) × Sends D.tells connection duplex.old duplex.new bytes.now rest) }
     ensures limits { D.limits duplex.new ≡ D.limits duplex.old }
 {
-    if out.is_empty() {
-        return Ok(());
-    }
     let kind = Kind::Data;
-    match duplex.write(Head { kind, connection }, out.as_slice()) {
-        Ok(()) => {
-            out.clear();
-            Ok(())
-        }
-        Err(fault) => Err(fault),
+    let most = most_of(kind) as usize;
+    let mut at = 0;
+    while at < bytes.len() {
+        let end = at + (bytes.len() - at).min(most);
+        duplex.write(Head { kind, connection }, &bytes[at..end])?;
+        at = end;
     }
+    Ok(())
 }
 
-/// Has all lanes woken.
-fn wake_all<D: Duplex>(duplex: &mut D) -> Result<(), FrameFault>
-    ensures woken { OnOk result ((start : D) (came sent : List Frame) → D.tells start duplex.old came sent → (more : List Frame) × D.tells start duplex.new came more × ((c : ℕ) → Says c [] (marks sent) (marks more))) }
+/// Writes the replies.
+fn put<D: Duplex>(duplex: &mut D, connection: u64, out: &mut Vec<u8>) -> Result<(), FrameFault>
+    ensures put { OnOk result (Sends D.tells connection duplex.old duplex.new out.old.items []) }
+    ensures part { OnErr result ((rest : List ℕ) × Sends D.tells connection duplex.old duplex.new out.old.items rest) }
+    ensures empty { OnOk result (out.new.items ≡ []) }
+    ensures limits { D.limits duplex.new ≡ D.limits duplex.old }
+{
+    put_pieces(duplex, connection, out.as_slice())?;
+    out.clear();
+    Ok(())
+}
+
+/// Writes a frame that has no bytes of a connection.
+pub(crate) fn put_signal<D: Duplex>(
+    duplex: &mut D,
+    head: Head,
+    text: &[u8],
+) -> Result<(), FrameFault>
+    requires { IsSignal head.kind }
+    ensures put { OnOk result (Signals D.tells duplex.old duplex.new) }
     ensures failed { OnErr result ((start : D) (came sent : List Frame) → D.tells start duplex.old came sent → D.tells start duplex.new came sent) }
     ensures limits { D.limits duplex.new ≡ D.limits duplex.old }
 {
-    let kind = Kind::Wake;
-    let connection = 0;
-    match duplex.write(Head { kind, connection }, b"") {
-        Ok(()) => Ok(()),
-        Err(fault) => Err(fault),
-    }
+    duplex.write(head, text)
 }
 
-/// What is done behind a request: whether the connection goes on. Replies that are many are written.
+/// Writes what a service wants of all lanes or of the front: whether the connection goes on.
+fn signal<D: Duplex>(duplex: &mut D, kind: Kind, connection: u64) -> Result<bool, FrameFault>
+    requires { IsSignal kind }
+    ensures put { OnOk result (Signals D.tells duplex.old duplex.new) }
+    ensures next { IfOk result (λ goes. goes ≡ true) }
+    ensures failed { OnErr result ((start : D) (came sent : List Frame) → D.tells start duplex.old came sent → D.tells start duplex.new came sent) }
+    ensures limits { D.limits duplex.new ≡ D.limits duplex.old }
+{
+    put_signal(duplex, Head { kind, connection }, b"")?;
+    Ok(true)
+}
+
+/// What is done after a request: whether the connection goes on. Replies that are many are written. A signal is written at once,
+/// before the replies that are not written yet.
 fn go_on<D: Duplex>(
     duplex: &mut D,
-    connection: u32,
+    connection: u64,
     next: Next,
     out: &mut Vec<u8>,
 ) -> Result<bool, FrameFault>
-    ensures goes { IfOk result (λ goes. (start : D) (came sent : List Frame) → D.tells start duplex.old came sent → (more : List Frame) × (part : List ℕ) × D.tells start duplex.new came more × Says connection part (marks sent) (marks more) × (out.old.items ≡ part ++ out.new.items)) }
+    ensures goes { OnOk result (Sends D.tells connection duplex.old duplex.new out.old.items out.new.items) }
     ensures next { IfOk result (λ goes. goes ≡ goes_on next) }
-    ensures failed { OnErr result ((start : D) (came sent : List Frame) → D.tells start duplex.old came sent → D.tells start duplex.new came sent) }
+    ensures part { OnErr result ((rest : List ℕ) × Sends D.tells connection duplex.old duplex.new out.old.items rest) }
     ensures limits { D.limits duplex.new ≡ D.limits duplex.old }
 {
     match next {
         Next::End => Ok(false),
-        Next::WakeAll => {
-            match wake_all(duplex) {
-                Ok(()) => Ok(true),
-                Err(fault) => Err(fault),
-            }
-        }
+        Next::WakeAll => signal(duplex, Kind::Wake, 0),
+        Next::LetIn => signal(duplex, Kind::LetIn, connection),
+        Next::LetOut => signal(duplex, Kind::LetOut, connection),
         Next::GoOn => {
             if out.len() <= MOST {
                 return Ok(true);
@@ -97,13 +116,13 @@ fn answer_all<D: Duplex, S: Service>(
     duplex: &mut D,
     service: &mut S,
     limits: Limits,
-    connection: u32,
+    connection: u64,
     bytes: &[u8],
     spans: &mut Vec<Span>,
     out: &mut Vec<u8>,
 ) -> Result<Turned, LaneFault>
-    ensures answered { IfOk result (λ t. (start : D) (x : S) (past : List (Mark Exchange)) (slots : List Slot) → Turns (IsAnswered limits bytes.now) D.tells S.does limits past connection start duplex.old x service.old slots out.old.items → AnswersSo D.tells S.does limits past connection start duplex.new x service.new slots bytes.now out.new.items t) }
-    ensures begun { OnErr result ((start : D) (x : S) (past : List (Mark Exchange)) (slots : List Slot) → Turns (IsAnswered limits bytes.now) D.tells S.does limits past connection start duplex.old x service.old slots out.old.items → Faulty D.tells S.does limits past start duplex.new x) }
+    ensures answered { IfOk result (λ t. (start : D) (x : S) (past : List (Mark Exchange)) (slots : Slots) → Turns (IsAnswered limits bytes.now) D.tells S.does limits past connection start duplex.old x service.old slots out.old.items → AnswersSo D.tells S.does limits past connection start duplex.new x service.new slots bytes.now out.new.items t) }
+    ensures begun { OnErr result ((start : D) (x : S) (past : List (Mark Exchange)) (slots : Slots) → Turns (IsAnswered limits bytes.now) D.tells S.does limits past connection start duplex.old x service.old slots out.old.items → Faulty D.tells S.does limits past start duplex.new x) }
     ensures within { IfOk result (λ t. IsWithin (length bytes.now) t) }
     ensures limits { D.limits duplex.new ≡ D.limits duplex.old }
 {
@@ -131,7 +150,7 @@ fn answer_all<D: Duplex, S: Service>(
 pub(crate) fn leave<D: Duplex, S: Service>(
     duplex: &mut D,
     service: &mut S,
-    connection: u32,
+    connection: u64,
 ) -> Result<(), LaneFault>
     ensures left { OnOk result (S.does service.old (Left connection) service.new × ((start : D) (came sent : List Frame) → D.tells start duplex.old came sent → D.tells start duplex.new came (sent ++ closing connection ∷ []))) }
     ensures failed { OnErr result ((start : D) (came sent : List Frame) → D.tells start duplex.old came sent → D.tells start duplex.new came sent) }
@@ -154,14 +173,14 @@ pub(crate) fn answer<D: Duplex, S: Service>(
     duplex: &mut D,
     service: &mut S,
     limits: Limits,
-    connection: u32,
+    connection: u64,
     bytes: &[u8],
     spans: &mut Vec<Span>,
     out: &mut Vec<u8>,
 ) -> Result<Turned, LaneFault>
     requires { out.old.items ≡ [] }
-    ensures stands { IfOk result (λ t. (start : D) (x : S) (past : List (Mark Exchange)) (slots after : List Slot) → Turns (IsAnswered limits bytes.now) D.tells S.does limits past connection start duplex.old x service.old slots [] → Replaces connection (seen_after bytes.now t) slots after → Stands D.tells S.does limits past start duplex.new x service.new after) }
-    ensures begun { (start : D) (x : S) (past : List (Mark Exchange)) (slots : List Slot) → Turns (IsAnswered limits bytes.now) D.tells S.does limits past connection start duplex.old x service.old slots [] → Faulty D.tells S.does limits past start duplex.new x }
+    ensures stands { IfOk result (λ t. (start : D) (x : S) (past : List (Mark Exchange)) (slots after : Slots) → Turns (IsAnswered limits bytes.now) D.tells S.does limits past connection start duplex.old x service.old slots [] → Replaces connection (seen_after bytes.now t) slots after → Stands D.tells S.does limits past start duplex.new x service.new after) }
+    ensures begun { (start : D) (x : S) (past : List (Mark Exchange)) (slots : Slots) → Turns (IsAnswered limits bytes.now) D.tells S.does limits past connection start duplex.old x service.old slots [] → Faulty D.tells S.does limits past start duplex.new x }
     ensures within { IfOk result (λ t. IsWithin (length bytes.now) t) }
     ensures empty { OnOk result (out.new.items ≡ []) }
     ensures limits { D.limits duplex.new ≡ D.limits duplex.old }

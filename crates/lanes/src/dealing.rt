@@ -1,18 +1,19 @@
 //! What a lane does with a frame of a connection.
-ghost use Rattle.std.specs.Prelude.{◌≡◌, ◌<◌, ◌≤◌, ℕ, List, [], false, vec_len, length, drop, IfOk, OnOk};
-ghost use Rattle.lanes.specs.declared.slots.Slot.{Slot};
+ghost use Rattle.std.specs.Prelude.{◌≡◌, ◌≤◌, ℕ, List, [], Some, vec_len, length, drop, IfOk, OnOk, IsSome};
+ghost use Rattle.lanes.specs.declared.slots.Slots.{Slots};
 ghost use Rattle.lanes.specs.Marks.{Mark, Piece, Stop};
 ghost use Rattle.lanes.specs.Calls.{Exchange, Awake};
 ghost use Rattle.lanes.specs.Lanes.{mark_of};
-ghost use Rattle.lanes.specs.Slots.{slot_at, OthersSame, IsAnswered};
+ghost use Rattle.lanes.specs.Slots.{state_of, slot_at, find_slot, OthersSame, IsAnswered};
 ghost use Rattle.lanes.specs.Turns.{Stands, Comes, Turns, Faulty};
 
 use crate::answering::{Turned, answer, leave};
 use crate::duplex::Duplex;
 use crate::fault::LaneFault;
 use crate::frame::{Head, Kind};
+use crate::news::{take_note, take_open};
 use crate::service::{Service, Woken};
-use crate::slots::{FIRST, Slot, State, open, set_slot, state_at, take_held};
+use crate::slots::{Slot, Slots, State, remove_slot, set_slot, state_at, take_held};
 use resp::{Limits, Span};
 use std::alloc::{AllocError, Global};
 
@@ -36,18 +37,18 @@ fn answer_frame<D: Duplex, S: Service>(
     duplex: &mut D,
     service: &mut S,
     limits: Limits,
-    slots: &mut Vec<Slot>,
-    connection: u32,
+    slots: &mut Slots,
+    connection: u64,
     frame: &[u8],
     mut held: Vec<u8>,
     spans: &mut Vec<Span>,
     out: &mut Vec<u8>,
 ) -> Result<(), LaneFault>
-    requires room { connection < vec_len slots.old }
+    requires room { IsSome (find_slot slots.old connection) }
     requires nothing { held.items ≡ [] }
     requires empty { out.old.items ≡ [] }
-    ensures stands { OnOk result ((start : D) (x : S) (past : List (Mark Exchange)) (before : List Slot) → Turns (IsAnswered limits frame.now) D.tells S.does limits past connection start duplex.old x service.old before [] → OthersSame connection before slots.old.items → Stands D.tells S.does limits past start duplex.new x service.new slots.new.items) }
-    ensures begun { (start : D) (x : S) (past : List (Mark Exchange)) (before : List Slot) → Turns (IsAnswered limits frame.now) D.tells S.does limits past connection start duplex.old x service.old before [] → Faulty D.tells S.does limits past start duplex.new x }
+    ensures stands { OnOk result ((start : D) (x : S) (past : List (Mark Exchange)) (before : Slots) → Turns (IsAnswered limits frame.now) D.tells S.does limits past connection start duplex.old x service.old before [] → OthersSame connection before slots.old → Stands D.tells S.does limits past start duplex.new x service.new slots.new) }
+    ensures begun { (start : D) (x : S) (past : List (Mark Exchange)) (before : Slots) → Turns (IsAnswered limits frame.now) D.tells S.does limits past connection start duplex.old x service.old before [] → Faulty D.tells S.does limits past start duplex.new x }
     ensures empty { OnOk result (out.new.items ≡ []) }
     ensures limits { D.limits duplex.new ≡ D.limits duplex.old }
 {
@@ -83,16 +84,16 @@ fn answer_held<D: Duplex, S: Service>(
     duplex: &mut D,
     service: &mut S,
     limits: Limits,
-    slots: &mut Vec<Slot>,
-    connection: u32,
+    slots: &mut Slots,
+    connection: u64,
     held: Vec<u8>,
     spans: &mut Vec<Span>,
     out: &mut Vec<u8>,
 ) -> Result<(), LaneFault>
-    requires room { connection < vec_len slots.old }
+    requires room { IsSome (find_slot slots.old connection) }
     requires empty { out.old.items ≡ [] }
-    ensures stands { OnOk result ((start : D) (x : S) (past : List (Mark Exchange)) (before : List Slot) → Turns (IsAnswered limits held.items) D.tells S.does limits past connection start duplex.old x service.old before [] → OthersSame connection before slots.old.items → Stands D.tells S.does limits past start duplex.new x service.new slots.new.items) }
-    ensures begun { (start : D) (x : S) (past : List (Mark Exchange)) (before : List Slot) → Turns (IsAnswered limits held.items) D.tells S.does limits past connection start duplex.old x service.old before [] → Faulty D.tells S.does limits past start duplex.new x }
+    ensures stands { OnOk result ((start : D) (x : S) (past : List (Mark Exchange)) (before : Slots) → Turns (IsAnswered limits held.items) D.tells S.does limits past connection start duplex.old x service.old before [] → OthersSame connection before slots.old → Stands D.tells S.does limits past start duplex.new x service.new slots.new) }
+    ensures begun { (start : D) (x : S) (past : List (Mark Exchange)) (before : Slots) → Turns (IsAnswered limits held.items) D.tells S.does limits past connection start duplex.old x service.old before [] → Faulty D.tells S.does limits past start duplex.new x }
     ensures empty { OnOk result (out.new.items ≡ []) }
     ensures limits { D.limits duplex.new ≡ D.limits duplex.old }
 {
@@ -136,17 +137,17 @@ fn take_bytes<D: Duplex, S: Service>(
     duplex: &mut D,
     service: &mut S,
     limits: Limits,
-    slots: &mut Vec<Slot>,
-    connection: u32,
+    slots: &mut Slots,
+    connection: u64,
     frame: &[u8],
     spans: &mut Vec<Span>,
     out: &mut Vec<u8>,
 ) -> Result<(), LaneFault>
-    requires room { connection < vec_len slots.old }
-    requires runs { (slot_at slots.old.items connection).over ≡ false }
+    requires room { IsSome (find_slot slots.old connection) }
+    requires runs { state_of (slot_at slots.old connection) ≡ Some State.Running }
     requires empty { out.old.items ≡ [] }
-    ensures stands { OnOk result ((start : D) (x : S) (past : List (Mark Exchange)) → Comes D.tells S.does limits past start duplex.old x service.old slots.old.items (Piece connection frame.now) → Stands D.tells S.does limits past start duplex.new x service.new slots.new.items) }
-    ensures begun { (start : D) (x : S) (past : List (Mark Exchange)) → Comes D.tells S.does limits past start duplex.old x service.old slots.old.items (Piece connection frame.now) → Faulty D.tells S.does limits past start duplex.new x }
+    ensures stands { OnOk result ((start : D) (x : S) (past : List (Mark Exchange)) → Comes D.tells S.does limits past start duplex.old x service.old slots.old (Piece connection frame.now) → Stands D.tells S.does limits past start duplex.new x service.new slots.new) }
+    ensures begun { (start : D) (x : S) (past : List (Mark Exchange)) → Comes D.tells S.does limits past start duplex.old x service.old slots.old (Piece connection frame.now) → Faulty D.tells S.does limits past start duplex.new x }
     ensures empty { OnOk result (out.new.items ≡ []) }
     ensures limits { D.limits duplex.new ≡ D.limits duplex.old }
 {
@@ -178,30 +179,29 @@ fn take_bytes<D: Duplex, S: Service>(
     )
 }
 
-/// The client closes its connection.
+/// The client closes its connection, which is gone then.
 fn take_close<D: Duplex, S: Service>(
-    alloc: Global,
     duplex: &mut D,
     service: &mut S,
     limits: Limits,
-    slots: &mut Vec<Slot>,
-    connection: u32,
+    slots: &mut Slots,
+    connection: u64,
 ) -> Result<(), LaneFault>
-    ensures stands { OnOk result ((start : D) (x : S) (past : List (Mark Exchange)) → Comes D.tells S.does limits past start duplex.old x service.old slots.old.items (Stop connection) → Stands D.tells S.does limits past start duplex.new x service.new slots.new.items) }
-    ensures begun { (start : D) (x : S) (past : List (Mark Exchange)) → Comes D.tells S.does limits past start duplex.old x service.old slots.old.items (Stop connection) → Faulty D.tells S.does limits past start duplex.new x }
+    ensures stands { OnOk result ((start : D) (x : S) (past : List (Mark Exchange)) → Comes D.tells S.does limits past start duplex.old x service.old slots.old (Stop connection) → Stands D.tells S.does limits past start duplex.new x service.new slots.new) }
+    ensures begun { (start : D) (x : S) (past : List (Mark Exchange)) → Comes D.tells S.does limits past start duplex.old x service.old slots.old (Stop connection) → Faulty D.tells S.does limits past start duplex.new x }
     ensures limits { D.limits duplex.new ≡ D.limits duplex.old }
 {
-    match state_at(slots.as_slice(), connection) {
-        State::Free => Err(LaneFault::OutOfTurn),
-        State::Running => match leave(duplex, service, connection) {
+    match state_at(slots, connection) {
+        None => Err(LaneFault::OutOfTurn),
+        Some(State::Running) => match leave(duplex, service, connection) {
             Ok(()) => {
-                set_slot(slots, connection, Slot::new(alloc, State::Free, FIRST));
+                remove_slot(slots, connection);
                 Ok(())
             }
             Err(fault) => Err(fault),
         },
-        State::Over => {
-            set_slot(slots, connection, Slot::new(alloc, State::Free, FIRST));
+        Some(State::Over) => {
+            remove_slot(slots, connection);
             Ok(())
         }
     }
@@ -213,22 +213,22 @@ fn take_data<D: Duplex, S: Service>(
     duplex: &mut D,
     service: &mut S,
     limits: Limits,
-    slots: &mut Vec<Slot>,
-    connection: u32,
+    slots: &mut Slots,
+    connection: u64,
     frame: &[u8],
     spans: &mut Vec<Span>,
     out: &mut Vec<u8>,
 ) -> Result<(), LaneFault>
     requires empty { out.old.items ≡ [] }
-    ensures stands { OnOk result ((start : D) (x : S) (past : List (Mark Exchange)) → Comes D.tells S.does limits past start duplex.old x service.old slots.old.items (Piece connection frame.now) → Stands D.tells S.does limits past start duplex.new x service.new slots.new.items) }
-    ensures begun { (start : D) (x : S) (past : List (Mark Exchange)) → Comes D.tells S.does limits past start duplex.old x service.old slots.old.items (Piece connection frame.now) → Faulty D.tells S.does limits past start duplex.new x }
+    ensures stands { OnOk result ((start : D) (x : S) (past : List (Mark Exchange)) → Comes D.tells S.does limits past start duplex.old x service.old slots.old (Piece connection frame.now) → Stands D.tells S.does limits past start duplex.new x service.new slots.new) }
+    ensures begun { (start : D) (x : S) (past : List (Mark Exchange)) → Comes D.tells S.does limits past start duplex.old x service.old slots.old (Piece connection frame.now) → Faulty D.tells S.does limits past start duplex.new x }
     ensures empty { OnOk result (out.new.items ≡ []) }
     ensures limits { D.limits duplex.new ≡ D.limits duplex.old }
 {
-    match state_at(slots.as_slice(), connection) {
-        State::Free => Err(LaneFault::OutOfTurn),
-        State::Over => Ok(()),
-        State::Running => take_bytes(
+    match state_at(slots, connection) {
+        None => Err(LaneFault::OutOfTurn),
+        Some(State::Over) => Ok(()),
+        Some(State::Running) => take_bytes(
             alloc, duplex, service, limits, slots, connection, frame, spans, out,
         ),
     }
@@ -240,15 +240,15 @@ pub(crate) fn take_frame<D: Duplex, S: Service>(
     duplex: &mut D,
     service: &mut S,
     limits: Limits,
-    slots: &mut Vec<Slot>,
+    slots: &mut Slots,
     head: Head,
     frame: &[u8],
     spans: &mut Vec<Span>,
     out: &mut Vec<u8>,
 ) -> Result<Woken, LaneFault>
     requires empty { out.old.items ≡ [] }
-    ensures stands { OnOk result ((start : D) (x : S) (past : List (Mark Exchange)) → Comes D.tells S.does limits past start duplex.old x service.old slots.old.items (mark_of head.kind head.connection frame.now) → Stands D.tells S.does limits past start duplex.new x service.new slots.new.items) }
-    ensures begun { (start : D) (x : S) (past : List (Mark Exchange)) → Comes D.tells S.does limits past start duplex.old x service.old slots.old.items (mark_of head.kind head.connection frame.now) → Faulty D.tells S.does limits past start duplex.new x }
+    ensures stands { OnOk result ((start : D) (x : S) (past : List (Mark Exchange)) → Comes D.tells S.does limits past start duplex.old x service.old slots.old (mark_of head.kind head.connection frame.now) → Stands D.tells S.does limits past start duplex.new x service.new slots.new) }
+    ensures begun { (start : D) (x : S) (past : List (Mark Exchange)) → Comes D.tells S.does limits past start duplex.old x service.old slots.old (mark_of head.kind head.connection frame.now) → Faulty D.tells S.does limits past start duplex.new x }
     ensures leaves { IfOk result (λ w. w ≡ Woken.Leave → duplex.new ≡ duplex.old) }
     ensures woken { IfOk result (λ w. w ≡ Woken.Leave → S.does service.old (Awake Woken.Leave) service.new) }
     ensures empty { OnOk result (out.new.items ≡ []) }
@@ -262,11 +262,13 @@ pub(crate) fn take_frame<D: Duplex, S: Service>(
             Ok(()) => Ok(Woken::Stay),
             Err(fault) => Err(fault),
         },
-        Kind::Open => match open(alloc, slots, connection) {
-            Ok(()) => Ok(Woken::Stay),
-            Err(fault) => Err(fault),
-        },
-        Kind::Close => match take_close(alloc, duplex, service, limits, slots, connection) {
+        Kind::Open => {
+            match take_open(alloc, duplex, service, limits, slots, connection, frame) {
+                Ok(()) => Ok(Woken::Stay),
+                Err(fault) => Err(fault),
+            }
+        }
+        Kind::Close => match take_close(duplex, service, limits, slots, connection) {
             Ok(()) => Ok(Woken::Stay),
             Err(fault) => Err(fault),
         },
@@ -274,5 +276,10 @@ pub(crate) fn take_frame<D: Duplex, S: Service>(
             Ok(woken) => Ok(woken),
             Err(_) => Err(LaneFault::Memory),
         },
+        Kind::Note => match take_note(duplex, service, limits, frame, out) {
+            Ok(()) => Ok(Woken::Stay),
+            Err(fault) => Err(fault),
+        },
+        Kind::LetIn | Kind::LetOut => Err(LaneFault::OutOfTurn),
     }
 }

@@ -14,7 +14,7 @@ pub enum FrameFault {
     /// A frame is of no kind that there is.
     #[error("a frame is of an unknown kind")]
     Kind,
-    /// A frame has more bytes than it may: 2^24, and none where it is no data.
+    /// A frame has more bytes than its kind may: 2^20 for data, 64 for an open, 4,096 for a note, none for the others.
     #[error("a frame is too long")]
     TooLong,
     /// A growth of memory was refused.
@@ -34,8 +34,8 @@ pub enum LaneFault {
     /// A growth of memory was refused.
     #[error("memory")]
     Memory,
-    /// A frame came that can't come now: data or a close on a number that is free, or an open of one that is not, or that is
-    /// past the first free one.
+    /// A frame came that can't come now: data or a close of a connection that has not begun or is gone, an open whose number is
+    /// not above all earlier ones, or what only a lane sends.
     #[error("a frame out of turn")]
     OutOfTurn,
     /// It took more frames than there are numbers.

@@ -1,7 +1,8 @@
 //! What a lane holds between two services.
-ghost use Rattle.std.specs.Prelude.{◌≡◌, []};
+ghost use Rattle.std.specs.Prelude.{◌≡◌};
+ghost use Rattle.lanes.specs.Slots.{none_seen};
 
-use crate::slots::Slot;
+use crate::slots::Slots;
 use std::alloc::Global;
 use std::marker::Model;
 
@@ -14,29 +15,28 @@ pub enum Pause {
     Wake,
 }
 
-/// What a lane holds of its connections where a service left: of each number whether the lane has closed the connection before
-/// the client, and the bytes that came and are no whole request.
+/// What a lane holds of its connections where a service left: of each one that is not gone whether the lane has closed it before
+/// the client, and the bytes that came and are no whole request; and which numbers were used.
 #[derive(Drop)]
 pub struct Holds {
-    pub(crate) slots: Vec<Slot>,
+    pub(crate) slots: Slots,
 }
 
 impl Model for Holds {
-    ghost use Rattle.std.specs.Prelude.{List};
-    ghost use Rattle.lanes.specs.Slots.{Seen, views_of};
+    ghost use Rattle.lanes.specs.Slots.{Views, views_of};
 
-    ghost Value = { List Seen };
+    ghost Value = { Views };
 
-    ghost view = { λ h. views_of h.slots.items };
+    ghost view = { λ h. views_of h.slots };
 }
 
 impl Holds {
     /// Nothing, as no frame came yet.
     pub fn none(alloc: Global) -> Self
-        ensures { result ≡ [] }
+        ensures { result ≡ none_seen }
     {
         Holds {
-            slots: Vec::new(alloc),
+            slots: Slots::new(alloc),
         }
     }
 }

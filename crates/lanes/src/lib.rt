@@ -9,6 +9,7 @@ mod frame;
 mod holds;
 mod looped;
 mod moving;
+mod news;
 mod over;
 mod putting;
 mod served;

@@ -1,15 +1,12 @@
 //! Frames from a reader.
 ghost use Rattle.std.specs.Prelude.{◌≡◌, ℕ, ◌+◌, ◌≤◌, List, true, length, IfOk, IfSome, OnErr, MatchOption};
-ghost use Rattle.std.specs.Int.{w32, from_be_bytes};
+ghost use Rattle.std.specs.Int.{w32, w64, from_be_bytes};
 ghost use Rattle.std.specs.Io.KnownBytes.{Keeps, prepend_known, Consumes};
 ghost use Rattle.lanes.specs.Frames.{kind_byte, frame_bytes};
 
 use crate::fault::FrameFault;
-use crate::frame::{Head, Kind};
+use crate::frame::{Head, Kind, most_of};
 use std::io::{BufRead, ErrorKind};
-
-/// The most bytes of a frame.
-const LONGEST: u32 = 1 << 24;
 
 /// Moves bytes from the reader behind those of the room, so many at most, and says how many. None where the read was
 /// interrupted, and 0 where the reader has no byte.
@@ -72,6 +69,15 @@ fn number_of(bytes: &[u8]) -> u32
     u32::from_be_bytes([bytes[0], bytes[1], bytes[2], bytes[3]])
 }
 
+fn connection_of(bytes: &[u8]) -> u64
+    requires { length bytes.now ≡ 8 }
+    ensures { result ≡ from_be_bytes w64 bytes.now }
+{
+    u64::from_be_bytes([
+        bytes[0], bytes[1], bytes[2], bytes[3], bytes[4], bytes[5], bytes[6], bytes[7],
+    ])
+}
+
 fn kind_of(byte: u8) -> Option<Kind>
     ensures { IfSome result (λ kind. byte ≡ kind_byte kind) }
 {
@@ -80,6 +86,9 @@ fn kind_of(byte: u8) -> Option<Kind>
         1 => Some(Kind::Open),
         2 => Some(Kind::Close),
         3 => Some(Kind::Wake),
+        4 => Some(Kind::LetIn),
+        5 => Some(Kind::LetOut),
+        6 => Some(Kind::Note),
         _ => None,
     }
 }
@@ -95,7 +104,7 @@ pub(crate) fn read_frame<R: BufRead>(
 {
     header.clear();
     room.clear();
-    if !move_all(input, header, 9)? {
+    if !move_all(input, header, 13)? {
         return if header.is_empty() {
             Ok(None)
         } else {
@@ -103,14 +112,13 @@ pub(crate) fn read_frame<R: BufRead>(
         };
     }
     let (mark, numbers) = header.as_slice().split_at(1);
-    let (first, second) = numbers.split_at(4);
-    let connection = number_of(first);
+    let (first, second) = numbers.split_at(8);
+    let connection = connection_of(first);
     let len = number_of(second);
     let Some(kind) = kind_of(mark[0]) else {
         return Err(FrameFault::Kind);
     };
-    let most = if kind == Kind::Data { LONGEST } else { 0 };
-    if len > most {
+    if len > most_of(kind) {
         return Err(FrameFault::TooLong);
     }
     if move_all(input, room, len as usize)? {

@@ -4,7 +4,7 @@ ghost use Rattle.std.specs.Io.KnownBytes.{Keeps, Appends};
 ghost use Rattle.lanes.specs.Frames.{kind_byte, frame_bytes};
 
 use crate::fault::FrameFault;
-use crate::frame::{Head, Kind};
+use crate::frame::{Head, Kind, most_of};
 use std::io::{ErrorKind, Write};
 
 /// Writes some of the bytes, and says how many: none where the write was interrupted.
@@ -54,10 +54,13 @@ fn byte_of(kind: Kind) -> u8
         Kind::Open => 1,
         Kind::Close => 2,
         Kind::Wake => 3,
+        Kind::LetIn => 4,
+        Kind::LetOut => 5,
+        Kind::Note => 6,
     }
 }
 
-/// Writes a frame, and flushes.
+/// Writes a frame, and flushes. One with more bytes than its kind has is refused, and nothing of it is written.
 pub(crate) fn write_frame<W: Write>(
     output: &mut W,
     head: Head,
@@ -66,7 +69,7 @@ pub(crate) fn write_frame<W: Write>(
     ensures put { OnOk result (Appends (W.contents output.old) (W.contents output.new) (frame_bytes (record { head = head; bytes = bytes.now }))) }
     ensures part { OnErr result ((part : List ℕ) × Appends (W.contents output.old) (W.contents output.new) part) }
 {
-    if bytes.len() > u32::MAX as usize {
+    if bytes.len() > most_of(head.kind) as usize {
         return Err(FrameFault::TooLong);
     }
     let len = bytes.len() as u32;

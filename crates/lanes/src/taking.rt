@@ -36,7 +36,7 @@ fn fault_text(fault: Fault) -> &'static [u8]
 pub(crate) fn take_one<S: Service>(
     service: &mut S,
     limits: Limits,
-    connection: u32,
+    connection: u64,
     bytes: &[u8],
     spans: &mut Vec<Span>,
     out: &mut Vec<u8>,

@@ -14,6 +14,8 @@ pub struct Facts {
     /// Connections that there were and are.
     pub accepted: u64,
     pub commands: u64,
+    /// Connections that were refused since there were as many as there may be.
+    pub rejected: u64,
     pub most_clients: u64,
     /// Bytes that the server may have.
     pub most_memory: u64,

@@ -133,7 +133,7 @@ fn push_memory(facts: &Facts, text: &mut Vec<u8>) -> Result<(), AllocError> {
 }
 
 fn push_stats(facts: &Facts, text: &mut Vec<u8>) -> Result<(), AllocError> {
-    let rejected = facts
+    let refused = facts
         .refused_memory
         .saturating_add(facts.refused_full)
         .saturating_add(facts.refused_device);
@@ -142,11 +142,12 @@ fn push_stats(facts: &Facts, text: &mut Vec<u8>) -> Result<(), AllocError> {
         &[
             ("total_connections_received", facts.accepted),
             ("total_commands_processed", facts.commands),
+            ("rejected_connections", facts.rejected),
             ("expired_keys", facts.expired),
             ("evicted_keys", facts.evicted),
             ("keyspace_hits", facts.hits),
             ("keyspace_misses", facts.misses),
-            ("rejected", rejected),
+            ("rejected", refused),
         ],
     )
 }

@@ -64,6 +64,7 @@ fn facts() -> Facts {
         clients: 3,
         accepted: 12,
         commands: 1_234_567,
+        rejected: 19,
         most_clients: 10_000,
         most_memory: 268_435_456,
         evicts: true,

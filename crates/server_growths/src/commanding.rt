@@ -39,6 +39,7 @@ const FACTS: Facts = Facts {
     clients: 3,
     accepted: 4,
     commands: 5,
+    rejected: 0,
     most_clients: 6,
     most_memory: 7,
     evicts: true,

@@ -18,9 +18,9 @@ use std::thread::Threads;
 
 /// A connection of number 0 comes, sends 167 bytes and is over: three frames.
 const CAME: [&[u8]; 3] = [
-    b"\x01\0\0\0\0\0\0\0\0",
-    b"\0\0\0\0\0\0\0\x00\xa7",
-    b"\x02\0\0\0\0\0\0\0\0",
+    b"\x01\0\0\0\0\0\0\0\0\0\0\0\0",
+    b"\0\0\0\0\0\0\0\0\0\0\0\0\xa7",
+    b"\x02\0\0\0\0\0\0\0\0\0\0\0\0",
 ];
 
 const ASKED: &[u8] =
@@ -70,6 +70,7 @@ fn settings() -> ServerSettings {
         longest_queue: 1_000,
         far_limit: 0,
         password: None,
+        seed: 1,
         options: Options {
             most_memory: 1,
             evicts: false,

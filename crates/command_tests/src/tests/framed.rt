@@ -16,6 +16,12 @@ pub(super) const CLOSE: u8 = 2;
 
 pub(super) const WAKE: u8 = 3;
 
+pub(super) const LET_IN: u8 = 4;
+
+pub(super) const LET_OUT: u8 = 5;
+
+pub(super) const NOTE: u8 = 6;
+
 pub(super) const LIMITS: Limits = Limits {
     arguments: 16,
     bytes: 100,
@@ -49,9 +55,15 @@ pub(super) struct Echo;
 impl Service for Echo {
     ghost does = { λ s call t. Unit {0} };
 
+    fn open(&mut self, connection: u64, address: &[u8]) -> Result<bool, AllocError> {
+        let _ = connection;
+        let _ = address;
+        Ok(false)
+    }
+
     fn answer(
         &mut self,
-        connection: u32,
+        connection: u64,
         bytes: &[u8],
         spans: &[Span],
         out: &mut Vec<u8>,
@@ -64,7 +76,7 @@ impl Service for Echo {
         }
     }
 
-    fn leave(&mut self, connection: u32) -> Result<(), AllocError> {
+    fn leave(&mut self, connection: u64) -> Result<(), AllocError> {
         let _ = connection;
         Ok(())
     }
@@ -72,9 +84,15 @@ impl Service for Echo {
     fn wake(&mut self) -> Result<Woken, AllocError> {
         Ok(Woken::Leave)
     }
+
+    fn note(&mut self, text: &[u8], reply: &mut Vec<u8>) -> Result<(), AllocError> {
+        let _ = text;
+        let _ = reply;
+        Ok(())
+    }
 }
 
-/// A kind, a connection below 256, and fewer than 256 bytes.
+/// A kind, a connection below 256, and bytes.
 pub(super) type Frame<'a> = (u8, u8, &'a [u8]);
 
 pub(super) fn made<T, E: Debug + Drop>(rt: &impl Abort, answered: Result<T, E>) -> T {
@@ -84,11 +102,19 @@ pub(super) fn made<T, E: Debug + Drop>(rt: &impl Abort, answered: Result<T, E>) 
     }
 }
 
+/// Pushes a frame that says it has so many bytes.
+pub(super) fn push_head(rt: &impl Abort, bytes: &mut Vec<u8>, kind: u8, connection: u8, len: u32) {
+    made(
+        rt,
+        bytes.extend_from_slice(&[kind, 0, 0, 0, 0, 0, 0, 0, connection]),
+    );
+    made(rt, bytes.extend_from_slice(&len.to_be_bytes()));
+}
+
 fn push_frame(rt: &impl Abort, bytes: &mut Vec<u8>, frame: Frame<'_>) {
     let (kind, connection, data) = frame;
-    assert!(rt; data.len() < 256);
-    let head = [kind, 0, 0, 0, connection, 0, 0, 0, data.len() as u8];
-    made(rt, bytes.extend_from_slice(&head));
+    assert!(rt; data.len() < 1 << 32);
+    push_head(rt, bytes, kind, connection, data.len() as u32);
     made(rt, bytes.extend_from_slice(data));
 }
 
@@ -118,7 +144,7 @@ fn sends(rt: &impl Abort, alloc: Global, came: &[Frame<'_>], want: &[Frame<'_>])
 }
 
 /// Stops the test where the lane ends otherwise.
-fn fails(rt: &impl Abort, alloc: Global, came: &[u8], want: LaneFault) {
+pub(super) fn fails(rt: &impl Abort, alloc: Global, came: &[u8], want: LaneFault) {
     let mut echo = Echo;
     match serve_over(alloc, came, Vec::new(alloc), LIMITS, &mut echo) {
         Ok(_) => panic!(rt; "no fault"),
@@ -131,11 +157,11 @@ fn data_of(rt: &impl Abort, alloc: Global, frames: &[u8]) -> Vec<u8> {
     let mut data = Vec::new(alloc);
     let mut rest = frames;
     for _ in 0..frames.len() {
-        if rest.len() < 9 {
+        if rest.len() < 13 {
             break;
         }
-        let len = usize::from(rest[8]);
-        let body = &rest[9..];
+        let len = usize::from(rest[12]);
+        let body = &rest[13..];
         if body.len() < len {
             break;
         }
@@ -189,8 +215,8 @@ fn an_error_behind_good_requests_ends_a_connection(rt: HostRuntime) {
         (DATA, 0, b"a\r\n*1\r\n$x"),
         (DATA, 0, b"b\r\n"),
         (CLOSE, 0, b""),
-        (OPEN, 0, b""),
-        (DATA, 0, b"c\r\n"),
+        (OPEN, 1, b""),
+        (DATA, 1, b"c\r\n"),
     ];
     let want = [
         (
@@ -199,7 +225,7 @@ fn an_error_behind_good_requests_ends_a_connection(rt: HostRuntime) {
             b"$1\r\na\r\n-ERR Protocol error: invalid bulk length\r\n".as_slice(),
         ),
         (CLOSE, 0, b""),
-        (DATA, 0, b"$1\r\nc\r\n"),
+        (DATA, 1, b"$1\r\nc\r\n"),
     ];
     sends(&rt, rt.alloc(), &came, &want);
 }
@@ -215,18 +241,18 @@ fn a_service_ends_a_connection(rt: HostRuntime) {
 }
 
 #[test]
-fn a_client_leaves_inside_a_request_and_its_number_begins_anew(rt: HostRuntime) {
+fn a_client_leaves_inside_a_request_and_the_next_one_begins_anew(rt: HostRuntime) {
     let came = [
         (OPEN, 0, b"".as_slice()),
         (DATA, 0, b"a\r\n*1\r\n$1\r\n"),
         (CLOSE, 0, b""),
-        (OPEN, 0, b""),
-        (DATA, 0, b"b\r\n"),
+        (OPEN, 3, b""),
+        (DATA, 3, b"b\r\n"),
     ];
     let want = [
         (DATA, 0, b"$1\r\na\r\n".as_slice()),
         (CLOSE, 0, b""),
-        (DATA, 0, b"$1\r\nb\r\n"),
+        (DATA, 3, b"$1\r\nb\r\n"),
     ];
     sends(&rt, rt.alloc(), &came, &want);
 }
@@ -250,10 +276,15 @@ fn a_lane_wakes_all_and_leaves_at_a_wake(rt: HostRuntime) {
 fn frames_out_of_turn_are_faults(rt: HostRuntime) {
     let alloc = rt.alloc();
     let cases = [
-        [(DATA, 0, b"a".as_slice()), (WAKE, 0, b"")],
-        [(CLOSE, 0, b""), (WAKE, 0, b"")],
-        [(OPEN, 1, b""), (WAKE, 0, b"")],
-        [(OPEN, 0, b""), (OPEN, 0, b"")],
+        [(DATA, 0, b"a".as_slice()), (WAKE, 0, b""), (WAKE, 0, b"")],
+        [(CLOSE, 0, b""), (WAKE, 0, b""), (WAKE, 0, b"")],
+        [(LET_IN, 0, b""), (WAKE, 0, b""), (WAKE, 0, b"")],
+        [(LET_OUT, 0, b""), (WAKE, 0, b""), (WAKE, 0, b"")],
+        [(OPEN, 0, b""), (OPEN, 0, b""), (WAKE, 0, b"")],
+        [(OPEN, 2, b""), (OPEN, 1, b""), (WAKE, 0, b"")],
+        [(OPEN, 0, b""), (CLOSE, 0, b""), (OPEN, 0, b"")],
+        [(OPEN, 0, b""), (CLOSE, 0, b""), (DATA, 0, b"a")],
+        [(OPEN, 0, b""), (CLOSE, 0, b""), (CLOSE, 0, b"")],
     ];
     for case in cases {
         let came = bytes_of(&rt, alloc, &case);
@@ -262,16 +293,39 @@ fn frames_out_of_turn_are_faults(rt: HostRuntime) {
 }
 
 #[test]
+fn the_last_number_is_none(rt: HostRuntime) {
+    let alloc = rt.alloc();
+    let mut came = Vec::new(alloc);
+    made(&rt, came.extend_from_slice(&[OPEN]));
+    made(&rt, came.extend_from_slice(&u64::MAX.to_be_bytes()));
+    made(&rt, came.extend_from_slice(&[0, 0, 0, 0]));
+    fails(&rt, alloc, came.as_slice(), LaneFault::OutOfTurn);
+}
+
+#[test]
 fn bytes_that_are_no_frames_are_faults(rt: HostRuntime) {
     let alloc = rt.alloc();
-    let cases: [(&[u8], FrameFault); 5] = [
-        (&[0, 0], FrameFault::Cut),
-        (&[0, 0, 0, 0, 0, 0, 0, 0, 1], FrameFault::Cut),
-        (&[4, 0, 0, 0, 0, 0, 0, 0, 0], FrameFault::Kind),
-        (&[0, 0, 0, 0, 0, 1, 0, 0, 1], FrameFault::TooLong),
-        (&[1, 0, 0, 0, 0, 0, 0, 0, 1, 0], FrameFault::TooLong),
+    let cut = [DATA, 0, 0, 0, 0, 0, 0, 0, 0, 0, 0, 0, 1];
+    fails(&rt, alloc, &[0, 0], LaneFault::Frame(FrameFault::Cut));
+    fails(&rt, alloc, &cut, LaneFault::Frame(FrameFault::Cut));
+    // The kind, and a length of which one byte more or less is the fault or none: the frames end inside.
+    let cases = [
+        (7, 0, FrameFault::Kind),
+        (255, 0, FrameFault::Kind),
+        (DATA, 1 << 20, FrameFault::Cut),
+        (DATA, (1 << 20) + 1, FrameFault::TooLong),
+        (OPEN, 64, FrameFault::Cut),
+        (OPEN, 65, FrameFault::TooLong),
+        (NOTE, 4_096, FrameFault::Cut),
+        (NOTE, 4_097, FrameFault::TooLong),
+        (CLOSE, 1, FrameFault::TooLong),
+        (WAKE, 1, FrameFault::TooLong),
+        (LET_IN, 1, FrameFault::TooLong),
+        (LET_OUT, 1, FrameFault::TooLong),
     ];
-    for (came, want) in cases {
-        fails(&rt, alloc, came, LaneFault::Frame(want));
+    for (kind, len, want) in cases {
+        let mut came = Vec::new(alloc);
+        push_head(&rt, &mut came, kind, 0, len);
+        fails(&rt, alloc, came.as_slice(), LaneFault::Frame(want));
     }
 }

@@ -1,7 +1,9 @@
 //! A service leaves a lane at a wake, and another goes on. What is wanted is what one service would send for the same frames.
 ghost use Rattle.std.specs.Prelude.{[]};
 
-use crate::tests::framed::{CLOSE, DATA, Echo, Frame, LIMITS, OPEN, WAKE, bytes_of, first, made};
+use crate::tests::framed::{
+    CLOSE, DATA, Echo, Frame, LET_IN, LIMITS, OPEN, WAKE, bytes_of, first, made,
+};
 use lanes::{Duplex, Holds, LaneFault, Next, Pause, Service, Wire, Woken, serve_on};
 use resp::{Span, push_simple};
 use std::alloc::{AllocError, Global};
@@ -14,9 +16,15 @@ struct Plain;
 impl Service for Plain {
     ghost does = { λ s call t. Unit {0} };
 
+    fn open(&mut self, connection: u64, address: &[u8]) -> Result<bool, AllocError> {
+        let _ = connection;
+        let _ = address;
+        Ok(true)
+    }
+
     fn answer(
         &mut self,
-        connection: u32,
+        connection: u64,
         bytes: &[u8],
         spans: &[Span],
         out: &mut Vec<u8>,
@@ -29,13 +37,19 @@ impl Service for Plain {
         }
     }
 
-    fn leave(&mut self, connection: u32) -> Result<(), AllocError> {
+    fn leave(&mut self, connection: u64) -> Result<(), AllocError> {
         let _ = connection;
         Ok(())
     }
 
     fn wake(&mut self) -> Result<Woken, AllocError> {
         Ok(Woken::Stay)
+    }
+
+    fn note(&mut self, text: &[u8], reply: &mut Vec<u8>) -> Result<(), AllocError> {
+        let _ = text;
+        let _ = reply;
+        Ok(())
     }
 }
 
@@ -83,12 +97,36 @@ fn a_service_goes_on_with_what_another_left(rt: HostRuntime) {
     ];
     let want = [
         (DATA, 1, b"$1\r\na\r\n".as_slice()),
+        (LET_IN, 2, b""),
         (DATA, 2, b"+abc\r\n"),
         (DATA, 1, b"+bb\r\n"),
         (DATA, 0, b"+ab\r\n"),
         (CLOSE, 1, b""),
     ];
     sends(&rt, rt.alloc(), &came, &want);
+}
+
+/// Stops the test where the second service does not end so.
+fn fails(rt: &impl Abort, alloc: Global, came: &[Frame<'_>], want: LaneFault) {
+    let came = bytes_of(rt, alloc, came);
+    let mut wire = Wire::new(alloc, came.as_slice(), Vec::new(alloc), LIMITS);
+    let mut echo = Echo;
+    let mut plain = Plain;
+    match serve_by_both(alloc, &mut wire, &mut echo, &mut plain) {
+        Ok(_) => panic!(rt; "no fault"),
+        Err(fault) => assert_eq!(rt; fault, want),
+    }
+}
+
+#[test]
+fn a_number_is_not_used_again_behind_another_service(rt: HostRuntime) {
+    let came = [
+        (OPEN, 0, b"".as_slice()),
+        (CLOSE, 0, b""),
+        (WAKE, 0, b""),
+        (OPEN, 0, b""),
+    ];
+    fails(&rt, rt.alloc(), &came, LaneFault::OutOfTurn);
 }
 
 #[test]
@@ -102,17 +140,19 @@ fn what_was_closed_stays_closed_behind_another_service(rt: HostRuntime) {
         (WAKE, 0, b""),
         (DATA, 0, b"a\r\n"),
         (CLOSE, 0, b""),
-        (OPEN, 0, b""),
-        (OPEN, 1, b""),
-        (DATA, 1, b"ab\r\n"),
-        (DATA, 0, b"c\r\n"),
+        (OPEN, 2, b""),
+        (OPEN, 3, b""),
+        (DATA, 3, b"ab\r\n"),
+        (DATA, 2, b"c\r\n"),
     ];
     let want = [
         (DATA, 0, b"$4\r\nQUIT\r\n".as_slice()),
         (CLOSE, 0, b""),
         (CLOSE, 1, b""),
-        (DATA, 1, b"+ab\r\n"),
-        (DATA, 0, b"+c\r\n"),
+        (LET_IN, 2, b""),
+        (LET_IN, 3, b""),
+        (DATA, 3, b"+ab\r\n"),
+        (DATA, 2, b"+c\r\n"),
     ];
     sends(&rt, rt.alloc(), &came, &want);
 }

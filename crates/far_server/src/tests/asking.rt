@@ -66,3 +66,16 @@ fn who_may_ask(rt: HostRuntime) {
         b"-NOAUTH Authentication required.\r\n-NOAUTH Authentication required.\r\n-NOAUTH HELLO must be called with the client already authenticated, otherwise the HELLO <proto> AUTH <user> <pass> option can be used to authenticate the client and select the RESP protocol version at the same time\r\n-WRONGPASS invalid username-password pair or user is disabled.\r\n-WRONGPASS invalid username-password pair or user is disabled.\r\n-WRONGPASS invalid username-password pair or user is disabled.\r\n-NOAUTH Authentication required.\r\n+OK\r\n$-1\r\n+RESET\r\n-NOAUTH Authentication required.\r\n+OK\r\n$-1\r\n";
     replies(&rt, rt.alloc(), settings, asked, want);
 }
+
+#[test]
+fn who_asks_for_much(rt: HostRuntime) {
+    let settings = ServerSettings {
+        password: Some(Sha256::digest(b"secret")),
+        ..settings(1)
+    };
+    let asked =
+        b"MGET 1 2 3 4 5 6 7 8 9\r\nAUTH secret\r\nMGET 1 2 3 4 5 6 7 8 9 10\r\nRESET\r\nMGET 1 2 3 4 5 6 7 8 9 10\r\nPING\r\n";
+    let want =
+        b"-NOAUTH Authentication required.\r\n+OK\r\n*10\r\n$-1\r\n$-1\r\n$-1\r\n$-1\r\n$-1\r\n$-1\r\n$-1\r\n$-1\r\n$-1\r\n$-1\r\n+RESET\r\n-ERR Protocol error: unauthenticated multibulk length\r\n";
+    replies(&rt, rt.alloc(), settings, asked, want);
+}

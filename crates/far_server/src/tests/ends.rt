@@ -3,6 +3,7 @@ use super::pipes::{ends, frames_of, replies, settings};
 use crate::{LaneEnd, OpenFault, ServerSettings};
 use far_map::Settings;
 use lanes::{FrameFault, LaneFault};
+use std::process::Abort;
 
 #[test]
 fn a_value_too_long(rt: HostRuntime) {
@@ -39,6 +40,42 @@ fn no_room_for_what_grows(rt: HostRuntime) {
     let asked = b"SET a 1\r\nGET a\r\nDEL a\r\n";
     let want = b"+OK\r\n$1\r\n1\r\n:1\r\n";
     replies(&rt, rt.alloc(), settings, asked, want);
+}
+
+/// Adds a SET of this key to 5,000 bytes.
+fn push_set(rt: &impl Abort, asked: &mut Vec<u8>, key: &[u8; 1]) {
+    let parts: [&[u8]; 4] = [
+        b"*3\r\n$3\r\nSET\r\n$1\r\n",
+        key,
+        b"\r\n$5000\r\n",
+        &[b'x'; 5_000],
+    ];
+    for part in parts {
+        asked.extend_from_slice(part).expect(rt, "a request");
+    }
+    asked.extend_from_slice(b"\r\n").expect(rt, "a request");
+}
+
+#[test]
+fn memory_alone_refuses_where_no_device_is(rt: HostRuntime) {
+    let settings = ServerSettings {
+        map: Settings {
+            bytes: 4_000,
+            ..Settings::new(1, 8, 1 << 16)
+        },
+        is_far: false,
+        ..settings(1)
+    };
+    let mut asked = Vec::new(rt.alloc());
+    push_set(&rt, &mut asked, b"a");
+    push_set(&rt, &mut asked, b"b");
+    asked
+        .extend_from_slice(b"STRLEN a\r\nDEL a\r\n")
+        .expect(&rt, "requests");
+    push_set(&rt, &mut asked, b"b");
+    let want =
+        b"+OK\r\n-OOM command not allowed when used memory > 'maxmemory'.\r\n:5000\r\n:1\r\n+OK\r\n";
+    replies(&rt, rt.alloc(), settings, asked.as_slice(), want);
 }
 
 #[test]

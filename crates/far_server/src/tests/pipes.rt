@@ -10,6 +10,16 @@ use std::rt::Clock;
 use std::sync::Wait;
 use std::thread::Threads;
 
+/// Bytes of a frame before those that it brings.
+const HEAD: usize = 13;
+
+/// Kinds of frames.
+const DATA: u8 = 0;
+
+const OPEN: u8 = 1;
+
+const CLOSE: u8 = 2;
+
 /// What each lane is given; a lane behind the last has no pipes.
 #[derive(Drop)]
 pub struct Given<'a> {
@@ -46,6 +56,7 @@ pub fn settings(lanes: u32) -> ServerSettings {
         longest_queue: 1_000,
         far_limit: 0,
         password: None,
+        seed: 1,
         options: Options {
             most_memory: 1 << 24,
             evicts: false,
@@ -62,7 +73,7 @@ pub fn settings(lanes: u32) -> ServerSettings {
 pub fn push_frame(rt: &impl Abort, frames: &mut Vec<u8>, kind: u8, data: &[u8]) {
     assert!(rt; data.len() < 65_536);
     frames
-        .extend_from_slice(&[kind, 0, 0, 0, 0])
+        .extend_from_slice(&[kind, 0, 0, 0, 0, 0, 0, 0, 0])
         .expect(rt, "a head");
     let len = (data.len() as u32).to_be_bytes();
     frames.extend_from_slice(&len).expect(rt, "a length");
@@ -72,26 +83,28 @@ pub fn push_frame(rt: &impl Abort, frames: &mut Vec<u8>, kind: u8, data: &[u8]) 
 /// One connection of number 0, which sends this.
 pub fn frames_of(rt: &impl Abort, alloc: Global, requests: &[u8]) -> Vec<u8> {
     let mut frames = Vec::new(alloc);
-    push_frame(rt, &mut frames, 1, b"");
-    push_frame(rt, &mut frames, 0, requests);
-    push_frame(rt, &mut frames, 2, b"");
+    push_frame(rt, &mut frames, OPEN, b"");
+    push_frame(rt, &mut frames, DATA, requests);
+    push_frame(rt, &mut frames, CLOSE, b"");
     frames
 }
 
-/// The data of frames that have fewer than 2^16 bytes each.
+/// The bytes of the frames of data, which have fewer than 2^16 each.
 fn data_of(rt: &impl Abort, alloc: Global, frames: &[u8]) -> Vec<u8> {
     let mut data = Vec::new(alloc);
     let mut rest = frames;
     for _ in 0..frames.len() {
-        if rest.len() < 9 {
+        if rest.len() < HEAD {
             break;
         }
-        let len = usize::from(rest[7]) * 256 + usize::from(rest[8]);
-        let body = &rest[9..];
+        let len = usize::from(rest[HEAD - 2]) * 256 + usize::from(rest[HEAD - 1]);
+        let body = &rest[HEAD..];
         if body.len() < len {
             break;
         }
-        data.extend_from_slice(&body[..len]).expect(rt, "data");
+        if rest[0] == DATA {
+            data.extend_from_slice(&body[..len]).expect(rt, "data");
+        }
         rest = &body[len..];
     }
     data

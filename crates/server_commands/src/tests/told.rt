@@ -15,7 +15,7 @@ const MEMORY: &str =
     "# Memory used_memory:917184 used_memory_human:895.69K maxmemory:268435456 maxmemory_human:256.00M maxmemory_policy:allkeys-random ";
 
 const STATS: &str =
-    "# Stats total_connections_received:12 total_commands_processed:1234567 expired_keys:5 evicted_keys:6 keyspace_hits:70 keyspace_misses:30 rejected:33 ";
+    "# Stats total_connections_received:12 total_commands_processed:1234567 rejected_connections:19 expired_keys:5 evicted_keys:6 keyspace_hits:70 keyspace_misses:30 rejected:33 ";
 
 const KEYSPACE: &str = "# Keyspace db0:keys=1000,expires=0,avg_ttl=0 ";
 

@@ -24,7 +24,7 @@ returns-in-Err-clause-done g c =
     let before = c.args.reply.now.items in
     let len : c.len-before.result ≡ length before = search in
     on_ok c.fail-in-Err.result (λ is. (
-      Failure (text_of c.in-Err.why),
+      Failure (text_of c.told_as-why.result),
       is ∙ (ap (λ (l : List ℕ). l ++ token (Failure c.text_of.result.now)) (cut c.len-before.result before e.0 c.try_key.new.reply.items len e.1) ∙ ap (λ (t : List ℕ). before ++ token (Failure t)) c.text_of.ensures),
-      (e.2.0, e.2.1, inr (inl (c.in-Err.why, e.2.2, refl))),
+      (e.2.0, e.2.1, inr (inl (c.in-Err.why, c.told_as-why.result, e.2.2, c.told_as-why.ensures.told, refl))),
     )) c.fail-in-Err.ensures.done

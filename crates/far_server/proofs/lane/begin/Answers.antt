@@ -15,7 +15,7 @@ returns g c =
     let Opens = g.P.Pipes.opens c.args.pipes.now c.args.around.now.lane in
     let settings = c.args.around.now.settings.now in
     let old = g.S.Calls.shown c.args.me.now in
-    let left : LeftView _ _ = record { wire = c.new-wire.result; views = c.none-holds.result; connections = c.new-kept.result.connections.items } in
+    let left : LeftView _ _ = record { wire = c.new-wire.result; views = c.none-holds.result; connections = c.new-kept.result.connections.entries } in
     serves_so remaining contents Opens g.S.Calls.limits settings old (g.S.Calls.shown c.serve.new.me) state.Fresh left
     (fresh_begins remaining contents Opens settings.requests left c.in-Ok.both.0 c.in-Ok.both.1 c.in-Ok.ensures c.new-wire.ensures.parts c.new-wire.ensures.limits c.none-holds.ensures c.new-wire.ensures.nothing)
     (λ n. ap (λ (cs : List _). (lane_of settings.password old cs).connections n) c.new-kept.ensures) c.serve.result c.serve.ensures

@@ -1,4 +1,4 @@
-use Rattle.std.proofs.Common.{◌≡◌, List, Ok, refl, sym, ap, subst, ◌∙◌}
+use Rattle.std.proofs.Common.{◌≡◌, ℕ, List, Ok, refl, sym, ap, subst, ◌∙◌}
 use Rattle.lanes.specs.Frames.{WireTells}
 use Rattle.lanes.specs.Standing.{GoesOnBy}
 use Rattle.far_server.specs.declared.around.Around.{Around}
@@ -17,7 +17,7 @@ invariant_of-result g c =
     let done = c.serve_frames.new.server in
     let password = made.around.now.settings.now.password in
     still_stood g.I.Read.remaining g.O.Write.contents (Acts g.S.Calls.limits password made.around.now.settings.now.longest_value) c.left.inside.wire c.serve_frames.new.wire
-    (lane_of password (g.S.Calls.shown made.me.now) made.kept.connections.items) (lane_of password (g.S.Calls.shown done.me.now) done.kept.connections.items)
+    (lane_of password (g.S.Calls.shown made.me.now) made.kept.connections.entries) (lane_of password (g.S.Calls.shown done.me.now) done.kept.connections.entries)
     c.left.inside.holds _ c.in-Ok.ensures.limits c.left.invariant c.in-Ok.ensures.went_on
 
 -- the server's steps as a lane's
@@ -32,18 +32,18 @@ returns-in-Wake g c =
     let inside = c.left.inside in
     let wire = c.serve_frames.new.wire in
     let last : c.me-1.given.0 ≡ c.finish-kept.new.self.0 = c.me-1.given.1 (sym (c.in-Ok.ensures.same_reference ∙ c.new-server.ensures.same_reference)) in
-    let y : Lane = lane_of password (g.S.Calls.shown done.me.now) done.kept.connections.items in
+    let y : Lane = lane_of password (g.S.Calls.shown done.me.now) done.kept.connections.entries in
     let T = WireTells g.I.Read.remaining g.O.Write.contents in
     let A : Around _ _ → Type 0 = λ a. GoesOnBy T (Acts g.S.Calls.limits a.settings.now.password a.settings.now.longest_value) inside.wire.limits inside.wire wire
-    (lane_of a.settings.now.password (g.S.Calls.shown made.me.now) made.kept.connections.items) (lane_of a.settings.now.password (g.S.Calls.shown done.me.now) done.kept.connections.items) inside.holds c.in-Ok.holds in
-    let M : g.row.S.Denot → Type 0 = λ m. GoesOnBy T (Acts g.S.Calls.limits password most) inside.wire.limits inside.wire wire (lane_of password (g.S.Calls.shown m) made.kept.connections.items) y inside.holds c.in-Ok.holds in
-    let K : List Connection → Type 0 = λ cs. GoesOnBy T (Acts g.S.Calls.limits password most) inside.wire.limits inside.wire wire (lane_of password old cs) y inside.holds c.in-Ok.holds in
+    (lane_of a.settings.now.password (g.S.Calls.shown made.me.now) made.kept.connections.entries) (lane_of a.settings.now.password (g.S.Calls.shown done.me.now) done.kept.connections.entries) inside.holds c.in-Ok.holds in
+    let M : g.row.S.Denot → Type 0 = λ m. GoesOnBy T (Acts g.S.Calls.limits password most) inside.wire.limits inside.wire wire (lane_of password (g.S.Calls.shown m) made.kept.connections.entries) y inside.holds c.in-Ok.holds in
+    let K : List (ℕ × Connection) → Type 0 = λ cs. GoesOnBy T (Acts g.S.Calls.limits password most) inside.wire.limits inside.wire wire (lane_of password old cs) y inside.holds c.in-Ok.holds in
     let goes = subst K c.new-server.ensures.connections (subst M c.new-server.ensures.session (subst A c.new-server.ensures.around c.in-Ok.ensures.went_on)) in
-    let left : LeftView _ _ = record { wire = inside.wire; views = inside.holds; connections = inside.kept.connections.items } in
-    let after : LeftView _ _ = record { wire = wire; views = c.in-Ok.holds; connections = c.finish-kept.result.connections.items } in
+    let left : LeftView _ _ = record { wire = inside.wire; views = inside.holds; connections = inside.kept.connections.entries } in
+    let after : LeftView _ _ = record { wire = wire; views = c.in-Ok.holds; connections = c.finish-kept.result.connections.entries } in
     let L : LeftView _ _ → Type 0 = λ v. GoesOn g.I.Read.remaining g.O.Write.contents g.S.Calls.limits password most old (g.S.Calls.shown c.me-1.given.0) v (state.Left after) in
     subst L c.left.view_is (leaves_so g.I.Read.remaining g.O.Write.contents g.S.Calls.limits password most old (g.S.Calls.shown c.me-1.given.0) left wire c.in-Ok.holds y (ap g.S.Calls.shown (sym (last ∙ c.finish-kept.ensures.session))) goes
-    after refl refl (ap (λ k. lane_of password (g.S.Calls.shown done.me.now) k.connections.items) (sym c.finish-kept.ensures.kept)) c.in-Ok.ensures.limits)
+    after refl refl (ap (λ k. lane_of password (g.S.Calls.shown done.me.now) k.connections.entries) (sym c.finish-kept.ensures.kept)) c.in-Ok.ensures.limits)
 
 pub returns-in-End : goal.returns-in-End
 returns-in-End g c =
@@ -56,14 +56,14 @@ returns-in-End g c =
     let inside = c.left.inside in
     let wire = c.serve_frames.new.wire in
     let last : c.me-1.given.0 ≡ c.finish-kept.new.self.0 = c.me-1.given.1 (sym (c.in-Ok.ensures.same_reference ∙ c.new-server.ensures.same_reference)) in
-    let y : Lane = lane_of password (g.S.Calls.shown done.me.now) done.kept.connections.items in
+    let y : Lane = lane_of password (g.S.Calls.shown done.me.now) done.kept.connections.entries in
     let T = WireTells g.I.Read.remaining g.O.Write.contents in
     let A : Around _ _ → Type 0 = λ a. GoesOnBy T (Acts g.S.Calls.limits a.settings.now.password a.settings.now.longest_value) inside.wire.limits inside.wire wire
-    (lane_of a.settings.now.password (g.S.Calls.shown made.me.now) made.kept.connections.items) (lane_of a.settings.now.password (g.S.Calls.shown done.me.now) done.kept.connections.items) inside.holds c.in-Ok.holds in
-    let M : g.row.S.Denot → Type 0 = λ m. GoesOnBy T (Acts g.S.Calls.limits password most) inside.wire.limits inside.wire wire (lane_of password (g.S.Calls.shown m) made.kept.connections.items) y inside.holds c.in-Ok.holds in
-    let K : List Connection → Type 0 = λ cs. GoesOnBy T (Acts g.S.Calls.limits password most) inside.wire.limits inside.wire wire (lane_of password old cs) y inside.holds c.in-Ok.holds in
+    (lane_of a.settings.now.password (g.S.Calls.shown made.me.now) made.kept.connections.entries) (lane_of a.settings.now.password (g.S.Calls.shown done.me.now) done.kept.connections.entries) inside.holds c.in-Ok.holds in
+    let M : g.row.S.Denot → Type 0 = λ m. GoesOnBy T (Acts g.S.Calls.limits password most) inside.wire.limits inside.wire wire (lane_of password (g.S.Calls.shown m) made.kept.connections.entries) y inside.holds c.in-Ok.holds in
+    let K : List (ℕ × Connection) → Type 0 = λ cs. GoesOnBy T (Acts g.S.Calls.limits password most) inside.wire.limits inside.wire wire (lane_of password old cs) y inside.holds c.in-Ok.holds in
     let goes = subst K c.new-server.ensures.connections (subst M c.new-server.ensures.session (subst A c.new-server.ensures.around c.in-Ok.ensures.went_on)) in
-    let left : LeftView _ _ = record { wire = inside.wire; views = inside.holds; connections = inside.kept.connections.items } in
+    let left : LeftView _ _ = record { wire = inside.wire; views = inside.holds; connections = inside.kept.connections.entries } in
     let L : LeftView _ _ → Type 0 = λ v. GoesOn g.I.Read.remaining g.O.Write.contents g.S.Calls.limits password most old (g.S.Calls.shown c.me-1.given.0) v (state.Ended (worker_end.Lane (Ok c.into_parts.result))) in
     subst L c.left.view_is (ends_so g.I.Read.remaining g.O.Write.contents g.S.Calls.limits password most old (g.S.Calls.shown c.me-1.given.0) left wire c.in-Ok.holds y (ap g.S.Calls.shown (sym (last ∙ c.finish-kept.ensures.session))) goes
     c.into_parts.result.0 c.into_parts.result.1 c.in-Ok.ensures.whole c.into_parts.ensures.0 c.into_parts.ensures.1)

@@ -11,7 +11,7 @@ use Rattle.far_server.proofs.lane.serve_frames.Goals as goal
 pub returns-clause-same_reference : goal.returns-clause-same_reference
 returns-clause-same_reference g c =
     let X : Type 0 = Server g.row.S.Denot g.row.C.Denot g.row.R.Denot Kept g.row.S-Held.Denot in
-    let L : Around _ _ → X → Lane = λ a x. lane_of a.settings.now.password (g.S.Calls.shown x.me.now) x.kept.connections.items in
+    let L : Around _ _ → X → Lane = λ a x. lane_of a.settings.now.password (g.S.Calls.shown x.me.now) x.kept.connections.entries in
     let D : X → Call → X → Type 0 = λ s call t. (t.me.ghost_name ≡ s.me.ghost_name) × (t.around.now ≡ s.around.now)
     × Acts g.S.Calls.limits s.around.now.settings.now.password s.around.now.settings.now.longest_value (L s.around.now s) call (L s.around.now t) in
     let stood = c.requires in
@@ -22,7 +22,7 @@ returns-clause-same_reference g c =
 pub returns-clause-went_on : goal.returns-clause-went_on
 returns-clause-went_on g c =
     let X : Type 0 = Server g.row.S.Denot g.row.C.Denot g.row.R.Denot Kept g.row.S-Held.Denot in
-    let L : Around _ _ → X → Lane = λ a x. lane_of a.settings.now.password (g.S.Calls.shown x.me.now) x.kept.connections.items in
+    let L : Around _ _ → X → Lane = λ a x. lane_of a.settings.now.password (g.S.Calls.shown x.me.now) x.kept.connections.entries in
     let D : X → Call → X → Type 0 = λ s call t. (t.me.ghost_name ≡ s.me.ghost_name) × (t.around.now ≡ s.around.now)
     × Acts g.S.Calls.limits s.around.now.settings.now.password s.around.now.settings.now.longest_value (L s.around.now s) call (L s.around.now t) in
     let around = c.args.server.now.around.now in

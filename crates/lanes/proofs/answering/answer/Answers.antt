@@ -1,4 +1,4 @@
-use Rattle.std.proofs.Common.{ℕ, List, [], drop, sym, subst, append-nil}
+use Rattle.std.proofs.Common.{ℕ, List, [], drop, sym, subst}
 use Rattle.lanes.specs.declared.answering.Turned.{Turned}
 use Rattle.lanes.specs.Lanes.{IsOver}
 use Rattle.lanes.specs.Slots.{IsAnswered, Replaces}
@@ -17,7 +17,7 @@ pub returns-in-Err-put-clause-begun : goal.returns-in-Err-put-clause-begun
 returns-in-Err-put-clause-begun g c =
     λ start x past slots entered.
     let E : List ℕ → Type 0 = λ l. Turns (IsAnswered c.args.limits c.args.bytes.now) g.D.Duplex.tells g.S.Service.does c.args.limits past c.args.connection start c.args.duplex.now x c.args.service.now slots l in
-    answers_faulty g.D.Duplex.tells g.S.Service.does c.args.limits past c.args.connection start c.answer_all.new.duplex c.put.new.duplex x c.answer_all.new.service slots c.args.bytes.now c.answer_all.new.out.items c.in-Ok.turned (λ came sent told. c.in-Err-put.ensures.failed start came sent told) (c.in-Ok.ensures.answered start x past slots (subst E (sym c.requires) entered))
+    answers_faulty g.D.Duplex.tells g.S.Service.does c.args.limits past c.args.connection start c.answer_all.new.duplex c.put.new.duplex x c.answer_all.new.service slots c.args.bytes.now c.answer_all.new.out.items c.in-Err-put.ensures.part.0 c.in-Ok.turned c.in-Err-put.ensures.part.1 (c.in-Ok.ensures.answered start x past slots (subst E (sym c.requires) entered))
 
 pub returns-in-Holds-clause-stands : goal.returns-in-Holds-clause-stands
 returns-in-Holds-clause-stands g c =
@@ -28,7 +28,7 @@ returns-in-Holds-clause-stands g c =
     let A : Turned → Type 0 = λ t. AnswersSo g.D.Duplex.tells g.S.Service.does c.args.limits past c.args.connection start c.answer_all.new.duplex x c.answer_all.new.service slots c.args.bytes.now out t in
     let h = subst A c.in-Holds.is (c.in-Ok.ensures.answered start x past slots (subst E (sym c.requires) entered)) in
     let wrote = c.in-Ok-put.ensures.put start h.2.came h.2.sent h.2.told in
-    let t = turn_wrote (IsAnswered c.args.limits rest) g.D.Duplex.tells g.S.Service.does c.args.limits past c.args.connection start c.answer_all.new.duplex c.put.new.duplex x c.answer_all.new.service slots out out [] (sym (append-nil out)) h.2 wrote.0 wrote.1 wrote.2 in
+    let t = turn_wrote (IsAnswered c.args.limits rest) g.D.Duplex.tells g.S.Service.does c.args.limits past c.args.connection start c.answer_all.new.duplex c.put.new.duplex x c.answer_all.new.service slots out wrote.1 [] wrote.4 h.2 wrote.0 wrote.2 wrote.3 in
     let R : Turned → Type 0 = λ t. Replaces c.args.connection (seen_after c.args.bytes.now t) slots after in
     stands_held g.D.Duplex.tells g.S.Service.does c.args.limits past c.args.connection start c.put.new.duplex x c.answer_all.new.service slots after rest c.in-Holds.wanted h.1 t (subst R c.in-Holds.is r)
 
@@ -41,7 +41,7 @@ returns-in-Holds-clause-begun g c =
     let A : Turned → Type 0 = λ t. AnswersSo g.D.Duplex.tells g.S.Service.does c.args.limits past c.args.connection start c.answer_all.new.duplex x c.answer_all.new.service slots c.args.bytes.now out t in
     let h = subst A c.in-Holds.is (c.in-Ok.ensures.answered start x past slots (subst E (sym c.requires) entered)) in
     let wrote = c.in-Ok-put.ensures.put start h.2.came h.2.sent h.2.told in
-    let t = turn_wrote (IsAnswered c.args.limits rest) g.D.Duplex.tells g.S.Service.does c.args.limits past c.args.connection start c.answer_all.new.duplex c.put.new.duplex x c.answer_all.new.service slots out out [] (sym (append-nil out)) h.2 wrote.0 wrote.1 wrote.2 in
+    let t = turn_wrote (IsAnswered c.args.limits rest) g.D.Duplex.tells g.S.Service.does c.args.limits past c.args.connection start c.answer_all.new.duplex c.put.new.duplex x c.answer_all.new.service slots out wrote.1 [] wrote.4 h.2 wrote.0 wrote.2 wrote.3 in
     turn_faulty (IsAnswered c.args.limits rest) g.D.Duplex.tells g.S.Service.does c.args.limits past c.args.connection start c.put.new.duplex c.put.new.duplex x c.answer_all.new.service slots [] (begun_answered c.args.limits rest) t t.told
 
 pub returns-in-Ok-leave-clause-stands : goal.returns-in-Ok-leave-clause-stands
@@ -52,9 +52,9 @@ returns-in-Ok-leave-clause-stands g c =
     let A : Turned → Type 0 = λ t. AnswersSo g.D.Duplex.tells g.S.Service.does c.args.limits past c.args.connection start c.answer_all.new.duplex x c.answer_all.new.service slots c.args.bytes.now out t in
     let h = subst A c.in-Closes.is (c.in-Ok.ensures.answered start x past slots (subst E (sym c.requires) entered)) in
     let wrote = c.in-Ok-put.ensures.put start h.came h.sent h.told in
-    let t = turn_wrote (IsOver c.args.limits) g.D.Duplex.tells g.S.Service.does c.args.limits past c.args.connection start c.answer_all.new.duplex c.put.new.duplex x c.answer_all.new.service slots out out [] (sym (append-nil out)) h wrote.0 wrote.1 wrote.2 in
+    let t = turn_wrote (IsOver c.args.limits) g.D.Duplex.tells g.S.Service.does c.args.limits past c.args.connection start c.answer_all.new.duplex c.put.new.duplex x c.answer_all.new.service slots out wrote.1 [] wrote.4 h wrote.0 wrote.2 wrote.3 in
     let R : Turned → Type 0 = λ t. Replaces c.args.connection (seen_after c.args.bytes.now t) slots after in
-    stands_shut g.D.Duplex.tells g.S.Service.does c.args.limits past c.args.connection start c.put.new.duplex c.leave.new.duplex x c.answer_all.new.service c.leave.new.service slots after [] 0 t c.in-Ok-leave.ensures.left.0 (c.in-Ok-leave.ensures.left.1 start t.came t.sent t.told) (subst R c.in-Closes.is r)
+    stands_shut g.D.Duplex.tells g.S.Service.does c.args.limits past c.args.connection start c.put.new.duplex c.leave.new.duplex x c.answer_all.new.service c.leave.new.service slots after t c.in-Ok-leave.ensures.left.0 (c.in-Ok-leave.ensures.left.1 start t.came t.sent t.told) (subst R c.in-Closes.is r)
 
 pub returns-in-Ok-leave-clause-begun : goal.returns-in-Ok-leave-clause-begun
 returns-in-Ok-leave-clause-begun g c =
@@ -64,7 +64,7 @@ returns-in-Ok-leave-clause-begun g c =
     let A : Turned → Type 0 = λ t. AnswersSo g.D.Duplex.tells g.S.Service.does c.args.limits past c.args.connection start c.answer_all.new.duplex x c.answer_all.new.service slots c.args.bytes.now out t in
     let h = subst A c.in-Closes.is (c.in-Ok.ensures.answered start x past slots (subst E (sym c.requires) entered)) in
     let wrote = c.in-Ok-put.ensures.put start h.came h.sent h.told in
-    let t = turn_wrote (IsOver c.args.limits) g.D.Duplex.tells g.S.Service.does c.args.limits past c.args.connection start c.answer_all.new.duplex c.put.new.duplex x c.answer_all.new.service slots out out [] (sym (append-nil out)) h wrote.0 wrote.1 wrote.2 in
+    let t = turn_wrote (IsOver c.args.limits) g.D.Duplex.tells g.S.Service.does c.args.limits past c.args.connection start c.answer_all.new.duplex c.put.new.duplex x c.answer_all.new.service slots out wrote.1 [] wrote.4 h wrote.0 wrote.2 wrote.3 in
     shut_faulty g.D.Duplex.tells g.S.Service.does c.args.limits past c.args.connection start c.put.new.duplex c.leave.new.duplex x c.answer_all.new.service slots t (c.in-Ok-leave.ensures.left.1 start t.came t.sent t.told)
 
 pub returns-in-Err-leave-clause-begun : goal.returns-in-Err-leave-clause-begun
@@ -75,5 +75,5 @@ returns-in-Err-leave-clause-begun g c =
     let A : Turned → Type 0 = λ t. AnswersSo g.D.Duplex.tells g.S.Service.does c.args.limits past c.args.connection start c.answer_all.new.duplex x c.answer_all.new.service slots c.args.bytes.now out t in
     let h = subst A c.in-Closes.is (c.in-Ok.ensures.answered start x past slots (subst E (sym c.requires) entered)) in
     let wrote = c.in-Ok-put.ensures.put start h.came h.sent h.told in
-    let t = turn_wrote (IsOver c.args.limits) g.D.Duplex.tells g.S.Service.does c.args.limits past c.args.connection start c.answer_all.new.duplex c.put.new.duplex x c.answer_all.new.service slots out out [] (sym (append-nil out)) h wrote.0 wrote.1 wrote.2 in
+    let t = turn_wrote (IsOver c.args.limits) g.D.Duplex.tells g.S.Service.does c.args.limits past c.args.connection start c.answer_all.new.duplex c.put.new.duplex x c.answer_all.new.service slots out wrote.1 [] wrote.4 h wrote.0 wrote.2 wrote.3 in
     turn_faulty (IsOver c.args.limits) g.D.Duplex.tells g.S.Service.does c.args.limits past c.args.connection start c.put.new.duplex c.leave.new.duplex x c.answer_all.new.service slots [] (begun_closed c.args.limits) t (c.in-Err-leave.ensures.failed start t.came t.sent t.told)

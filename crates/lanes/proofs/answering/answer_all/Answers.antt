@@ -12,6 +12,7 @@ use Rattle.lanes.specs.Slots.{IsAnswered}
 use Rattle.lanes.specs.Turns.{Turns, Takes, TakesWhole, goes_on}
 use Rattle.lanes.proofs.Closing.{begun_answered}
 use Rattle.lanes.proofs.Turning.{turn_more, turn_last, turn_bad, turn_wrote, turn_faulty, begun_rest, not_end, is_end}
+use Rattle.lanes.proofs.Sending.{whole_faulty}
 use Rattle.lanes.proofs.answering.answer_all.Goals as goal
 
 pub requests-preserved : goal.requests-preserved
@@ -86,10 +87,17 @@ returns-in-Ok-Short-clause-answered g c =
 
 pub returns-in-Err-go_on-clause-begun : goal.returns-in-Err-go_on-clause-begun
 returns-in-Err-go_on-clause-begun g c =
+    let bytes = c.args.bytes.now in
+    let at = c.requests.at in
+    let out = c.requests.out.items in
+    let made = c.take_one.new.out.items in
+    let n = c.in-Ok-Whole.consumed in
+    let P : Taken → Type 0 = λ t. Takes g.S.Service.does c.args.limits c.args.connection c.requests.service c.take_one.new.service (take (length bytes - at) (drop at bytes)) out made t in
+    let L : List ℕ → Type 0 = λ l. TakesWhole g.S.Service.does c.args.limits c.args.connection c.requests.service c.take_one.new.service l n c.in-Ok-Whole.next out made in
+    let w : TakesWhole g.S.Service.does c.args.limits c.args.connection c.requests.service c.take_one.new.service (drop at bytes) n c.in-Ok-Whole.next out made = subst L (take_rest bytes at) (subst P c.in-Ok-Whole.field-0-is c.in-Ok-Whole.ensures) in
     λ start x past slots entered.
     let t = c.requests.invariant.turns start x past slots entered in
-    let rest = drop c.requests.at c.args.bytes.now in
-    turn_faulty (IsAnswered c.args.limits rest) g.D.Duplex.tells g.S.Service.does c.args.limits past c.args.connection start c.requests.duplex c.go_on.new.duplex x c.requests.service slots c.requests.out.items (begun_answered c.args.limits rest) t (c.in-Err-go_on.ensures.failed start t.came t.sent t.told)
+    whole_faulty g.D.Duplex.tells g.S.Service.does c.args.limits past c.args.connection start c.requests.duplex c.go_on.new.duplex x c.requests.service c.take_one.new.service slots bytes out made c.in-Err-go_on.ensures.part.0 at n c.in-Ok-Whole.next w t c.in-Err-go_on.ensures.part.1
 
 pub returns-in-Ok-Bad-clause-answered : goal.returns-in-Ok-Bad-clause-answered
 returns-in-Ok-Bad-clause-answered g c =

@@ -1,12 +1,9 @@
-use Rattle.std.proofs.Common.{List, ℕ, ◌++◌, ◌∷◌, [], subst}
-use Rattle.lanes.specs.declared.frame.Kind.TheVariants.{Data}
-use Rattle.lanes.proofs.Turning.{says_data}
+use Rattle.std.proofs.Common.{ℕ, List, subst}
+use Rattle.lanes.specs.Turns.{Sends}
+use Rattle.lanes.proofs.Known.{on_err}
 use Rattle.lanes.proofs.answering.put.Goals as goal
 
-pub returns-in-Ok-clause-put : goal.returns-in-Ok-clause-put
-returns-in-Ok-clause-put g c =
-    let k = c.args.connection in
-    let out = c.args.out.now.items in
-    λ start came sent told.
-    let B : List ℕ → Type 0 = λ l. g.D.Duplex.tells start c.write.new.self came (sent ++ record { head = record { kind = Data; connection = k }; bytes = l } ∷ []) in
-    (sent ++ record { head = record { kind = Data; connection = k }; bytes = out } ∷ [], subst B c.as_slice.ensures.value (c.in-Ok.ensures.sent start came sent told), says_data k out sent)
+pub returns-in_err-put_pieces-clause-part : goal.returns-in_err-put_pieces-clause-part
+returns-in_err-put_pieces-clause-part g c =
+    let P : List ℕ → Type 0 = λ l. (rest : List ℕ) × Sends g.D.Duplex.tells c.args.connection c.args.duplex.now c.put_pieces.new.duplex l rest in
+    on_err _ _ (subst P c.as_slice.ensures.value c.in_err-put_pieces.ensures.part)

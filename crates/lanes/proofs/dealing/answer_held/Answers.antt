@@ -1,6 +1,6 @@
-use Rattle.std.proofs.Common.{◌≡◌, ◌≤◌, ℕ, false, List, [], length, drop, sym, ap, ◌∙◌, subst, arith, rules}
+use Rattle.std.proofs.Common.{◌≡◌, ◌≤◌, ℕ, List, [], length, drop, sym, ap, ◌∙◌, subst, arith, rules}
 use Rattle.lanes.specs.declared.answering.Turned.{Turned}
-use Rattle.lanes.specs.Slots.{Seen, Replaces, IsAnswered}
+use Rattle.lanes.specs.Slots.{Runs, Replaces, IsAnswered}
 use Rattle.lanes.specs.Turns.{Turns, IsWithin, seen_after}
 use Rattle.lanes.proofs.Seeing.{placed}
 use Rattle.lanes.proofs.dealing.answer_held.Goals as goal
@@ -17,11 +17,11 @@ returns-in-Ok-clause-stands g c =
     let T = λ (l : List ℕ). Turns (IsAnswered c.args.limits l) g.D.Duplex.tells g.S.Service.does c.args.limits past c.args.connection start c.args.duplex.now x c.args.service.now before [] in
     let e = subst T (sym c.as_slice.ensures.value) entered in
     let at = c.in-Ok-Holds.at in
-    let after = c.set_slot.new.slots.items in
+    let after = c.set_slot.new.slots in
     let R : Turned → Type 0 = λ t. Replaces c.args.connection (seen_after c.as_slice.result.now t) before after in
     let is : c.in-Ok.rest.items ≡ drop at c.as_slice.result.now = c.in-Ok.ensures ∙ ap (drop at) (sym c.as_slice.ensures.value) in
-    let same = ap {A = List ℕ} {B = Seen} (λ l. record { over = false; held = l; wanted = c.in-Ok-Holds.wanted }) is in
-    c.in-Ok-Holds.ensures.stands start x past before after e (subst R (sym c.in-Ok-Holds.field-0-is) (placed c.args.connection _ _ before c.args.slots.now.items after others c.set_slot.ensures same))
+    let same = ap (λ (l : List ℕ). Runs l c.in-Ok-Holds.wanted) is in
+    c.in-Ok-Holds.ensures.stands start x past before after e (subst R (sym c.in-Ok-Holds.field-0-is) (placed c.args.connection _ _ before c.args.slots.now after others c.set_slot.ensures same))
 
 pub returns-in-Ok-clause-begun : goal.returns-in-Ok-clause-begun
 returns-in-Ok-clause-begun g c =
@@ -42,9 +42,9 @@ returns-in-Ok-Closes-clause-stands g c =
     λ start x past before entered others.
     let T = λ (l : List ℕ). Turns (IsAnswered c.args.limits l) g.D.Duplex.tells g.S.Service.does c.args.limits past c.args.connection start c.args.duplex.now x c.args.service.now before [] in
     let e = subst T (sym c.as_slice.ensures.value) entered in
-    let after = c.set_slot-in-Ok-Closes.new.slots.items in
+    let after = c.set_slot-in-Ok-Closes.new.slots in
     let R : Turned → Type 0 = λ t. Replaces c.args.connection (seen_after c.as_slice.result.now t) before after in
-    c.in-Ok-Closes.ensures.stands start x past before after e (subst R (sym c.in-Ok-Closes.field-0-is) (placed c.args.connection _ _ before c.args.slots.now.items after others c.set_slot-in-Ok-Closes.ensures c.new.ensures))
+    c.in-Ok-Closes.ensures.stands start x past before after e (subst R (sym c.in-Ok-Closes.field-0-is) (placed c.args.connection _ _ before c.args.slots.now after others c.set_slot-in-Ok-Closes.ensures c.new.ensures))
 
 pub returns-in-Ok-Closes-clause-begun : goal.returns-in-Ok-Closes-clause-begun
 returns-in-Ok-Closes-clause-begun g c =

@@ -1,5 +1,5 @@
 use Rattle.std.proofs.Common.{[], ◌∷◌}
-use Rattle.lanes.proofs.Known.{on_err, appends_then, appends_of_keeps}
+use Rattle.lanes.proofs.Known.{on_err, appends_then, appends_of_keeps, frame_written}
 use Rattle.lanes.proofs.putting.write_frame.Goals as goal
 
 pub returns-in_err-put_all-2-clause-part : goal.returns-in_err-put_all-2-clause-part
@@ -24,3 +24,6 @@ returns-in-Err-clause-part g c =
     (appends_then (g.W.Write.contents c.put_all-2.new.output) (g.W.Write.contents c.put_all-3.new.output) (g.W.Write.contents c.flush.new.self) c.to_be_bytes-2.result c.in_ok-put_all-3.ensures.put
     (appends_then (g.W.Write.contents c.put_all-3.new.output) (g.W.Write.contents c.put_all-4.new.output) (g.W.Write.contents c.flush.new.self) c.args.bytes.now c.in_ok-put_all-4.ensures.put
     ([], appends_of_keeps (g.W.Write.contents c.put_all-4.new.output) (g.W.Write.contents c.flush.new.self) c.flush.ensures.bytes))))
+
+pub returns-in-Ok-clause-put : goal.returns-in-Ok-clause-put
+returns-in-Ok-clause-put g c = frame_written (g.W.Write.contents c.args.output.now) (g.W.Write.contents c.put_all.new.output) (g.W.Write.contents c.put_all-2.new.output) (g.W.Write.contents c.put_all-3.new.output) (g.W.Write.contents c.put_all-4.new.output) (g.W.Write.contents c.flush.new.self) c.args.head c.args.bytes.now c.byte_of.result c.to_be_bytes.result c.to_be_bytes-2.result c.in_ok-put_all.ensures.put c.in_ok-put_all-2.ensures.put c.in_ok-put_all-3.ensures.put c.in_ok-put_all-4.ensures.put c.flush.ensures.bytes c.byte_of.ensures c.to_be_bytes.ensures c.to_be_bytes-2.ensures

@@ -1,14 +1,8 @@
-use Rattle.std.proofs.Common.{◌≡◌, ◌<◌, get_or, length, sym, ap, arith, rules}
-use Rattle.lanes.specs.declared.slots.State.TheVariants.{Running}
-use Rattle.lanes.specs.Slots.{seen, is_over}
-use Rattle.lanes.proofs.Seeing.{set_same}
+use Rattle.std.proofs.Common.{◌≤◌, ◌+◌, refl, sym, ◌∙◌, arith, rules}
+use Rattle.lanes.proofs.Seeing.{found_passed}
 use Rattle.lanes.proofs.slots.open.Goals as goal
 
-pub returns-in-Free : goal.returns-in-Free
-returns-in-Free c =
-    let slot = c.index_mut-slot.result.now in
-    let slots = c.args.slots.now.items in
-    let value : slot ≡ get_or slots c.args.connection slot = c.index_mut-slot.ensures.value in
-    let within : c.args.connection < length slots = first_of (search rules, omega arith) in
-    let same : seen (record { state = Running; held = slot.held; wanted = slot.wanted }) ≡ seen slot = ap (λ s. record { over = is_over s; held = slot.held.items; wanted = slot.wanted }) (sym c.in-Free.is) in
-    set_same slots c.args.connection slot (record { state = Running; held = slot.held; wanted = slot.wanted }) within value same
+pub returns-in-Ok-None-clause-same : goal.returns-in-Ok-None-clause-same
+returns-in-Ok-None-clause-same c =
+    let above : c.args.slots.now.next ≤ c.args.connection = first_of (search rules, omega arith) in
+    found_passed c.args.connection c.args.slots.now (record { map = c.insert.new.self; next = c.args.connection + 1 }) c.new.result c.in-Ok-None.ensures.updates.1 c.in-Ok-None.ensures.updates.2 (sym c.in-Ok-None.ensures.old ∙ c.in-Ok-None.field-0-is) c.new.ensures above refl

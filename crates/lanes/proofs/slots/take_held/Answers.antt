@@ -1,9 +1,9 @@
-use Rattle.std.proofs.Common.{◌<◌, length, rules, arith}
-use Rattle.lanes.proofs.Seeing.{set_replaces}
+use Rattle.std.proofs.Common.{sym, ap, ◌∙◌}
+use Rattle.lanes.specs.Slots.{state_of}
+use Rattle.lanes.proofs.Seeing.{slot_runs}
 use Rattle.lanes.proofs.slots.take_held.Goals as goal
 
-pub returns-clause-others : goal.returns-clause-others
-returns-clause-others c =
-    let slot = c.index_mut-slot.result.now in
-    let within : c.args.connection < length c.args.slots.now.items = first_of (search rules, omega arith) in
-    (set_replaces c.args.slots.now.items c.args.connection (record { state = slot.state; held = c.replace-held.new.dest; wanted = slot.wanted }) within).others
+pub returns-clause-held : goal.returns-clause-held
+returns-clause-held c =
+    let old = c.replace_slot-held.ensures.old in
+    λ is. sym old ∙ slot_runs c.replace_slot-held.result (ap state_of old ∙ is)

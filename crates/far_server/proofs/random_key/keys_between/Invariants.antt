@@ -1,5 +1,5 @@
 use Rattle.version_words.specs.Views.{Goes}
-use Rattle.far_server.proofs.visiting.find_between.Given as goal
+use Rattle.far_server.proofs.random_key.keys_between.Given as goal
 
 abbrev pub invariant-loop-bucket : goal.invariant-loop-bucket
 invariant-loop-bucket g l = Goes (g.S.Calls.shown l.fn.me).pass (g.S.Calls.shown l.me).pass

@@ -1,0 +1,25 @@
+use Rattle.std.proofs.Common.{◌≡◌, ◌≢◌, ℕ, List, sym, ap, subst, ◌∙◌}
+use Rattle.resp.specs.Parsing.{arguments_in}
+use Rattle.far_server.specs.declared.connection.Connection.{Connection}
+use Rattle.far_server.specs.Sessions.{Session}
+use Rattle.far_server.specs.Answers.{Known, known_at, unknown, IsTold, IsAnswered}
+use Rattle.far_server.proofs.server.ServerKeptService.answer.Goals as goal
+
+pub returns-in-Ok : goal.returns-in-Ok
+returns-in-Ok g c =
+    let settings = c.args.self.now.around.now.settings.now in
+    let e : Known = unknown settings.password in
+    let n : ℕ = c.args.connection in
+    let was : List (ℕ × Connection) = c.args.self.now.kept.connections.entries in
+    let same = c.behind.ensures.connections ∙ c.tell.ensures.connections in
+    let a = c.in-Ok.ensures.answered in
+    let T : List (ℕ × Connection) → Type 0 = λ cs. IsTold (known_at was n e).passed (known_at cs n e).passed c.behind.result in
+    let told = subst T (sym same) (c.behind.ensures.told _ _ (c.in-Ok.ensures.told e)) in
+    let A : List (ℕ × Connection) → Session → Type 0 = λ cs s. IsAnswered g.S.Calls.limits settings.password settings.longest_value (known_at was n e) (known_at cs n e) (arguments_in c.args.bytes.now c.args.spans.now) (g.S.Calls.shown c.args.self.now.me.now) s a.0 in
+    let C : List (ℕ × Connection) → Type 0 = λ cs. A cs (g.S.Calls.shown c.answer_at.new.me) in
+    let S : Session → Type 0 = λ s. A c.behind.new.self.kept.connections.entries s in
+    let answered = subst S (sym (ap g.S.Calls.shown (c.behind.ensures.session ∙ c.tell.ensures.session))) (subst C (sym same) (a.2 e)) in
+    let others : (d : ℕ) → d ≢ n → known_at c.behind.new.self.kept.connections.entries d e ≡ known_at was d e = λ d other.
+    let L : List (ℕ × Connection) → Type 0 = λ cs. known_at cs d e ≡ known_at was d e in
+    subst L (sym same) (c.in-Ok.ensures.others d e other) in
+    (a.0, (search, search, (answered, told, others)), a.1)

@@ -1,0 +1,148 @@
+//! RANDOMKEY: a key that is drawn.
+//!
+//! Buckets are drawn until one has a key, and one of its keys is drawn. So where most buckets have none or one, each key is drawn about as
+//! often as any other; where a bucket has several, each of them is drawn less often. Nothing is proved of how often.
+ghost use Rattle.std.specs.Prelude.{◌≡◌, ◌<◌, ◌≤◌, ◌++◌, ℕ, List, OnOk};
+ghost use Rattle.std.specs.List.{flat_map};
+ghost use Rattle.resp.specs.Replies.{Token, token};
+ghost use Rattle.version_words.specs.Views.{Goes};
+
+use crate::around::{Around, Desk};
+use crate::refusing::text_of;
+use crate::single::{push_one_failure, push_one_nothing, push_one_string};
+use crate::visiting::keys_in;
+use far_blob::Blob;
+use far_map::{Calls, Refusal};
+use far_object::Text;
+use rand::rngs::SmallRng;
+use rand::seq::IndexedRandom;
+use rand::{RngExt, SeedableRng};
+use std::alloc::{AllocError, Global};
+use std::sync::Wait;
+
+/// How many buckets are drawn at most until one has a key.
+const MOST_DRAWS: u32 = 1_000;
+
+/// The draws of a worker, from the seed that all workers of a server share.
+fn draws_of(seed: u64, worker: u32) -> SmallRng {
+    SmallRng::seed_from_u64(seed.wrapping_add(u64::from(worker)))
+}
+
+/// A number below this one, which is not 0.
+fn draw_below(draws: &mut SmallRng, end: u32) -> u32
+    requires { 0 < end }
+    ensures { result < end }
+{
+    draws.random_range(0..end)
+}
+
+/// The keys of the first of these buckets that has one; none where none has.
+fn keys_between<S: Calls<Blob>, R: Wait>(
+    rt: &R,
+    alloc: Global,
+    me: &mut S,
+    from: u32,
+    to: u32,
+    now: u64,
+) -> Result<Vec<Text>, Refusal>
+    requires { to ≤ S.limits.buckets }
+    ensures { Goes (S.shown me.old).pass (S.shown me.new).pass }
+{
+    for bucket in from..to {
+        match keys_in(rt, alloc, me, bucket, now) {
+            Ok(keys) => {
+                if !keys.is_empty() {
+                    return Ok(keys);
+                }
+            }
+            Err(why) => return Err(why),
+        }
+    }
+    Ok(Vec::new(alloc))
+}
+
+/// The keys of the first bucket that has one, from this one on, and then from 0 on.
+fn keys_from<S: Calls<Blob>, R: Wait>(
+    rt: &R,
+    alloc: Global,
+    me: &mut S,
+    first: u32,
+    now: u64,
+) -> Result<Vec<Text>, Refusal>
+    ensures { Goes (S.shown me.old).pass (S.shown me.new).pass }
+{
+    let buckets = me.buckets();
+    match keys_between(rt, alloc, me, first, buckets, now) {
+        Ok(keys) => {
+            if keys.is_empty() {
+                keys_between(rt, alloc, me, 0, first.min(buckets), now)
+            } else {
+                Ok(keys)
+            }
+        }
+        Err(why) => Err(why),
+    }
+}
+
+/// The keys of a drawn bucket that has one; of the first from a drawn one on, where the draws met none.
+fn drawn_keys<S: Calls<Blob>, R: Wait>(
+    rt: &R,
+    alloc: Global,
+    me: &mut S,
+    draws: &mut SmallRng,
+    now: u64,
+) -> Result<Vec<Text>, Refusal>
+    ensures { Goes (S.shown me.old).pass (S.shown me.new).pass }
+{
+    let buckets = me.buckets();
+    if buckets == 0 {
+        return Ok(Vec::new(alloc));
+    }
+    for _ in 0..MOST_DRAWS {
+        let bucket = draw_below(draws, buckets);
+        match keys_in(rt, alloc, me, bucket, now) {
+            Ok(keys) => {
+                if !keys.is_empty() {
+                    return Ok(keys);
+                }
+            }
+            Err(why) => return Err(why),
+        }
+    }
+    let first = draw_below(draws, buckets);
+    keys_from(rt, alloc, me, first, now)
+}
+
+/// One of the keys, drawn; nothing where there is none.
+fn push_drawn(draws: &mut SmallRng, keys: &[Text], reply: &mut Vec<u8>) -> Result<(), AllocError>
+    ensures { OnOk result ((rs : List Token) × (reply.new.items ≡ reply.old.items ++ flat_map token rs)) }
+{
+    match keys.choose(draws) {
+        Some(key) => push_one_string(reply, key.as_bytes()),
+        None => push_one_nothing(reply),
+    }
+}
+
+/// Answers RANDOMKEY.
+pub(crate) fn answer_random_key<S: Calls<Blob>, C, R: Wait>(
+    around: &Around<'_, C, R>,
+    me: &mut S,
+    desk: &mut Desk,
+    now: u64,
+    reply: &mut Vec<u8>,
+) -> Result<(), AllocError>
+    ensures goes { Goes (S.shown me.old).pass (S.shown me.new).pass }
+    ensures said { OnOk result ((rs : List Token) × (reply.new.items ≡ reply.old.items ++ flat_map token rs)) }
+{
+    let mut draws = match desk.draws.take() {
+        Some(draws) => draws,
+        None => draws_of(around.settings.seed, around.lane),
+    };
+    let found = drawn_keys(around.rt, around.alloc, me, &mut draws, now);
+    let said = match found {
+        Ok(keys) => push_drawn(&mut draws, keys.as_slice(), reply),
+        Err(why) => push_one_failure(reply, text_of(why)),
+    };
+    desk.draws = Some(draws);
+    said
+}

@@ -1,0 +1,73 @@
+//! What a lane keeps of a client.
+
+use crate::channel::Channel;
+use crate::lane::Shared;
+use crate::stranger::{Fault, Reader, REPLIES};
+use std::time::Instant;
+
+/// Who has a number. It is removed once a close went both ways and the socket is closed, in whatever order.
+pub struct Client {
+    /// None once it is closed.
+    pub socket: Option<Channel>,
+    pub sent_close: bool,
+    pub got_close: bool,
+    /// Its input waits until there is room for it.
+    pub paused: bool,
+    /// When it was last read or written.
+    pub active: Instant,
+    /// Since when it is a stranger, None while it is let in.
+    pub stranger: Option<Instant>,
+    /// Follows its requests, None if it will never be a stranger again.
+    pub reader: Option<Reader>,
+    /// How many of the bytes that wait for it it was owed before it was let out, `usize::MAX` until the lane has sent these all.
+    pub owed: usize,
+    /// Input that is not handed over yet, because it breaks a limit of strangers.
+    pub held: Option<(Fault, Vec<u8>)>,
+    /// How many times the lane was asked, and has not said yet, whether it has answered all that came before.
+    pub asked: u32,
+}
+
+impl Client {
+    pub fn new(socket: Channel, now: Instant) -> Client {
+        Client {
+            socket: Some(socket),
+            sent_close: false,
+            got_close: false,
+            paused: false,
+            active: now,
+            stranger: Some(now),
+            reader: Some(Reader::default()),
+            owed: 0,
+            held: None,
+            asked: 0,
+        }
+    }
+
+    pub fn is_over(&self) -> bool {
+        self.socket.is_none() && self.sent_close && self.got_close
+    }
+
+    /// Whether more of its input is taken.
+    pub fn is_read(&self) -> bool {
+        !self.sent_close && !self.paused && self.held.is_none()
+    }
+
+    pub fn is_late(&self, shared: &Shared) -> bool {
+        let most = shared.auth_timeout;
+        !most.is_zero() && self.stranger.is_some_and(|since| shared.now - since >= most)
+    }
+
+    /// All that it is owed from before it was let out waits for it by now.
+    pub fn bound_owed(&mut self) {
+        self.owed = self.owed.min(self.socket.as_ref().map_or(0, Channel::waiting));
+    }
+
+    /// Bytes that may wait for it.
+    pub fn output_limit(&mut self, shared: &Shared) -> usize {
+        if self.stranger.is_none() || self.owed == usize::MAX {
+            return shared.output_limit;
+        }
+        self.bound_owed();
+        shared.output_limit.min(self.owed + REPLIES)
+    }
+}
