@@ -3,6 +3,7 @@
 A TRIAL is the name of a function of the files starts_*.py; all are made if none is named. --long starts and ends a server more often,
 and really builds a program in a folder with a space in its name.
 """
+import signal
 import sys
 import time
 import traceback
@@ -33,6 +34,8 @@ def tell(trial, tried, is_long):
 
 
 def main():
+    # (who runs this in the background may ignore it, and all that is started here would then)
+    signal.signal(signal.SIGINT, signal.default_int_handler)
     work, *words = sys.argv[1:]
     names = [it for it in words if not it.startswith("--")]
     trials = [it for part in PARTS for it in part.TRIALS if it.__name__ in names or not names]
