@@ -8,10 +8,10 @@ import time
 from pathlib import Path
 
 from server_parts import PATIENCE, ROOT, Farserve, until
+from starts_parts import Skipped
 
-# Seconds in which a server that is built is ready, on a machine that has little else to do: there an empty Python takes so long
-# at most. Where it takes longer, others use the machine, and a server has as many times longer.
-SOON, EMPTY = 0.5, 0.04
+# Seconds in which a server that is built is ready, on a machine that has little else to do.
+SOON = 0.5
 STARTS = 20
 WORDS = ["--memory", "64m", "--port", "0"]
 
@@ -21,14 +21,13 @@ def a_built_server_is_soon_ready(tried, _):
     told = []
     for _ in range(STARTS):
         began = time.monotonic()
-        subprocess.run(["/usr/bin/python3", "-BES", "-c", ""], check=True)
-        empty = time.monotonic() - began
-        began = time.monotonic()
         with Farserve(tried.work, far=tried.folder()):
-            took = time.monotonic() - began
-        if took < SOON * max(1, empty / EMPTY):
-            return f"in {took:.2f} s, where an empty Python takes {empty:.2f} s"
-        told.append((took, empty))
+            told.append(time.monotonic() - began)
+        if told[-1] < SOON:
+            return f"in {told[-1]:.2f} s"
+    busy = os.getloadavg()[0] / os.cpu_count()
+    if busy > 1:
+        raise Skipped(f"the machine is too busy, with {busy:.1f} times as much to do as it can: ready in {min(told):.2f} s")
     raise AssertionError(told)
 
 

@@ -28,9 +28,10 @@ waits_in (Some queue) = Some (waiting queue)
 abbrev pub known : Connection → Known
 known c = record { passed = c.passed; waits = waits_in c.queue }
 
--- Who is let in may ask; and who might ask and may no more is let out, or the connection ends.
-abbrev pub IsTold : Bool → Bool → Next → Type 0
-IsTold might may next = (next ≡ behind.LetIn → may ≡ true) × (might ≡ true → may ≡ false → (next ≡ behind.LetOut) ⊎ (next ≡ behind.End))
+-- What a lane is told of a connection that might ask, or not, and may now, or not: who is let in may ask, and who may no more is let out,
+-- or the connection ends.
+abbrev pub IsAdmission : Bool → Bool → Next → Type 0
+IsAdmission might may next = (next ≡ behind.LetIn → may ≡ true) × (might ≡ true → may ≡ false → (next ≡ behind.LetOut) ⊎ (next ≡ behind.End))
 
 -- what is known of a new connection, which may ask just where no password is set
 abbrev pub is_free : Option (List ℕ) → Bool

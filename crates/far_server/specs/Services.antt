@@ -4,7 +4,7 @@ use Rattle.table_core.specs.declared.limits.Limits.{Limits}
 use Rattle.version_words.specs.Views.{Goes}
 use Rattle.lanes.specs.Calls.{Call, Asked, Left, Awake, Opened, Noted}
 use Rattle.far_server.specs.Sessions.{Session}
-use Rattle.far_server.specs.Answers.{Known, known_at, is_free, unknown, IsTold, IsAnswered}
+use Rattle.far_server.specs.Answers.{Known, known_at, is_free, unknown, IsAdmission, IsAnswered}
 use Rattle.far_server.specs.declared.connection.Connection.{Connection}
 
 -- a lane: its session, and what is known of the connection of each number
@@ -33,7 +33,7 @@ module _ (l : Limits) (password : Option (List ℕ)) (most : ℕ) where
   abbrev pub Acts : Lane → Call → Lane → Type 0
   Acts before (Asked c arguments reply next) after =
       IsAnswered l password most (before.connections c) (after.connections c) arguments before.session after.session reply
-      × IsTold (before.connections c).passed (after.connections c).passed next × Leaves c before after
+      × IsAdmission (before.connections c).passed (after.connections c).passed next × Leaves c before after
   Acts before (Left c) after = (after.session ≡ before.session) × (after.connections c ≡ unknown password) × Leaves c before after
   Acts before (Opened c address let_in) after = (let_in ≡ true → is_free password ≡ true) × Stays before after
   Acts before (Noted text reply) after = Stays before after

@@ -11,21 +11,9 @@ const SYNCED: &[u8] = b"synced ";
 /// How many connections the gateway refused since its start.
 const REJECTED: &[u8] = b"rejected_connections ";
 
-/// The number that these digits spell. None where they are no number, or one of more than 64 bits.
-fn number_of(digits: &[u8]) -> Option<u64> {
-    if digits.is_empty() {
-        return None;
-    }
-    let mut number = 0u64;
-    for digit in digits {
-        if !digit.is_ascii_digit() {
-            return None;
-        }
-        number = number
-            .checked_mul(10)?
-            .checked_add(u64::from(*digit - b'0'))?;
-    }
-    Some(number)
+/// The number that this text spells. None where it is no number, or one of more than 64 bits.
+fn number_in(text: &[u8]) -> Option<u64> {
+    str::from_utf8(text).ok()?.parse().ok()
 }
 
 /// Takes a note, and pushes the answer if it wants one. A text that is not known asks for nothing.
@@ -35,12 +23,12 @@ pub(crate) fn take_note(
     answer: &mut Vec<u8>,
 ) -> Result<(), AllocError> {
     if let Some(number) = text.strip_prefix(SYNC) {
-        if number_of(number).is_some() {
+        if number_in(number).is_some() {
             answer.extend_from_slice(SYNCED)?;
             answer.extend_from_slice(number)?;
         }
     } else if let Some(count) = text.strip_prefix(REJECTED) {
-        if let Some(count) = number_of(count) {
+        if let Some(count) = number_in(count) {
             tallies.tell_rejected(count);
         }
     }

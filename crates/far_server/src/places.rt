@@ -3,7 +3,7 @@ ghost use Rattle.std.specs.Prelude.{◌≡◌, ◌≢◌, ◌++◌, ℕ, List, B
 ghost use Rattle.std.specs.List.{flat_map};
 ghost use Rattle.resp.specs.Replies.{Token, token};
 ghost use Rattle.commands.specs.Arguments.{listed};
-ghost use Rattle.far_server.specs.Answers.{Known, known_at, new_known, IsTold, IsAnswered};
+ghost use Rattle.far_server.specs.Answers.{Known, known_at, new_known, IsAdmission, IsAnswered};
 
 use crate::answering::answer_request;
 use crate::around::{Around, Desk};
@@ -51,7 +51,7 @@ pub(crate) fn forget(connections: &mut BTreeMap<u64, Connection>, number: u64) -
 
 /// What the lane does behind a request: whoever might not ask before and may now is let in, and the other way round.
 fn turned(might: bool, may: bool, next: Next) -> Next
-    ensures { IsTold might may result }
+    ensures { IsAdmission might may result }
 {
     match next {
         Next::End => Next::End,
@@ -78,7 +78,7 @@ pub(crate) fn answer_at<S: Calls<Blob>, C: Clock, R: Wait>(
     reply: &mut Vec<u8>,
 ) -> Result<Next, AllocError>
     ensures answered { OnOk result ((rs : List Token) × (reply.new.items ≡ reply.old.items ++ flat_map token rs) × ((e : Known) → IsAnswered S.limits around.now.settings.now.password around.now.settings.now.longest_value (known_at connections.old.entries number e) (known_at connections.new.entries number e) (listed request.entry) (S.shown me.old) (S.shown me.new) rs)) }
-    ensures told { IfOk result (λ next. (e : Known) → IsTold (known_at connections.old.entries number e).passed (known_at connections.new.entries number e).passed next) }
+    ensures told { IfOk result (λ next. (e : Known) → IsAdmission (known_at connections.old.entries number e).passed (known_at connections.new.entries number e).passed next) }
     ensures others { (d : ℕ) (e : Known) → d ≢ number → known_at connections.new.entries d e ≡ known_at connections.old.entries d e }
 {
     match connections.get_mut(&number) {

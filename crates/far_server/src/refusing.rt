@@ -1,5 +1,5 @@
 //! What is replied for a call that the map refuses.
-ghost use Rattle.std.specs.Prelude.{◌≡◌, ◌≢◌, false};
+ghost use Rattle.std.specs.Prelude.{◌≡◌, ◌≢◌, true, false};
 ghost use Rattle.far_map.specs.declared.refusal.Refusal.TheVariants as refusal;
 ghost use Rattle.far_server.specs.Refusing.{IsTold, text_of};
 
@@ -15,6 +15,7 @@ pub(crate) const NO_ROOM: &[u8] = b"OOM command not allowed when used memory > '
 pub(crate) fn told_as(why: Refusal, is_far: bool) -> Refusal
     ensures told { IsTold why result }
     ensures of_memory { is_far ≡ false → result ≢ refusal.Device }
+    ensures of_device { is_far ≡ true → result ≡ why }
 {
     match why {
         Refusal::Device if !is_far => Refusal::Memory,

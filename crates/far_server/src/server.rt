@@ -1,6 +1,6 @@
 //! A lane's service: the connections of a lane, and its session.
 ghost use Rattle.std.specs.Prelude.{◌≡◌, ℕ, Bool, []};
-ghost use Rattle.far_server.specs.Answers.{known_at, unknown, IsTold};
+ghost use Rattle.far_server.specs.Answers.{known_at, unknown, IsAdmission};
 
 use crate::around::{Around, Desk};
 use crate::connection::Connection;
@@ -82,7 +82,7 @@ impl<'a, S: Calls<Blob>, C: Clock, R: Wait> Server<'a, S, C, R, Kept> {
 
     /// What comes behind a reply: where names are few, one lane has all woken, so that each leaves.
     fn behind(&mut self, next: Next) -> Next
-        ensures told { (might may : Bool) → IsTold might may next → IsTold might may result }
+        ensures told { (might may : Bool) → IsAdmission might may next → IsAdmission might may result }
         ensures same_reference { self.new.me.ghost_name ≡ self.old.me.ghost_name }
         ensures session { self.new.me.now ≡ self.old.me.now }
         ensures around { self.new.around.now ≡ self.old.around.now }

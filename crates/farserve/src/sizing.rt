@@ -98,7 +98,7 @@ fn far_of(tier: Tier, buckets: u64) -> u64
 /// little is left for objects.
 pub fn divide(memory: u64, buckets: Option<u32>, lanes: u32, tier: Tier) -> Option<Sizes>
     ensures within { IfSome result (λ sizes. sizes.bytes + BUCKET * sizes.buckets + FRAME * sizes.frames ≤ memory) }
-    ensures enough { IfSome result (λ sizes. sizes.buckets + SPARES + 4 * (lanes + 1) ≤ sizes.frames) }
+    ensures enough { IfSome result (λ sizes. sizes.buckets + SPARES + SESSION * (lanes + 1) ≤ sizes.frames) }
     ensures few { IfSome result (λ sizes. sizes.frames ≤ MOST_FRAMES) }
 {
     let sessions = u64::from(lanes) + 1;

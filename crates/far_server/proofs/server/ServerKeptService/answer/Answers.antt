@@ -2,7 +2,7 @@ use Rattle.std.proofs.Common.{◌≡◌, ◌≢◌, ℕ, List, sym, ap, subst, �
 use Rattle.resp.specs.Parsing.{arguments_in}
 use Rattle.far_server.specs.declared.connection.Connection.{Connection}
 use Rattle.far_server.specs.Sessions.{Session}
-use Rattle.far_server.specs.Answers.{Known, known_at, unknown, IsTold, IsAnswered}
+use Rattle.far_server.specs.Answers.{Known, known_at, unknown, IsAdmission, IsAnswered}
 use Rattle.far_server.proofs.server.ServerKeptService.answer.Goals as goal
 
 pub returns-in-Ok : goal.returns-in-Ok
@@ -13,7 +13,7 @@ returns-in-Ok g c =
     let was : List (ℕ × Connection) = c.args.self.now.kept.connections.entries in
     let same = c.behind.ensures.connections ∙ c.tell.ensures.connections in
     let a = c.in-Ok.ensures.answered in
-    let T : List (ℕ × Connection) → Type 0 = λ cs. IsTold (known_at was n e).passed (known_at cs n e).passed c.behind.result in
+    let T : List (ℕ × Connection) → Type 0 = λ cs. IsAdmission (known_at was n e).passed (known_at cs n e).passed c.behind.result in
     let told = subst T (sym same) (c.behind.ensures.told _ _ (c.in-Ok.ensures.told e)) in
     let A : List (ℕ × Connection) → Session → Type 0 = λ cs s. IsAnswered g.S.Calls.limits settings.password settings.longest_value (known_at was n e) (known_at cs n e) (arguments_in c.args.bytes.now c.args.spans.now) (g.S.Calls.shown c.args.self.now.me.now) s a.0 in
     let C : List (ℕ × Connection) → Type 0 = λ cs. A cs (g.S.Calls.shown c.answer_at.new.me) in
