@@ -1,6 +1,6 @@
 //! A pipe or a socket, which is read and written without waiting, and the bytes that it had no room for yet.
 
-use crate::system::{Epoll, INPUT, OUTPUT};
+use crate::system::{self, Epoll, INPUT, OUTPUT};
 use std::fs::File;
 use std::io::{self, ErrorKind, Read, Write};
 
@@ -23,9 +23,9 @@ impl Channel {
         self.queue.len() - self.written
     }
 
-    /// Has input wake who waits for events, where it is wanted, and room for what waits here.
-    pub fn watch(&mut self, epoll: &Epoll, input: bool) -> io::Result<()> {
-        let flags = if input { INPUT } else { 0 } | if self.waiting() > 0 { OUTPUT } else { 0 };
+    /// Has input wake who waits for events if it is wanted, and room if that is wanted or if bytes wait here.
+    pub fn watch(&mut self, epoll: &Epoll, input: bool, room: bool) -> io::Result<()> {
+        let flags = if input { INPUT } else { 0 } | if room || self.waiting() > 0 { OUTPUT } else { 0 };
         if flags != self.watched {
             epoll.watch(&self.file, self.watched, flags, self.token)?;
             self.watched = flags;
@@ -36,6 +36,16 @@ impl Channel {
     /// How many bytes came, 0 at the end; None where none are there yet.
     pub fn read(&self, room: &mut [u8]) -> io::Result<Option<usize>> {
         at_once((&self.file).read(room))
+    }
+
+    /// Has the pipe that this is hold that many bytes at most. False if the system refuses it for now.
+    pub fn size_pipe(&self, bytes: usize) -> bool {
+        system::size_pipe(&self.file, bytes)
+    }
+
+    /// Bytes that are in the pipe that this is.
+    pub fn in_pipe(&self) -> io::Result<usize> {
+        system::in_pipe(&self.file)
     }
 
     /// Puts bytes behind those that wait.

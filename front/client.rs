@@ -1,7 +1,7 @@
 //! What a lane keeps of a client.
 
 use crate::channel::Channel;
-use crate::lane::Shared;
+use crate::shared::Shared;
 use crate::stranger::{Fault, Reader, REPLIES};
 use std::time::Instant;
 
@@ -11,8 +11,8 @@ pub struct Client {
     pub socket: Option<Channel>,
     pub sent_close: bool,
     pub got_close: bool,
-    /// Its input waits until there is room for it.
-    pub paused: bool,
+    /// Its input waits for its turn.
+    pub waits: bool,
     /// When it was last read or written.
     pub active: Instant,
     /// Since when it is a stranger, None while it is let in.
@@ -33,7 +33,7 @@ impl Client {
             socket: Some(socket),
             sent_close: false,
             got_close: false,
-            paused: false,
+            waits: false,
             active: now,
             stranger: Some(now),
             reader: Some(Reader::default()),
@@ -47,9 +47,9 @@ impl Client {
         self.socket.is_none() && self.sent_close && self.got_close
     }
 
-    /// Whether more of its input is taken.
-    pub fn is_read(&self) -> bool {
-        !self.sent_close && !self.paused && self.held.is_none()
+    /// Whether its input is to wake us.
+    pub fn is_awaited(&self) -> bool {
+        !self.sent_close && !self.waits && self.held.is_none()
     }
 
     pub fn is_late(&self, shared: &Shared) -> bool {

@@ -6,22 +6,25 @@
 //! number are passed over. A lane passes over data that comes behind its own close. The gateway still delivers data behind its
 //! own close if the socket takes it, because a client may end its sending alone. Wakes that a lane has not read yet may be one.
 //!
-//! Replies are always read, and wait for their client up to a limit. Input is read only while little waits for the lane, so
-//! the rest waits in the sockets.
+//! Replies are always read, and wait for their client up to a limit. Input is read in turns (`turns`) and only while little
+//! waits for the lane, so the rest waits in the sockets.
 //!
 //! A client that the lane has not let in, or has let out, is a stranger, with limits (`stranger`). Before input that breaks one
 //! the lane is asked to say when it has answered all that came before: if the client is let in by then, the input is handed over.
 
+mod input;
+
 use crate::channel::Channel;
 use crate::client::Client;
 use crate::frame::{head, Frame, Frames, CLOSE, DATA, LONGEST, OPEN, PLACE, REPLIES, REQUESTS};
-use crate::stranger;
+use crate::shared::Shared;
 use crate::system::{Epoll, OUTPUT};
+use crate::turns::{Turns, ALONE};
 use std::collections::HashMap;
 use std::fs::File;
 use std::io::{self, ErrorKind};
 use std::mem;
-use std::time::{Duration, Instant};
+use std::time::Duration;
 
 const WAKE: u8 = 3;
 const LET_IN: u8 = 4;
@@ -29,36 +32,6 @@ const LET_OUT: u8 = 5;
 const NOTE: u8 = 6;
 /// The most bytes of a note.
 const LONGEST_NOTE: usize = 4096;
-/// Bytes of one read of a socket, and so the most of a packet for the lane.
-const READ: usize = 1 << 16;
-/// Bytes that wait for the lane before no more input is read.
-const INPUT_LIMIT: usize = 1 << 16;
-
-/// What all lanes and links share.
-pub struct Shared {
-    pub epoll: Epoll,
-    /// Bytes that may wait for a client.
-    pub output_limit: usize,
-    /// Whether a client that was let in may be let out again, as the server asks for a password.
-    pub is_guarded: bool,
-    /// How long a client may be a stranger, zero for ever.
-    pub auth_timeout: Duration,
-    /// Clients of all lanes.
-    pub clients: usize,
-    /// When the last events came.
-    pub now: Instant,
-    /// Every lane is to be woken.
-    pub wakes: bool,
-    /// Room for what came by a socket.
-    pub room: Vec<u8>,
-}
-
-impl Shared {
-    pub fn new(epoll: Epoll, output_limit: usize, is_guarded: bool, auth_timeout: Duration) -> Shared {
-        let (now, room) = (Instant::now(), vec![0; READ]);
-        Shared { epoll, output_limit, is_guarded, auth_timeout, clients: 0, now, wakes: false, room }
-    }
-}
 
 /// The most bytes of a packet from the lane.
 fn longest(kind: u8) -> Option<usize> {
@@ -80,8 +53,13 @@ pub struct Lane {
     clients: HashMap<u64, Client>,
     /// The number of the next client.
     next: u64,
-    paused: Vec<u64>,
+    /// Clients whose input waits for its turn.
+    turns: Turns,
     owes_wake: bool,
+    /// How many bytes the pipe of requests holds, as far as it is known.
+    pipe: usize,
+    /// It waits for the lane to read on, of which no event will tell.
+    is_blind: bool,
 }
 
 impl Lane {
@@ -89,9 +67,19 @@ impl Lane {
         let place = (place as u64) << PLACE;
         let requests = Channel::new(requests, place | REQUESTS);
         let mut replies = Channel::new(replies, place | REPLIES);
-        replies.watch(epoll, true)?;
-        let (frames, (clients, paused)) = (Frames::new(), Default::default());
-        Ok(Lane { place, requests, replies, frames, clients, next: 0, paused, owes_wake: false })
+        replies.watch(epoll, true, false)?;
+        Ok(Lane {
+            place,
+            requests,
+            replies,
+            frames: Frames::new(),
+            clients: HashMap::new(),
+            next: 0,
+            turns: Turns::default(),
+            owes_wake: false,
+            pipe: ALONE.pipe,
+            is_blind: false,
+        })
     }
 
     pub fn has_clients(&self) -> bool {
@@ -126,41 +114,12 @@ impl Lane {
             REPLIES => self.take_replies(shared),
             number => {
                 self.flush_client(number, shared);
-                if flags != OUTPUT {
-                    self.read_client(number, shared);
+                if flags != OUTPUT && self.client(number).is_some_and(|it| it.is_awaited()) {
+                    self.want_turn(number);
                 }
                 Ok(())
             }
         }
-    }
-
-    /// Hands over to the lane what came for it.
-    pub fn hand_over(&mut self, shared: &mut Shared) -> io::Result<()> {
-        self.owes_wake |= shared.wakes;
-        if self.owes_wake && self.has_room() {
-            self.owes_wake = false;
-            self.put(WAKE, 0, b"");
-        }
-        self.requests.flush()?;
-        self.requests.watch(&shared.epoll, false)?;
-        if self.has_room() {
-            for number in mem::take(&mut self.paused) {
-                if let Some(client) = self.client(number) {
-                    client.paused = false;
-                }
-                self.update(number, shared);
-            }
-        }
-        Ok(())
-    }
-
-    /// Whether there is room for more, if need be once what waits was written.
-    fn has_room(&mut self) -> bool {
-        if self.requests.waiting() >= INPUT_LIMIT {
-            // A fault comes again when the lane is handed over what waits.
-            let _ = self.requests.flush();
-        }
-        self.requests.waiting() < INPUT_LIMIT
     }
 
     /// Who has a number. None if it has gone, as it may have for an event that came too late.
@@ -171,75 +130,9 @@ impl Lane {
     /// Has those events wake us that a client now waits for.
     fn update(&mut self, number: u64, shared: &mut Shared) {
         let Some(client) = self.client(number) else { return };
-        let input = client.is_read();
-        if client.socket.as_mut().is_some_and(|it| it.watch(&shared.epoll, input).is_err()) {
+        let input = client.is_awaited();
+        if client.socket.as_mut().is_some_and(|it| it.watch(&shared.epoll, input, false).is_err()) {
             self.drop_client(number, shared);
-        }
-    }
-
-    fn read_client(&mut self, number: u64, shared: &mut Shared) {
-        let has_room = self.has_room();
-        let Some(client) = self.clients.get_mut(&number).filter(|it| it.is_read()) else { return };
-        let Some(socket) = client.socket.as_ref() else { return };
-        if !has_room {
-            client.paused = true;
-            self.paused.push(number);
-            return self.update(number, shared);
-        }
-        let most = if client.stranger.is_some() { stranger::READ } else { READ };
-        match socket.read(&mut shared.room[..most]) {
-            Ok(None) => {}
-            Ok(Some(0)) => self.end_input(number, shared),
-            Ok(Some(count)) => {
-                client.active = shared.now;
-                self.take_input(number, &shared.room[..count]);
-                self.update(number, shared);
-            }
-            Err(_) => self.drop_client(number, shared),
-        }
-    }
-
-    /// Hands over to the lane what came from a client, and holds what is not for a stranger.
-    fn take_input(&mut self, number: u64, bytes: &[u8]) {
-        let Some(client) = self.client(number) else { return };
-        let is_let_in = client.stranger.is_none();
-        let read = client.reader.as_mut().map_or(Ok(()), |it| it.read(bytes, is_let_in));
-        let (count, fault) = read.map_or_else(|(count, fault)| (count, Some(fault)), |()| (bytes.len(), None));
-        client.held = fault.map(|it| (it, bytes[count..].to_vec()));
-        if count > 0 {
-            self.put(DATA, number, &bytes[..count]);
-        }
-        if fault.is_some() {
-            self.ask(number);
-        }
-    }
-
-    /// Asks the lane to say when it has answered all that was handed over.
-    fn ask(&mut self, number: u64) {
-        let Some(client) = self.client(number) else { return };
-        client.asked += 1;
-        self.tell(&format!("sync {number}"));
-    }
-
-    /// The lane has answered all that came before it was asked: whether the client is a stranger is certain now.
-    fn see_answered(&mut self, number: u64, shared: &mut Shared) {
-        let Some(client) = self.client(number).filter(|it| it.asked > 0) else { return };
-        client.asked -= 1;
-        if client.asked > 0 {
-            return;
-        }
-        client.bound_owed();
-        match (client.held.take(), client.stranger) {
-            (Some((_, bytes)), None) => {
-                self.take_input(number, &bytes);
-                self.update(number, shared);
-            }
-            (Some((fault, _)), Some(_)) => {
-                self.send(number, fault.reply(), shared);
-                self.end_input(number, shared);
-            }
-            (None, _) if client.is_late(shared) => self.drop_client(number, shared),
-            (None, _) => {}
         }
     }
 
@@ -373,7 +266,7 @@ impl Lane {
             let Some(client) = self.client(number) else { continue };
             if !idle.is_zero() && shared.now - client.active >= idle {
                 self.drop_client(number, shared);
-            } else if client.asked == 0 && !client.paused && client.is_late(shared) {
+            } else if client.asked == 0 && !client.waits && client.is_late(shared) {
                 self.ask(number);
             }
         }

@@ -12,7 +12,7 @@
 
 use crate::channel::Channel;
 use crate::frame::{head, Frame, Frames, CLOSE, DATA, LONGEST, OPEN, PLACE, REPLIES, REQUESTS};
-use crate::lane::Shared;
+use crate::shared::Shared;
 use crate::system::{INPUT, OUTPUT};
 use std::fs::File;
 use std::io::{self, ErrorKind, Read};
@@ -63,7 +63,7 @@ impl Link {
     pub fn new(place: usize, requests: File, replies: File, spare: File, shared: &Shared) -> io::Result<Link> {
         let place = (place as u64) << PLACE;
         let mut requests = Channel::new(requests, place | REQUESTS);
-        requests.watch(&shared.epoll, true)?;
+        requests.watch(&shared.epoll, true, false)?;
         let mut link = Link {
             place,
             requests,
@@ -103,12 +103,12 @@ impl Link {
         }
         self.replies.flush()?;
         let has_room = self.replies.waiting() < LIMIT;
-        if self.socket.as_mut().is_some_and(|it| it.watch(&shared.epoll, has_room).is_err()) {
+        if self.socket.as_mut().is_some_and(|it| it.watch(&shared.epoll, has_room, false).is_err()) {
             self.close();
         }
-        self.replies.watch(&shared.epoll, false)?;
+        self.replies.watch(&shared.epoll, false, false)?;
         let has_room = self.waiting() < LIMIT;
-        self.requests.watch(&shared.epoll, has_room)
+        self.requests.watch(&shared.epoll, has_room, false)
     }
 
     /// Whether a spare is to be made now.

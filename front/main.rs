@@ -7,14 +7,17 @@ mod client;
 mod frame;
 mod lane;
 mod link;
+mod shared;
 mod store;
 mod stranger;
 mod system;
+mod turns;
 mod words;
 
 use frame::PLACE;
-use lane::{Lane, Shared};
+use lane::Lane;
 use link::Link;
+use shared::Shared;
 use std::fmt::Display;
 use std::fs::{self, File};
 use std::io::{self, ErrorKind, Write};
@@ -36,6 +39,8 @@ const REFUSAL: &[u8] = b"-ERR max number of clients reached\r\n";
 const END: Duration = Duration::from_secs(1);
 /// How often it is looked for who was silent too long, and the least time between two reports of refused clients.
 const SWEEP: Duration = Duration::from_secs(1);
+/// How often a pipe is looked at of which no event tells.
+const LOOK: Duration = Duration::from_millis(1);
 /// How long is waited where the server has not opened a pipe, or the system has no room for a connection.
 const PAUSE: Duration = Duration::from_millis(10);
 /// Files beside the connections, the two of each lane, and those of each link: its two, its connection and its spare.
@@ -196,7 +201,7 @@ impl Front {
         let _ = writeln!(io::stdout(), "{ready}").and_then(|()| io::stdout().flush());
         let idle = seconds(options.timeout);
         let mut swept = Instant::now();
-        while !self.turn(SWEEP)? {
+        while !self.turn(self.patience())? {
             if self.shared.now - swept >= SWEEP {
                 swept = self.shared.now;
                 self.lanes.iter_mut().for_each(|it| it.close_late(idle, &mut self.shared));
@@ -204,6 +209,15 @@ impl Front {
         }
         self.stop();
         Ok(())
+    }
+
+    /// How long events may be waited for.
+    fn patience(&self) -> Duration {
+        if self.lanes.iter().any(Lane::is_blind) {
+            LOOK
+        } else {
+            SWEEP
+        }
     }
 
     /// Makes a first connection to the store for each link. None where a signal came first.

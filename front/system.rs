@@ -1,7 +1,7 @@
 //! The calls of Linux that std lacks, declared by hand. All that is unsafe stands here.
 #![allow(unsafe_code)]
 
-use std::ffi::{c_int, c_uint, c_void};
+use std::ffi::{c_int, c_uint, c_ulong, c_void};
 use std::fs::File;
 use std::io;
 use std::os::fd::{AsRawFd, FromRawFd};
@@ -23,6 +23,8 @@ const SIG_BLOCK: c_int = 0;
 const IPPROTO_TCP: c_int = 6;
 const TCP_NODELAY: c_int = 1;
 const RLIMIT_NOFILE: c_int = 7;
+const F_SETPIPE_SZ: c_int = 1031;
+const FIONREAD: c_ulong = 0x541B;
 
 /// What came to a file that an `Epoll` watches: events, and what it was told of the file.
 #[repr(C)]
@@ -38,7 +40,9 @@ extern "C" {
     fn epoll_create1(flags: c_int) -> c_int;
     fn epoll_ctl(epoll: c_int, what: c_int, file: c_int, event: *mut Event) -> c_int;
     fn epoll_wait(epoll: c_int, events: *mut Event, most: c_int, milliseconds: c_int) -> c_int;
+    fn fcntl(file: c_int, what: c_int, ...) -> c_int;
     fn getrlimit(what: c_int, limits: *mut [u64; 2]) -> c_int;
+    fn ioctl(file: c_int, what: c_ulong, ...) -> c_int;
     fn listen(socket: c_int, waiting: c_int) -> c_int;
     fn setrlimit(what: c_int, limits: *const [u64; 2]) -> c_int;
     fn setsockopt(socket: c_int, level: c_int, name: c_int, value: *const c_int, length: c_uint) -> c_int;
@@ -100,6 +104,18 @@ pub fn accept(listener: &impl AsRawFd) -> io::Result<File> {
     // A Unix socket has no such delay, and refuses it.
     unsafe { setsockopt(socket.as_raw_fd(), IPPROTO_TCP, TCP_NODELAY, &1, 4) };
     Ok(socket)
+}
+
+/// Has a pipe hold that many bytes at most. False if the system refuses, as it does while more is in the pipe.
+pub fn size_pipe(pipe: &impl AsRawFd, bytes: usize) -> bool {
+    unsafe { fcntl(pipe.as_raw_fd(), F_SETPIPE_SZ, bytes as c_int) >= 0 }
+}
+
+/// How many bytes are in a pipe.
+pub fn in_pipe(pipe: &impl AsRawFd) -> io::Result<usize> {
+    let mut count: c_int = 0;
+    checked(unsafe { ioctl(pipe.as_raw_fd(), FIONREAD, &mut count) })?;
+    Ok(count as usize)
 }
 
 /// Has a file that `make` makes be for its owner alone.

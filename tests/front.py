@@ -17,6 +17,7 @@ import front_ends
 import front_link_ends
 import front_links
 import front_strangers
+import front_turns
 from front_parts import (CLOSE, DATA, LET_IN, LET_OUT, MEBIBYTE, NOTE, OPEN, WAKE, Front, asked, fill, frame, is_closed, pong,
                          received, sender, until)
 
@@ -276,7 +277,7 @@ TRIALS = [
     who_reads_late_gets_all, a_busy_lane_stops_its_senders, numbers_are_never_used_again,
     a_lane_closes_once_all_is_out, who_ends_its_input_gets_what_it_is_owed, a_wake_goes_to_every_lane,
     too_many_are_refused, idle_clients_are_closed, clients_come_and_go_in_any_way, *front_ends.TRIALS,
-    *front_links.TRIALS, *front_link_ends.TRIALS, *front_strangers.TRIALS,
+    *front_links.TRIALS, *front_link_ends.TRIALS, *front_strangers.TRIALS, *front_turns.TRIALS,
 ]
 
 

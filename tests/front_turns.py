@@ -1,0 +1,158 @@
+"""Trials of front.py: how clients share a lane."""
+import random
+import threading
+import time
+
+from front_parts import DATA, PATIENCE, Front, Lane, fill, pong, received, sender, until
+
+# What may wait for a lane that several share, with what it is at work on: a packet, its pipe, and a packet.
+SHARE = 4096 + 16384 + 4096
+LINE = 100
+SLOW = b"LATE 0.001".ljust(LINE - 1) + b"\n"
+
+
+class Counting(Lane):
+    """A lane that counts the lines that it has answered."""
+
+    answered = 0
+
+    def answer(self, *words):
+        super().answer(*words)
+        self.answered += 1
+
+
+def bytes_before(lane, client):
+    """How many bytes the lane answers from now on until this client's question is."""
+    before = lane.answered
+    pong(client)
+    return (lane.answered - before) * LINE
+
+
+def a_piece_of_one_holds_up_nobody(work, _):
+    with Front(work, kind=Counting) as front:
+        lane = front.lanes[0]
+        greedy, other = front.client(), front.client()
+        pong(greedy)
+        pong(other)
+        with sender(greedy, SLOW * 2500):
+            time.sleep(0.2)
+            for _ in range(5):
+                waited = bytes_before(lane, other)
+                assert waited <= SHARE, f"{waited} bytes were answered before its own"
+            assert received(greedy, 2500 * 5) == b"late\n" * 2500
+
+
+def what_waits_of_one_alone_is_followed_by_the_next(work, _):
+    with Front(work, kind=Counting) as front:
+        lane = front.lanes[0]
+        greedy = front.client()
+        pong(greedy)
+        with sender(greedy, SLOW * 4000):
+            time.sleep(0.2)
+            other = front.client()
+            first = bytes_before(lane, other)
+            assert SHARE < first <= 3 * 65536 + SHARE, first
+            for _ in range(5):
+                waited = bytes_before(lane, other)
+                assert waited <= SHARE, f"{waited} bytes were answered before its own"
+            assert received(greedy, 4000 * 5) == b"late\n" * 4000
+
+
+def a_slow_lane_is_shared_too(work, _):
+    """Between two questions of one client a second passes and more, since so much of the other's comes first."""
+    slow = b"LATE 0.01".ljust(LINE - 1) + b"\n"
+    with Front(work, kind=Counting) as front:
+        greedy, other = front.client(), front.client()
+        pong(greedy)
+        pong(other)
+        with sender(greedy, slow * 900):
+            time.sleep(0.2)
+            for _ in range(3):
+                began = time.monotonic()
+                waited = bytes_before(front.lanes[0], other)
+                assert waited <= SHARE and time.monotonic() - began > 1.2, (waited, time.monotonic() - began)
+
+
+def each_has_its_turn(work, _):
+    with Front(work) as front:
+        lane = front.lanes[0]
+        clients = [front.client() for _ in range(7)]
+        for client in clients:
+            pong(client)
+        lane.reads.clear()
+        for client in clients:
+            fill(client, b"NOTHING\n" * 8192, 1000)
+        assert front.rests(), "it is busy while all wait"
+        begin = len(lane.frames)
+        lane.reads.set()
+        # What waited of the first is answered first. Then each has as many turns as any, while all have input.
+        until(lambda: len(lane.frames) >= begin + 400, "many turns")
+        numbers = [number for kind, number, _ in lane.frames[begin + 50:begin + 190] if kind == DATA]
+        for at in range(len(numbers) - 14):
+            assert len(set(numbers[at:at + 14])) == 7, f"not each has its turn: {numbers}"
+
+
+def a_lane_that_reads_little_wakes_nobody_in_vain(work, _):
+    """A second client comes while much of the first waits, and the lane reads on bit by bit."""
+    with Front(work) as front:
+        lane = front.lanes[0]
+        first, second = front.client(), front.client()
+        pong(first)
+        pong(second)
+        # Until the first counts as alone.
+        time.sleep(1.2)
+        lane.reads.clear()
+        fill(first, b"NOTHING\n" * 8192, 1000)
+        second.sendall(b"PING\n")
+        assert front.rests(), "it is busy with a full pipe"
+        for _ in range(12):
+            lane.reads.set()
+            time.sleep(0.002)
+            lane.reads.clear()
+            assert front.rests(), "it is busy with a pipe of which much was read"
+        lane.reads.set()
+        assert received(second, 7) == b"+PONG\r\n"
+        pong(first)
+
+
+def no_byte_is_lost_where_many_send(work, clients):
+    """Each sends lines of any length, cut anywhere, to a lane that is late now and then."""
+    def send(client, data, pieces):
+        for end in pieces:
+            client.sendall(data[:end])
+            data = data[end:]
+            if random.random() < 0.05:
+                time.sleep(random.random() / 100)
+        client.sendall(data)
+
+    with Front(work, lanes=2) as front:
+        count = min(20, clients)
+        all_of = [front.client() for _ in range(count)]
+        wanted, threads = [], []
+        for number, client in enumerate(all_of):
+            lines = [b"ECHO %d %d %s\n" % (number, at, b"z" * int(10 ** random.uniform(0, 4.5))) for at in range(150)]
+            lines.insert(75, b"LATE 0.05\n")
+            wanted.append(b"".join(it.removeprefix(b"ECHO ") if it[:4] == b"ECHO" else b"late\n" for it in lines))
+            pieces = [int(10 ** random.uniform(0, 4.5)) for _ in range(60)]
+            threads.append(threading.Thread(target=send, args=(client, b"".join(lines), pieces), daemon=True))
+        for thread in threads:
+            thread.start()
+        told = [bytearray() for _ in all_of]
+
+        def take(number):
+            told[number] += received(all_of[number], len(wanted[number]))
+
+        readers = [threading.Thread(target=take, args=(it,), daemon=True) for it in range(count)]
+        for thread in readers:
+            thread.start()
+        for thread in readers + threads:
+            thread.join(3 * PATIENCE)
+        for number in range(count):
+            assert told[number] == wanted[number], f"client {number} got {len(told[number])} of {len(wanted[number])} bytes"
+        assert front.rests()
+
+
+TRIALS = [
+    a_piece_of_one_holds_up_nobody, what_waits_of_one_alone_is_followed_by_the_next, a_slow_lane_is_shared_too,
+    each_has_its_turn, a_lane_that_reads_little_wakes_nobody_in_vain, no_byte_is_lost_where_many_send,
+]
