@@ -17,8 +17,9 @@ from unproved import Unbuilt
 # Lanes if no --threads says otherwise, and as many links to a far store as there may be.
 THREADS = 4
 LINKS = 8
-# What one thread frees all threads use again. With an arena for each thread malloc keeps as much once more for each.
-ONE_ARENA = {"MALLOC_ARENA_MAX": "1"}
+# What one thread frees all threads use again. With an arena for each thread malloc keeps as much once more for each. Large blocks go
+# back to the system as soon as they are freed: else the first of them that is freed has malloc keep all later ones of its size.
+MALLOC = {"MALLOC_ARENA_MAX": "1", "MALLOC_MMAP_THRESHOLD_": "131072", "MALLOC_TRIM_THRESHOLD_": "131072"}
 
 
 class Failed(Exception):
@@ -85,7 +86,7 @@ class Server:
     def serve(self, program, front, words):
         self.make_pipes(words)
         # A signal to the whole group, as a terminal sends it, is not to end it before the front.
-        server = self.start("server", [program, *words, "--pipes", self.folder], SIGNALS, ONE_ARENA)
+        server = self.start("server", [program, *words, "--pipes", self.folder], SIGNALS, MALLOC)
         told = self.told(server, b"\0\0")
         if not told.endswith(b"\0\0"):
             # It is the help, or the fault stands on standard error.

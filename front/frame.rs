@@ -40,11 +40,14 @@ pub struct Frames {
     coming: (u64, usize),
 }
 
-pub fn head(kind: u8, number: u64, length: usize) -> [u8; HEAD] {
-    let mut bytes = [kind; HEAD];
-    bytes[1..9].copy_from_slice(&number.to_be_bytes());
-    bytes[9..].copy_from_slice(&(length as u32).to_be_bytes());
-    bytes
+/// Puts a packet behind what waits for a pipe, or nothing of it where there is no memory for it.
+pub fn put(pipe: &mut Channel, kind: u8, number: u64, bytes: &[u8]) -> io::Result<()> {
+    let mut head = [kind; HEAD];
+    head[1..9].copy_from_slice(&number.to_be_bytes());
+    head[9..].copy_from_slice(&(bytes.len() as u32).to_be_bytes());
+    pipe.reserve(HEAD + bytes.len())?;
+    pipe.put(&head)?;
+    pipe.put(bytes)
 }
 
 fn number(bytes: &[u8]) -> u64 {

@@ -15,23 +15,29 @@
 mod input;
 
 use crate::channel::Channel;
-use crate::client::Client;
-use crate::frame::{head, Frame, Frames, CLOSE, DATA, LONGEST, OPEN, PLACE, REPLIES, REQUESTS};
+use crate::client::{Client, Turn};
+use crate::frame::{self, Frame, Frames, CLOSE, DATA, LONGEST, OPEN, PLACE, REPLIES, REQUESTS};
+use crate::memory::{Half, Taken};
 use crate::shared::Shared;
 use crate::system::{Epoll, OUTPUT};
 use crate::turns::{Turns, ALONE};
 use std::collections::HashMap;
 use std::fs::File;
-use std::io::{self, ErrorKind};
-use std::mem;
+use std::io::{self, ErrorKind, Write};
 use std::time::Duration;
+use std::{fmt, mem};
 
 const WAKE: u8 = 3;
 const LET_IN: u8 = 4;
 const LET_OUT: u8 = 5;
 const NOTE: u8 = 6;
+const HOLDS: u8 = 7;
 /// The most bytes of a note.
 const LONGEST_NOTE: usize = 4096;
+/// Bytes of a number of bytes that the lane holds.
+const COUNT: usize = 8;
+/// The most bytes of a note for the lane.
+const NOTED: usize = 64;
 
 /// The most bytes of a packet from the lane.
 fn longest(kind: u8) -> Option<usize> {
@@ -39,6 +45,7 @@ fn longest(kind: u8) -> Option<usize> {
         DATA => Some(LONGEST),
         CLOSE | WAKE | LET_IN | LET_OUT => Some(0),
         NOTE => Some(LONGEST_NOTE),
+        HOLDS => Some(COUNT),
         _ => None,
     }
 }
@@ -56,6 +63,8 @@ pub struct Lane {
     /// Clients whose input waits for its turn.
     turns: Turns,
     owes_wake: bool,
+    /// A client's close could not be put.
+    owes_close: bool,
     /// How many bytes the pipe of requests holds, as far as it is known.
     pipe: usize,
     /// It waits for the lane to read on, of which no event will tell.
@@ -77,6 +86,7 @@ impl Lane {
             next: 0,
             turns: Turns::default(),
             owes_wake: false,
+            owes_close: false,
             pipe: ALONE.pipe,
             is_blind: false,
         })
@@ -86,25 +96,31 @@ impl Lane {
         !self.clients.is_empty()
     }
 
-    /// Takes a client with this address, as text.
-    pub fn take_client(&mut self, socket: File, address: &[u8], shared: &mut Shared) {
+    /// Takes a client with this address, as text. Gives it back if there is no memory for it.
+    pub fn take_client(&mut self, socket: File, address: &[u8], shared: &mut Shared) -> Result<(), File> {
         let number = self.next;
+        if self.clients.try_reserve(1).is_err() || self.put(OPEN, number, address).is_err() {
+            return Err(socket);
+        }
         self.next += 1;
         self.clients.insert(number, Client::new(Channel::new(socket, self.place | number), shared.now));
         shared.clients += 1;
-        self.put(OPEN, number, address);
         self.update(number, shared);
+        Ok(())
     }
 
-    /// Puts a packet behind what waits for the lane.
-    fn put(&mut self, kind: u8, number: u64, bytes: &[u8]) {
-        self.requests.put(&head(kind, number, bytes.len()));
-        self.requests.put(bytes);
+    /// Puts a packet behind what waits for the lane. At Err there was no memory for it.
+    fn put(&mut self, kind: u8, number: u64, bytes: &[u8]) -> io::Result<()> {
+        frame::put(&mut self.requests, kind, number, bytes)
     }
 
-    /// Sends the lane a text that is about no connection.
-    pub fn tell(&mut self, text: &str) {
-        self.put(NOTE, 0, text.as_bytes());
+    /// Sends the lane a text that is about no connection. At Err there was no memory for it.
+    pub fn tell(&mut self, text: fmt::Arguments) -> io::Result<()> {
+        let mut bytes = [0; NOTED];
+        let mut rest = &mut bytes[..];
+        rest.write_fmt(text)?;
+        let count = NOTED - rest.len();
+        self.put(NOTE, 0, &bytes[..count])
     }
 
     /// Does what an event asks for. Whether it still holds, reading and writing find out, so an old one does no harm.
@@ -115,7 +131,7 @@ impl Lane {
             number => {
                 self.flush_client(number, shared);
                 if flags != OUTPUT && self.client(number).is_some_and(|it| it.is_awaited()) {
-                    self.want_turn(number);
+                    self.want_turn(number, shared);
                 }
                 Ok(())
             }
@@ -127,9 +143,11 @@ impl Lane {
         self.clients.get_mut(&number)
     }
 
-    /// Has those events wake us that a client now waits for.
+    /// Counts what a client takes now, and has those events wake us that it now waits for.
     fn update(&mut self, number: u64, shared: &mut Shared) {
         let Some(client) = self.client(number) else { return };
+        let memory = client.memory() as u64;
+        shared.memory.count(&mut client.taken, Half::Gateway, memory);
         let input = client.is_awaited();
         if client.socket.as_mut().is_some_and(|it| it.watch(&shared.epoll, input, false).is_err()) {
             self.drop_client(number, shared);
@@ -144,6 +162,27 @@ impl Lane {
         }
     }
 
+    /// The lane now holds that many bytes for a client.
+    fn hold(&mut self, number: u64, bytes: &[u8], shared: &mut Shared) -> io::Result<()> {
+        let bytes = bytes.try_into().map_err(|_| ErrorKind::InvalidData)?;
+        let place = self.place;
+        if let Some(client) = self.client(number).filter(|it| it.socket.is_some() && !it.got_close) {
+            shared.memory.hold((place, number), &mut client.taken, u64::from_be_bytes(bytes));
+        }
+        Ok(())
+    }
+
+    /// What is counted of each client.
+    pub fn taken(&self) -> impl Iterator<Item = Taken> + '_ {
+        self.clients.values().map(|it| it.taken)
+    }
+
+    /// The client of those that are not closed which takes the most: how much, and its number. The newest of several.
+    pub fn greatest(&self, half: Half) -> Option<(u64, u64)> {
+        let open = self.clients.iter().filter(|(_, it)| it.socket.is_some());
+        open.map(|(number, it)| (it.taken.of(half), *number)).max()
+    }
+
     fn let_in(&mut self, number: u64, shared: &Shared) {
         let Some(client) = self.client(number) else { return };
         client.stranger = None;
@@ -152,12 +191,14 @@ impl Lane {
         }
     }
 
-    fn let_out(&mut self, number: u64, shared: &Shared) {
+    fn let_out(&mut self, number: u64, shared: &mut Shared) {
         let Some(client) = self.client(number) else { return };
         client.stranger = Some(shared.now);
         // Replies from before may come still.
         client.owed = usize::MAX;
-        self.ask(number);
+        if self.ask(number).is_err() {
+            self.drop_client(number, shared);
+        }
     }
 
     /// Writes to a client what waits for it.
@@ -166,7 +207,7 @@ impl Lane {
         let Some(socket) = client.socket.as_mut().filter(|it| it.waiting() > 0) else { return };
         client.active = shared.now;
         let flushed = socket.flush();
-        socket.shrink();
+        socket.shrink(0);
         match flushed {
             Ok(()) => self.close_if_out(number, shared),
             Err(_) => self.drop_client(number, shared),
@@ -175,32 +216,52 @@ impl Lane {
 
     /// Takes no more from a client, nor what is held, and tells the lane so.
     fn end_input(&mut self, number: u64, shared: &mut Shared) {
-        let Some(client) = self.client(number) else { return };
+        let Some(client) = self.clients.get_mut(&number) else { return };
         client.held = None;
         if !mem::replace(&mut client.sent_close, true) {
-            self.put(CLOSE, number, b"");
+            client.owes_close = frame::put(&mut self.requests, CLOSE, number, b"").is_err();
+            self.owes_close |= client.owes_close;
             self.update(number, shared);
         }
     }
 
     /// Takes no more from any client.
     pub fn end_inputs(&mut self, shared: &mut Shared) {
-        self.numbers().into_iter().for_each(|number| self.end_input(number, shared));
+        for client in self.clients.values_mut() {
+            client.held = None;
+            client.owes_close |= !mem::replace(&mut client.sent_close, true);
+            // One whose events can't be changed is closed with all others, a second later.
+            let _ = client.socket.as_mut().map(|it| it.watch(&shared.epoll, false, false));
+        }
+        self.owes_close = true;
     }
 
-    /// Closes a client's socket, whatever is owed.
-    fn drop_client(&mut self, number: u64, shared: &mut Shared) {
+    /// Puts the closes that are owed, and removes the clients that these were the last ends of.
+    fn put_closes(&mut self, shared: &mut Shared) {
+        if !mem::take(&mut self.owes_close) {
+            return;
+        }
+        for (number, client) in self.clients.iter_mut().filter(|(_, it)| it.owes_close) {
+            client.owes_close = frame::put(&mut self.requests, CLOSE, *number, b"").is_err();
+            self.owes_close |= client.owes_close;
+        }
+        let count = self.clients.len();
+        self.clients.retain(|_, it| !it.is_over());
+        shared.clients -= count - self.clients.len();
+    }
+
+    /// Closes a client's socket, whatever is owed. What the lane holds for it the lane is about to free.
+    pub fn drop_client(&mut self, number: u64, shared: &mut Shared) {
+        let place = self.place;
         let Some(client) = self.client(number) else { return };
         client.socket = None;
+        shared.memory.count(&mut client.taken, Half::Gateway, 0);
+        shared.memory.hold((place, number), &mut client.taken, 0);
         self.end_input(number, shared);
         self.free_if_over(number, shared);
     }
 
-    fn numbers(&self) -> Vec<u64> {
-        self.clients.keys().copied().collect()
-    }
-
-    /// Removes a client whose last end has come. Nothing else removes one.
+    /// Removes a client whose last end has come.
     fn free_if_over(&mut self, number: u64, shared: &mut Shared) {
         if self.client(number).is_some_and(|it| it.is_over()) {
             self.clients.remove(&number);
@@ -231,6 +292,7 @@ impl Lane {
                 Frame::Sign(LET_OUT, number, _) => self.let_out(number, shared),
                 Frame::Sign(WAKE, 0, _) => shared.wakes = true,
                 Frame::Sign(NOTE, 0, text) => self.take_note(text, shared),
+                Frame::Sign(HOLDS, number, bytes) => self.hold(number, bytes, shared)?,
                 Frame::Sign(..) => return Err(ErrorKind::InvalidData.into()),
             }
         }
@@ -251,8 +313,10 @@ impl Lane {
 
     /// Does what a lane's close asks for.
     fn end_output(&mut self, number: u64, shared: &mut Shared) {
+        let place = self.place;
         let Some(client) = self.client(number) else { return };
         if !mem::replace(&mut client.got_close, true) {
+            shared.memory.hold((place, number), &mut client.taken, 0);
             self.end_input(number, shared);
             self.close_if_out(number, shared);
             self.free_if_over(number, shared);
@@ -262,12 +326,20 @@ impl Lane {
     /// Closes who was silent for `idle`, unless it is zero, and asks the lane about those who were strangers for too long: it may
     /// have let them in.
     pub fn close_late(&mut self, idle: Duration, shared: &mut Shared) {
-        for number in self.numbers() {
+        let mut numbers = Vec::new();
+        if numbers.try_reserve_exact(self.clients.len()).is_err() {
+            // Who is late is late at the next sweep too.
+            return;
+        }
+        numbers.extend(self.clients.keys());
+        for number in numbers {
             let Some(client) = self.client(number) else { continue };
+            let is_late = client.asked == 0 && client.turn == Turn::None && client.is_late(shared);
             if !idle.is_zero() && shared.now - client.active >= idle {
                 self.drop_client(number, shared);
-            } else if client.asked == 0 && !client.waits && client.is_late(shared) {
-                self.ask(number);
+            } else if is_late {
+                // If there is no memory for it, it is asked at the next sweep.
+                let _ = self.ask(number);
             }
         }
     }

@@ -11,7 +11,7 @@
 //! may stay.
 
 use crate::channel::Channel;
-use crate::frame::{head, Frame, Frames, CLOSE, DATA, LONGEST, OPEN, PLACE, REPLIES, REQUESTS};
+use crate::frame::{self, Frame, Frames, CLOSE, DATA, LONGEST, OPEN, PLACE, REPLIES, REQUESTS};
 use crate::shared::Shared;
 use crate::system::{INPUT, OUTPUT};
 use std::fs::File;
@@ -22,6 +22,8 @@ use std::time::{Duration, Instant};
 const WAIT: u8 = 3;
 /// Bytes that wait for the store before no more is read from the device, and the other way round.
 const LIMIT: usize = 1 << 16;
+/// Bytes of memory that are kept for bytes that will wait.
+const KEPT: usize = 1 << 18;
 /// How long after an attempt in vain none is made.
 const PAUSE: Duration = Duration::from_secs(1);
 /// In the place of a number, the tokens of the connection and of the spare.
@@ -47,6 +49,8 @@ pub struct Link {
     number: u64,
     /// None once it is closed.
     socket: Option<Channel>,
+    /// The device was not told yet that it is closed.
+    owes_close: bool,
     /// Packets that the device waits for and those that it got, since it last began to send data.
     awaited: usize,
     given: usize,
@@ -71,6 +75,7 @@ impl Link {
             frames: Frames::new(),
             number: 0,
             socket: None,
+            owes_close: false,
             awaited: 0,
             given: 0,
             moved: shared.now,
@@ -78,7 +83,7 @@ impl Link {
             is_greeting: false,
             next: shared.now,
         };
-        link.take_spare(Ok(spare), shared);
+        link.take_spare(Some(spare), shared);
         Ok(link)
     }
 
@@ -101,7 +106,9 @@ impl Link {
         if self.socket.is_some() && is_owed && shared.now - self.moved >= patience {
             self.close();
         }
+        self.owes_close = self.owes_close && frame::put(&mut self.replies, CLOSE, self.number, b"").is_err();
         self.replies.flush()?;
+        self.replies.shrink(KEPT);
         let has_room = self.replies.waiting() < LIMIT;
         if self.socket.as_mut().is_some_and(|it| it.watch(&shared.epoll, has_room, false).is_err()) {
             self.close();
@@ -121,10 +128,10 @@ impl Link {
         wants
     }
 
-    /// Takes the spare that was made, or why there is none.
-    pub fn take_spare(&mut self, made: io::Result<File>, shared: &Shared) {
-        let watch = |file| shared.epoll.watch(&file, 0, INPUT, self.place | SPARE).map(|()| file);
-        self.spare = made.and_then(watch).ok();
+    /// Takes the spare that was made, None if none could be.
+    pub fn take_spare(&mut self, made: Option<File>, shared: &Shared) {
+        let is_watched = |file: &File| shared.epoll.watch(file, 0, INPUT, self.place | SPARE).is_ok();
+        self.spare = made.filter(is_watched);
         self.is_greeting = false;
         if self.spare.is_none() {
             self.next = shared.now + PAUSE;
@@ -162,7 +169,7 @@ impl Link {
     }
 
     fn open(&mut self, number: u64, shared: &Shared) -> io::Result<()> {
-        (self.number, self.socket) = (number, None);
+        (self.number, self.socket, self.owes_close) = (number, None, false);
         (self.awaited, self.given, self.moved) = (0, 0, shared.now);
         match self.spare.take() {
             Some(spare) => {
@@ -175,10 +182,9 @@ impl Link {
         Ok(())
     }
 
-    /// Ends the connection, and tells the device so.
+    /// Ends the connection, which the device is told once there is memory for that.
     fn close(&mut self) {
-        self.socket = None;
-        self.replies.put(&head(CLOSE, self.number, 0));
+        (self.socket, self.owes_close) = (None, true);
     }
 
     /// Puts bytes of the device behind those that wait for the store.
@@ -191,13 +197,16 @@ impl Link {
         if socket.waiting() == 0 {
             self.moved = now;
         }
-        socket.put(bytes);
+        if socket.put(bytes).is_err() {
+            self.close();
+        }
     }
 
     fn flush_socket(&mut self, now: Instant) {
         let Some(socket) = &mut self.socket else { return };
         let waiting = socket.waiting();
         let flushed = socket.flush();
+        socket.shrink(KEPT);
         if socket.waiting() < waiting {
             self.moved = now;
         }
@@ -215,8 +224,9 @@ impl Link {
                 self.given += 1;
                 self.awaited = self.awaited.min(self.given);
                 self.moved = shared.now;
-                self.replies.put(&head(DATA, self.number, count));
-                self.replies.put(&shared.room[..count]);
+                if frame::put(&mut self.replies, DATA, self.number, &shared.room[..count]).is_err() {
+                    self.close();
+                }
             }
         }
     }

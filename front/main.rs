@@ -4,9 +4,12 @@
 
 mod channel;
 mod client;
+mod figures;
 mod frame;
 mod lane;
 mod link;
+mod listener;
+mod memory;
 mod shared;
 mod store;
 mod stranger;
@@ -14,19 +17,17 @@ mod system;
 mod turns;
 mod words;
 
+use figures::Figure;
 use frame::PLACE;
 use lane::Lane;
 use link::Link;
+use listener::{listen_at, Listener};
 use shared::Shared;
 use std::fmt::Display;
 use std::fs::{self, File};
 use std::io::{self, ErrorKind, Write};
-use std::net::{SocketAddr, TcpListener, TcpStream};
-use std::os::fd::OwnedFd;
-use std::os::unix::ffi::OsStrExt;
+use std::net::{SocketAddr, TcpListener};
 use std::os::unix::fs::{FileTypeExt, OpenOptionsExt};
-use std::os::unix::net::{UnixListener, UnixStream};
-use std::path::{Path, PathBuf};
 use std::process::ExitCode;
 use std::time::{Duration, Instant};
 use std::{env, thread};
@@ -37,7 +38,7 @@ use words::{Options, USAGE};
 const REFUSAL: &[u8] = b"-ERR max number of clients reached\r\n";
 /// How long replies that are owed are waited for at the end.
 const END: Duration = Duration::from_secs(1);
-/// How often it is looked for who was silent too long, and the least time between two reports of refused clients.
+/// How often it is looked for who was silent too long.
 const SWEEP: Duration = Duration::from_secs(1);
 /// How often a pipe is looked at of which no event tells.
 const LOOK: Duration = Duration::from_millis(1);
@@ -47,8 +48,6 @@ const PAUSE: Duration = Duration::from_millis(10);
 const FILES: usize = 16;
 const LINK_FILES: usize = 4;
 const EVENTS: usize = 256;
-/// The most bytes of a client's address.
-const ADDRESS: usize = 64;
 /// ENXIO: nobody has opened a pipe for reading.
 const NO_READER: i32 = 6;
 /// Tokens of what is no lane's and no link's, whose place is the highest: the signals, and the listeners and the store below.
@@ -57,6 +56,7 @@ const LISTENERS: u64 = SIGNALS - 2;
 const STORE: u64 = LISTENERS - 1;
 
 fn main() -> ExitCode {
+    system::free_at_once();
     let options = match Options::read(env::args_os().skip(1)) {
         Ok(options) => options,
         Err(fault) => {
@@ -89,10 +89,11 @@ fn serve(options: &Options) -> Result<(), String> {
         lanes: Vec::new(),
         store: far_store(options)?,
         links: Vec::new(),
-        shared: Shared::new(epoll, options.output_limit, options.guarded, seconds(options.auth_timeout)),
+        shared: Shared::new(epoll, options),
         connections: room_for(options)?,
         next: 0,
-        refusals: Refusals { count: 0, told: 0, next: Instant::now() },
+        refused: 0,
+        figures: Figure::all(Instant::now()),
     };
     let mut ready = "ready".to_string();
     if let Some(port) = options.port {
@@ -115,19 +116,8 @@ fn far_store(options: &Options) -> Result<Option<Store>, String> {
     let Some(address) = &options.far_resp else { return Ok(None) };
     let path = options.far_password_file.as_ref();
     let password = path.map(|it| of(format_args!("--far-password-file {}", it.display()), store::password(it)));
-    let store = Store::new(address, password.transpose()?, seconds(options.far_timeout));
+    let store = Store::new(address, password.transpose()?, seconds(options.far_timeout), options.far_links.len());
     of(format_args!("far store {}", address.to_string_lossy()), store).map(Some)
-}
-
-/// Listens at a path to which nobody but the owner may connect.
-fn listen_at(path: &Path) -> io::Result<UnixListener> {
-    // A socket that nobody listens on is left of a front that was killed.
-    let is_left = fs::metadata(path).is_ok_and(|it| it.file_type().is_socket())
-        && UnixStream::connect(path).is_err_and(|it| it.kind() == ErrorKind::ConnectionRefused);
-    if is_left {
-        fs::remove_file(path)?;
-    }
-    system::for_owner_alone(|| UnixListener::bind(path))
 }
 
 /// How many connections there may be, since each is a file.
@@ -138,36 +128,6 @@ fn room_for(options: &Options) -> Result<usize, String> {
         eprintln!("front: {room} connections at most, since {files} files may be open");
     }
     Ok(room.min(options.connections))
-}
-
-struct Listener {
-    file: OwnedFd,
-    /// Of a Unix socket.
-    path: Option<PathBuf>,
-}
-
-impl Listener {
-    /// A new connection, and the client's address as CLIENT LIST of redis-server shows it.
-    fn accept(&self) -> io::Result<(File, Vec<u8>)> {
-        let socket = TcpStream::from(OwnedFd::from(system::accept(&self.file)?));
-        let mut address = match &self.path {
-            Some(path) => [path.as_os_str().as_bytes(), b":0"].concat(),
-            // Built again without the scope of IPv6. A client that has gone has none.
-            None => {
-                socket.peer_addr().map_or("?:0".into(), |it| SocketAddr::new(it.ip(), it.port()).to_string()).into()
-            }
-        };
-        address.truncate(ADDRESS);
-        Ok((OwnedFd::from(socket).into(), address))
-    }
-}
-
-/// Clients that were refused since the start, which the server is told.
-struct Refusals {
-    count: u64,
-    told: u64,
-    /// When it may be told again.
-    next: Instant,
 }
 
 struct Front {
@@ -181,7 +141,9 @@ struct Front {
     connections: usize,
     /// Whose turn it is to get a connection.
     next: usize,
-    refusals: Refusals,
+    /// How many clients were refused since the start.
+    refused: u64,
+    figures: [Figure; 3],
 }
 
 impl Front {
@@ -190,9 +152,9 @@ impl Front {
         if !self.open_pipes(options, spares)? {
             return Ok(());
         }
-        for (token, listener) in (LISTENERS..).zip(&self.listeners) {
+        for (place, listener) in self.listeners.iter().enumerate() {
             of("listening", system::widen(&listener.file))?;
-            of("listening", self.shared.epoll.watch(&listener.file, 0, INPUT, token))?;
+            of("listening", self.shared.epoll.watch(&listener.file, 0, INPUT, LISTENERS + place as u64))?;
         }
         if let Some(store) = &self.store {
             of("events", self.shared.epoll.watch(&store.wake, 0, INPUT, STORE))?;
@@ -205,6 +167,7 @@ impl Front {
             if self.shared.now - swept >= SWEEP {
                 swept = self.shared.now;
                 self.lanes.iter_mut().for_each(|it| it.close_late(idle, &mut self.shared));
+                debug_assert!(self.shared.memory.is_sum_of(self.lanes.iter().flat_map(Lane::taken)));
             }
         }
         self.stop();
@@ -235,7 +198,7 @@ impl Front {
                 return Ok(None);
             }
             if count == 0 && left.is_zero() {
-                return Err(store.fault(ErrorKind::TimedOut.into()));
+                return Err(store.fault(io::Error::from(ErrorKind::TimedOut).into()));
             }
             for (link, made) in store.greeted() {
                 spares[link] = Some(made.map_err(|fault| store.fault(fault))?);
@@ -307,18 +270,24 @@ impl Front {
     fn see(&mut self, place: usize, token: u64, flags: u32) -> Result<(), String> {
         let shared = &mut self.shared;
         match place.checked_sub(self.lanes.len()) {
-            None => of(format_args!("lane {place} has ended"), self.lanes[place].see(token, flags, shared)),
+            None => {
+                of(format_args!("lane {place} has ended"), self.lanes[place].see(token, flags, shared))?;
+                self.close_greatest();
+                Ok(())
+            }
             Some(link) => of(format_args!("far link {link} has ended"), self.links[link].see(token, flags, shared)),
         }
     }
 
     /// Hands over to the lanes and by the links what came for them.
     fn hand_over(&mut self) -> Result<(), String> {
-        self.tell_refusals();
-        for (place, lane) in self.lanes.iter_mut().enumerate() {
-            of(format_args!("lane {place} has ended"), lane.hand_over(&mut self.shared))?;
-        }
+        self.tell_figures();
+        self.hand_over_to_lanes()?;
         self.shared.wakes = false;
+        // What is held of a client counts too, and a lane is to be told at once who was closed.
+        while self.close_greatest() {
+            self.hand_over_to_lanes()?;
+        }
         let Some(store) = &self.store else { return Ok(()) };
         for (number, link) in self.links.iter_mut().enumerate() {
             of(format_args!("far link {number} has ended"), link.hand_over(store.patience(), &mut self.shared))?;
@@ -329,37 +298,67 @@ impl Front {
         Ok(())
     }
 
-    /// Reports to the first lane how many clients were refused, if more were.
-    fn tell_refusals(&mut self) {
-        let it = &mut self.refusals;
-        if it.told != it.count && self.shared.now >= it.next {
-            (it.told, it.next) = (it.count, self.shared.now + SWEEP);
-            self.lanes[0].tell(&format!("rejected_connections {}", it.count));
+    fn hand_over_to_lanes(&mut self) -> Result<(), String> {
+        for (place, lane) in self.lanes.iter_mut().enumerate() {
+            of(format_args!("lane {place} has ended"), lane.hand_over(&mut self.shared))?;
+        }
+        Ok(())
+    }
+
+    /// Closes the clients that take the most, while all together take more than they may. Says whether there were any.
+    fn close_greatest(&mut self) -> bool {
+        let closed = self.shared.memory.closed;
+        while let Some(half) = self.shared.memory.above() {
+            let each = self.lanes.iter().enumerate();
+            let greatest = each.filter_map(|(place, it)| it.greatest(half).map(|it| (it, place))).max();
+            let Some(((_, number), place)) = greatest else { break };
+            self.shared.memory.closed += 1;
+            self.lanes[place].drop_client(number, &mut self.shared);
+        }
+        self.shared.memory.closed > closed
+    }
+
+    /// Reports to the first lane those figures that have changed.
+    fn tell_figures(&mut self) {
+        let (memory, now) = (&self.shared.memory, self.shared.now);
+        let values = [self.refused, memory.closed, memory.sum()];
+        for (figure, value) in self.figures.iter_mut().zip(values) {
+            if figure.is_due(value, now) && self.lanes[0].tell(format_args!("{} {value}", figure.name)).is_ok() {
+                figure.tell(value, now);
+            }
         }
     }
 
     /// Gives the links the connections that were made for them.
     fn take_spares(&mut self) {
         for (link, made) in self.store.iter().flat_map(Store::greeted) {
-            self.links[link].take_spare(made, &self.shared);
+            self.links[link].take_spare(made.ok(), &self.shared);
         }
     }
 
     fn take_client(&mut self, listener: usize) {
         match self.listeners[listener].accept() {
-            Ok((socket, address)) if self.shared.clients < self.connections => {
-                self.lanes[self.next].take_client(socket, &address, &mut self.shared);
-                self.next = (self.next + 1) % self.lanes.len();
-            }
-            Ok((mut socket, _)) => {
-                // A new socket has room for it.
-                let _ = socket.write(REFUSAL);
-                self.refusals.count += 1;
+            Ok((socket, address)) => {
+                let taken = match self.shared.clients < self.connections {
+                    true => self.lanes[self.next].take_client(socket, address.bytes(), &mut self.shared),
+                    false => Err(socket),
+                };
+                match taken {
+                    Ok(()) => self.next = (self.next + 1) % self.lanes.len(),
+                    Err(socket) => self.refuse(socket),
+                }
             }
             // The client has gone.
             Err(fault) if matches!(fault.kind(), ErrorKind::WouldBlock | ErrorKind::ConnectionAborted) => {}
             Err(_) => thread::sleep(PAUSE),
         }
+        self.close_greatest();
+    }
+
+    fn refuse(&mut self, mut socket: File) {
+        // A new socket has room for it.
+        let _ = socket.write(REFUSAL);
+        self.refused += 1;
     }
 
     /// Takes no new input, and waits until nothing is owed, a second at most. A lane that fails by now owes nothing.

@@ -1,7 +1,9 @@
 //! What all lanes and links share.
 
+use crate::memory::Memory;
 use crate::system::Epoll;
 use crate::turns::ALONE;
+use crate::words::Options;
 use std::time::{Duration, Instant};
 
 pub struct Shared {
@@ -14,6 +16,8 @@ pub struct Shared {
     pub auth_timeout: Duration,
     /// Clients of all lanes.
     pub clients: usize,
+    /// What they take.
+    pub memory: Memory,
     /// When the last events came.
     pub now: Instant,
     /// Every lane is to be woken.
@@ -23,8 +27,17 @@ pub struct Shared {
 }
 
 impl Shared {
-    pub fn new(epoll: Epoll, output_limit: usize, is_guarded: bool, auth_timeout: Duration) -> Shared {
-        let (now, room) = (Instant::now(), vec![0; ALONE.piece]);
-        Shared { epoll, output_limit, is_guarded, auth_timeout, clients: 0, now, wakes: false, room }
+    pub fn new(epoll: Epoll, options: &Options) -> Shared {
+        Shared {
+            epoll,
+            output_limit: options.output_limit,
+            is_guarded: options.guarded,
+            auth_timeout: Duration::from_secs(options.auth_timeout.into()),
+            clients: 0,
+            memory: Memory::new(options.clients_memory),
+            now: Instant::now(),
+            wakes: false,
+            room: vec![0; ALONE.piece],
+        }
     }
 }

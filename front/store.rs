@@ -1,7 +1,10 @@
-//! The far store, and connections to it. A thread of its own makes each, since the loop may wait for nothing: it connects, logs
-//! in, sees that the store answers, puts the connection into a queue and wakes the loop.
+//! The far store, and connections to it. The loop may wait for nothing, so a thread for each link makes its connections: it
+//! connects, logs in, sees that the store answers, leaves the connection where the loop finds it, and wakes the loop.
+//!
+//! The threads are there from the start, and allocate nothing: a thread that the system has no memory for would end the process.
 
 use std::ffi::{OsStr, OsString};
+use std::fmt::{self, Display, Formatter};
 use std::fs::File;
 use std::io::{self, ErrorKind, Read, Write};
 use std::net::{SocketAddr, TcpStream, ToSocketAddrs};
@@ -9,35 +12,58 @@ use std::os::fd::OwnedFd;
 use std::os::unix::ffi::OsStrExt;
 use std::os::unix::net::UnixStream;
 use std::path::{Path, PathBuf};
-use std::sync::mpsc::{channel, Receiver, Sender};
-use std::sync::Arc;
-use std::thread;
+use std::sync::{Arc, Condvar, Mutex, MutexGuard, PoisonError};
 use std::time::{Duration, Instant};
+use std::{mem, thread};
 
 /// The most bytes that are read of a password's file.
 const PASSWORD: u64 = 4096;
 /// The most bytes that are read of a reply's line.
 const LINE: usize = 256;
-const AUTH: &[u8] = b"*2\r\n$4\r\nAUTH\r\n$";
 const PING: &[u8] = b"*1\r\n$4\r\nPING\r\n";
 
 pub struct Store {
     name: OsString,
     greeter: Arc<Greeter>,
-    greeted: Receiver<Greeted>,
-    /// It has input once something was put into the queue.
+    /// It has input once a connection was made, or could not be.
     pub wake: UnixStream,
 }
 
 /// For which link a connection was to be, and whether there is one.
-pub type Greeted = (usize, io::Result<File>);
+pub type Greeted = (usize, Result<File, Fault>);
+
+/// Why there is no connection.
+pub enum Fault {
+    System(io::Error),
+    RefusesPassword,
+    AsksForPassword,
+    Ends,
+    Replies(Line),
+}
+
+/// A reply's line, as far as it was read.
+pub struct Line {
+    bytes: [u8; LINE],
+    length: usize,
+}
+
+/// What a link's thread is asked for.
+enum Task {
+    None,
+    Asked,
+    Done(Result<File, Fault>),
+}
 
 /// What the threads have.
 struct Greeter {
     address: Address,
-    password: Option<Vec<u8>>,
+    /// AUTH with the password, if there is one.
+    login: Option<Vec<u8>>,
     patience: Duration,
-    greeted: Sender<Greeted>,
+    /// By links.
+    tasks: Mutex<Vec<Task>>,
+    /// A task was asked for.
+    asked: Condvar,
     wake: UnixStream,
 }
 
@@ -60,42 +86,49 @@ pub fn password(path: &Path) -> io::Result<Vec<u8>> {
 }
 
 impl Store {
-    /// The store at HOST:PORT or at the path of a Unix socket, which may be silent for so long.
-    pub fn new(name: &OsStr, password: Option<Vec<u8>>, patience: Duration) -> io::Result<Store> {
+    /// The store at HOST:PORT or at the path of a Unix socket, which may be silent for so long, and the threads of that many links.
+    pub fn new(name: &OsStr, password: Option<Vec<u8>>, patience: Duration, links: usize) -> io::Result<Store> {
         let address = match name.as_bytes() {
             [b'/', ..] => Address::Unix(name.into()),
             _ => Address::Internet(name.to_string_lossy().to_socket_addrs()?.collect()),
         };
+        let login = password.map(|it| {
+            let length = format!("*2\r\n$4\r\nAUTH\r\n${}\r\n", it.len());
+            [length.as_bytes(), &it, b"\r\n"].concat()
+        });
         let (wake, other) = UnixStream::pair()?;
         wake.set_nonblocking(true)?;
-        let (sender, greeted) = channel();
-        let greeter = Arc::new(Greeter { address, password, patience, greeted: sender, wake: other });
-        Ok(Store { name: name.into(), greeter, greeted, wake })
+        let tasks = Mutex::new((0..links).map(|_| Task::None).collect());
+        let greeter = Arc::new(Greeter { address, login, patience, tasks, asked: Condvar::new(), wake: other });
+        for link in 0..links {
+            let greeter = greeter.clone();
+            thread::Builder::new().spawn(move || greeter.run(link))?;
+        }
+        Ok(Store { name: name.into(), greeter, wake })
     }
 
     pub fn patience(&self) -> Duration {
         self.greeter.patience
     }
 
-    /// Has a thread make a connection for a link.
+    /// Has a link's thread make a connection.
     pub fn greet(&self, link: usize) {
-        let greeter = self.greeter.clone();
-        if let Err(fault) = thread::Builder::new().spawn(move || greeter.put(link, greeter.connect())) {
-            self.greeter.put(link, Err(fault));
-        }
+        self.greeter.tasks()[link] = Task::Asked;
+        self.greeter.asked.notify_all();
     }
 
-    /// What was put into the queue.
+    /// What the threads have done.
     pub fn greeted(&self) -> impl Iterator<Item = Greeted> + '_ {
         // First, so that what comes later wakes again.
         let _ = (&self.wake).read(&mut [0; LINE]);
-        self.greeted.try_iter()
+        let count = self.greeter.tasks().len();
+        (0..count).filter_map(|link| self.greeter.tasks()[link].take().map(|made| (link, made)))
     }
 
-    /// Why there is no connection.
-    pub fn fault(&self, fault: io::Error) -> String {
-        let why = match fault.kind() {
-            ErrorKind::WouldBlock | ErrorKind::TimedOut => {
+    /// Says that there is no connection, and why.
+    pub fn fault(&self, fault: Fault) -> String {
+        let why = match fault {
+            Fault::System(fault) if matches!(fault.kind(), ErrorKind::WouldBlock | ErrorKind::TimedOut) => {
                 format!("no answer within {} seconds", self.patience().as_secs())
             }
             _ => fault.to_string(),
@@ -104,29 +137,51 @@ impl Store {
     }
 }
 
+impl Task {
+    /// What was done.
+    fn take(&mut self) -> Option<Result<File, Fault>> {
+        match mem::replace(self, Task::None) {
+            Task::Done(made) => Some(made),
+            other => {
+                *self = other;
+                None
+            }
+        }
+    }
+}
+
 impl Greeter {
-    fn put(&self, link: usize, connection: io::Result<File>) {
-        // Neither fails while there is a loop.
-        let _ = self.greeted.send((link, connection));
-        let _ = (&self.wake).write(&[0]);
+    fn tasks(&self) -> MutexGuard<'_, Vec<Task>> {
+        self.tasks.lock().unwrap_or_else(PoisonError::into_inner)
+    }
+
+    /// Makes connections for a link whenever one is asked for.
+    fn run(&self, link: usize) {
+        loop {
+            let is_idle = |tasks: &mut Vec<Task>| !matches!(tasks[link], Task::Asked);
+            drop(self.asked.wait_while(self.tasks(), is_idle).unwrap_or_else(PoisonError::into_inner));
+            let made = self.connect();
+            self.tasks()[link] = Task::Done(made);
+            // It does not fail while there is a loop.
+            let _ = (&self.wake).write(&[0]);
+        }
     }
 
     /// A connection that is logged in, and on which nothing is owed.
-    fn connect(&self) -> io::Result<File> {
+    fn connect(&self) -> Result<File, Fault> {
         let end = Instant::now() + self.patience;
         let mut socket = self.open()?;
         socket.set_write_timeout(Some(self.patience))?;
-        if let Some(password) = &self.password {
-            let length = format!("{}\r\n", password.len());
-            socket.write_all(&[AUTH, length.as_bytes(), password, b"\r\n"].concat())?;
+        if let Some(login) = &self.login {
+            socket.write_all(login)?;
             let line = read_line(&mut socket, end)?;
-            if line.starts_with(b"-WRONGPASS") || line.starts_with(b"-ERR") {
-                return Err(io::Error::other("it refuses the password"));
+            if line.bytes().starts_with(b"-WRONGPASS") || line.bytes().starts_with(b"-ERR") {
+                return Err(Fault::RefusesPassword);
             }
-            expect(&line, b"+OK")?;
+            line.expect(b"+OK\r\n")?;
         }
         socket.write_all(PING)?;
-        expect(&read_line(&mut socket, end)?, b"+PONG")?;
+        read_line(&mut socket, end)?.expect(b"+PONG\r\n")?;
         socket.set_nonblocking(true)?;
         Ok(OwnedFd::from(socket).into())
     }
@@ -149,27 +204,51 @@ impl Greeter {
 }
 
 /// Reads a line, and nothing behind it, so that a store that sends more is found out.
-fn read_line(socket: &mut TcpStream, end: Instant) -> io::Result<Vec<u8>> {
-    let mut line = Vec::new();
-    while !line.ends_with(b"\r\n") && line.len() < LINE {
+fn read_line(socket: &mut TcpStream, end: Instant) -> Result<Line, Fault> {
+    let mut line = Line { bytes: [0; LINE], length: 0 };
+    while !line.bytes().ends_with(b"\r\n") && line.length < LINE {
         let left = end.saturating_duration_since(Instant::now());
         if left.is_zero() {
-            return Err(ErrorKind::TimedOut.into());
+            return Err(io::Error::from(ErrorKind::TimedOut).into());
         }
         socket.set_read_timeout(Some(left))?;
-        let mut byte = [0];
-        if socket.read(&mut byte)? == 0 {
-            return Err(io::Error::other("it closes the connection"));
+        let count = socket.read(&mut line.bytes[line.length..][..1])?;
+        if count == 0 {
+            return Err(Fault::Ends);
         }
-        line.extend(byte);
+        line.length += count;
     }
     Ok(line)
 }
 
-fn expect(line: &[u8], want: &[u8]) -> io::Result<()> {
-    match line.strip_suffix(b"\r\n").unwrap_or(line) {
-        line if line == want => Ok(()),
-        line if line.starts_with(b"-NOAUTH") => Err(io::Error::other("it asks for a password")),
-        line => Err(io::Error::other(format!("it replies {}", line.escape_ascii()))),
+impl Line {
+    fn bytes(&self) -> &[u8] {
+        &self.bytes[..self.length]
+    }
+
+    fn expect(self, want: &[u8]) -> Result<(), Fault> {
+        match self.bytes() {
+            line if line == want => Ok(()),
+            line if line.starts_with(b"-NOAUTH") => Err(Fault::AsksForPassword),
+            _ => Err(Fault::Replies(self)),
+        }
+    }
+}
+
+impl From<io::Error> for Fault {
+    fn from(fault: io::Error) -> Fault {
+        Fault::System(fault)
+    }
+}
+
+impl Display for Fault {
+    fn fmt(&self, to: &mut Formatter<'_>) -> fmt::Result {
+        match self {
+            Fault::System(fault) => fault.fmt(to),
+            Fault::RefusesPassword => to.write_str("it refuses the password"),
+            Fault::AsksForPassword => to.write_str("it asks for a password"),
+            Fault::Ends => to.write_str("it closes the connection"),
+            Fault::Replies(line) => write!(to, "it replies {}", line.bytes().trim_ascii_end().escape_ascii()),
+        }
     }
 }

@@ -24,6 +24,10 @@ const IPPROTO_TCP: c_int = 6;
 const TCP_NODELAY: c_int = 1;
 const RLIMIT_NOFILE: c_int = 7;
 const F_SETPIPE_SZ: c_int = 1031;
+/// What mallopt is told: from how many bytes on a block is a mapping of its own, and how many free bytes the heap may end with.
+const M_MMAP_THRESHOLD: c_int = -3;
+const M_TRIM_THRESHOLD: c_int = -1;
+const LARGE: c_int = 1 << 17;
 const FIONREAD: c_ulong = 0x541B;
 
 /// What came to a file that an `Epoll` watches: events, and what it was told of the file.
@@ -44,6 +48,7 @@ extern "C" {
     fn getrlimit(what: c_int, limits: *mut [u64; 2]) -> c_int;
     fn ioctl(file: c_int, what: c_ulong, ...) -> c_int;
     fn listen(socket: c_int, waiting: c_int) -> c_int;
+    fn mallopt(what: c_int, value: c_int) -> c_int;
     fn setrlimit(what: c_int, limits: *const [u64; 2]) -> c_int;
     fn setsockopt(socket: c_int, level: c_int, name: c_int, value: *const c_int, length: c_uint) -> c_int;
     fn signalfd(file: c_int, signals: *const [u64; 16], flags: c_int) -> c_int;
@@ -124,6 +129,15 @@ pub fn for_owner_alone<T>(make: impl FnOnce() -> T) -> T {
     let made = make();
     unsafe { umask(old) };
     made
+}
+
+/// Has large blocks go back to the system as soon as they are freed. Else the first of up to 32 MiB that is freed has all later
+/// ones of that size come from the heap, which gives nothing back while anything stands behind it.
+pub fn free_at_once() {
+    unsafe {
+        mallopt(M_MMAP_THRESHOLD, LARGE);
+        mallopt(M_TRIM_THRESHOLD, LARGE);
+    }
 }
 
 /// Has the process open as many files as it may, and says how many.

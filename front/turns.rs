@@ -7,7 +7,7 @@
 //! A client that asks and waits for the reply has no input most of the time. So a lane counts as shared until one client has
 //! had all turns for a while: for long enough to think about a reply, and for more input than may come before a reply.
 
-use std::collections::VecDeque;
+use std::collections::{TryReserveError, VecDeque};
 use std::mem;
 use std::ops::Range;
 use std::time::{Duration, Instant};
@@ -54,10 +54,12 @@ impl Turns {
         self.queue.len()
     }
 
-    /// Puts a client at the back.
-    pub fn put(&mut self, number: u64) {
+    /// Puts a client at the back, unless there is no memory for it.
+    pub fn put(&mut self, number: u64) -> Result<(), TryReserveError> {
+        self.queue.try_reserve(1)?;
         self.queue.push_back(number);
         self.fresh += 1;
+        Ok(())
     }
 
     /// Whose turn it is.

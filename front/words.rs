@@ -8,7 +8,7 @@ use std::path::PathBuf;
 use std::str::FromStr;
 
 pub const USAGE: &str = "usage: front [--port N] [--bind ADDRESS] [--guarded] [--unix PATH] [--timeout SECONDS] \
-    [--auth-timeout SECONDS] [--connections N] [--output-limit BYTES] [--far-resp HOST:PORT|PATH --far-link REQUESTS REPLIES... \
+    [--auth-timeout SECONDS] [--connections N] [--output-limit BYTES] [--clients-memory BYTES] [--far-resp HOST:PORT|PATH --far-link REQUESTS REPLIES... \
     [--far-password-file FILE] [--far-timeout SECONDS]] --lane REQUESTS REPLIES [--lane REQUESTS REPLIES]...";
 const FAR_TIMEOUTS: RangeInclusive<u32> = 1..=3600;
 /// The most lanes, and the most links: each has a byte's value as its place in a token.
@@ -27,6 +27,8 @@ pub struct Options {
     pub auth_timeout: u32,
     pub connections: usize,
     pub output_limit: usize,
+    /// Bytes that clients may take together, half of them here and half in the lanes.
+    pub clients_memory: usize,
     /// The pipes of each lane: its requests, its replies.
     pub lanes: Vec<(PathBuf, PathBuf)>,
     /// Where the far store is, to which links lead.
@@ -50,6 +52,7 @@ impl Options {
             auth_timeout: 10,
             connections: 10_000,
             output_limit: 1 << 26,
+            clients_memory: 1 << 26,
             lanes: Vec::new(),
             far_resp: None,
             far_password_file: None,
@@ -68,6 +71,7 @@ impl Options {
                 "--auth-timeout" => it.auth_timeout = read(&name, value()?)?,
                 "--connections" => it.connections = read(&name, value()?)?,
                 "--output-limit" => it.output_limit = read(&name, value()?)?,
+                "--clients-memory" => it.clients_memory = read(&name, value()?)?,
                 "--lane" => it.lanes.push((value()?.into(), value()?.into())),
                 "--far-resp" => it.far_resp = Some(address(&name, value()?)?),
                 "--far-password-file" => it.far_password_file = Some(value()?.into()),

@@ -16,7 +16,7 @@ from server_parts import NONE, PATIENCE, ROOT, Client, Process, bulk, children, 
 EXAMPLE = ROOT / "examples/cluster"
 RUN = EXAMPLE / "run.sh"
 SHARDS = 4
-MEMORY = "16m"
+MEMORY = "32m"
 KEYS = [f"key{at}" for at in range(2000)]
 
 

@@ -16,6 +16,8 @@ import time
 import front_ends
 import front_link_ends
 import front_links
+import front_memory
+import front_refused
 import front_strangers
 import front_turns
 from front_parts import (CLOSE, DATA, LET_IN, LET_OUT, MEBIBYTE, NOTE, OPEN, WAKE, Front, asked, fill, frame, is_closed, pong,
@@ -79,7 +81,7 @@ def who_does_not_read_is_closed_alone(work, _):
 
 
 def who_reads_late_gets_all(work, _):
-    with Front(work) as front:
+    with Front(work, "--clients-memory", str(256 * MEBIBYTE)) as front:
         late = front.client()
         late.sendall(b"BIG %d\n" % (20 * MEBIBYTE) + b"ECHO end\n")
         pong(front.client())
@@ -278,6 +280,7 @@ TRIALS = [
     a_lane_closes_once_all_is_out, who_ends_its_input_gets_what_it_is_owed, a_wake_goes_to_every_lane,
     too_many_are_refused, idle_clients_are_closed, clients_come_and_go_in_any_way, *front_ends.TRIALS,
     *front_links.TRIALS, *front_link_ends.TRIALS, *front_strangers.TRIALS, *front_turns.TRIALS,
+    *front_memory.TRIALS, *front_refused.TRIALS,
 ]
 
 

@@ -4,9 +4,10 @@
 set -euo pipefail
 
 tests=$(dirname "$(readlink -f "${BASH_SOURCE[0]}")")
-clients=200
+clients=200 options=()
 if [ "${1:-}" = --long ]; then
-    clients=5000
+    # The sums that the front keeps are counted again.
+    clients=5000 options=(-C debug-assertions=on)
 fi
 if ! command -v rustc >/dev/null; then
     echo 'skipped: the front of the server (no Rust compiler rustc)'
@@ -14,7 +15,7 @@ if ! command -v rustc >/dev/null; then
 fi
 work=$(mktemp -d)
 trap 'rm -rf "$work"' EXIT
-rustc -O --edition 2021 -o "$work/front" "$tests/../front/main.rs"
+rustc -O "${options[@]}" --edition 2021 -o "$work/front" "$tests/../front/main.rs"
 # Most of a trial is waiting, so some are made at once.
 parts=3 running=()
 for ((part = 0; part < parts; part++)); do

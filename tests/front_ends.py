@@ -8,13 +8,14 @@ import stat
 import subprocess
 import time
 
-from front_parts import (CLOSE, DATA, HEAD, LET_IN, LET_OUT, MEBIBYTE, NOTE, OPEN, PATIENCE, WAKE, Front, is_closed, pong,
+from front_parts import (CLOSE, DATA, HEAD, HOLDS, LET_IN, LET_OUT, MEBIBYTE, NOTE, OPEN, PATIENCE, WAKE, Front, is_closed, pong,
                          received, until)
 
 
 def refused_memory_closes_one_client(work, _):
     limit = 400 * MEBIBYTE
-    with Front(work, "--output-limit", str(1 << 40), limits=[(resource.RLIMIT_AS, limit)]) as front:
+    ample = ["--output-limit", str(1 << 40), "--clients-memory", str(1 << 40)]
+    with Front(work, *ample, limits=[(resource.RLIMIT_AS, limit)]) as front:
         lazy, other = front.client(), front.client()
         for _ in range(100):
             with contextlib.suppress(OSError):
@@ -54,6 +55,7 @@ def faults_at_the_start(work, _):
         tell(2, f"--bind {address} needs --guarded", "--port", "0", "--bind", address, *lane)
     tell(2, "--connections x: no value", "--port", "0", "--connections", "x", *lane)
     tell(2, "--output-limit : no value", "--port", "0", "--output-limit", "", *lane)
+    tell(2, "--clients-memory 1m: no value", "--port", "0", "--clients-memory", "1m", *lane)
     tell(2, "--lane lacks its value", "--port", "0", "--lane", pipe)
     tell(2, "--more is no option", "--more")
 
@@ -114,9 +116,10 @@ def a_signal_ends_it_before_the_lanes_come(work, _):
 
 def a_lane_that_fails_ends_it(work, _):
     # An unknown kind, an open, bytes where none may be, too many bytes, and a number where none may be.
-    packets = [(7, 0, 0), (255, 0, 0), (OPEN, 0, 0), (CLOSE, 0, 1), (LET_IN, 0, 1), (LET_OUT, 0, 1), (WAKE, 0, 1),
-               (DATA, 0, MEBIBYTE + 1), (NOTE, 0, 4097), (WAKE, 1, 0), (NOTE, 1, 0)]
-    faults = [b"DIE"] + [b"RAW " + (HEAD.pack(*it) + bytes(min(it[2], 1))).hex().encode() for it in packets]
+    packets = [(8, 0, 0), (255, 0, 0), (OPEN, 0, 0), (CLOSE, 0, 1), (LET_IN, 0, 1), (LET_OUT, 0, 1), (WAKE, 0, 1),
+               (DATA, 0, MEBIBYTE + 1), (NOTE, 0, 4097), (WAKE, 1, 0), (NOTE, 1, 0), (HOLDS, 0, 7), (HOLDS, 0, 9),
+               (HOLDS, 99, 0)]
+    faults = [b"DIE"] + [b"RAW " + (HEAD.pack(*it) + bytes(min(it[2], 7))).hex().encode() for it in packets]
     for fault in faults:
         with Front(work, lanes=2, unix=True) as front:
             clients = [front.client() for _ in range(4)]

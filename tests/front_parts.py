@@ -9,9 +9,11 @@ import threading
 import time
 from pathlib import Path
 
-DATA, OPEN, CLOSE, WAKE, LET_IN, LET_OUT, NOTE = range(7)
+DATA, OPEN, CLOSE, WAKE, LET_IN, LET_OUT, NOTE, HOLDS = range(8)
 HEAD = struct.Struct(">BQI")
 MEBIBYTE = 1 << 20
+# Figures that the first lane is told whenever they change.
+FIGURES = (b"clients_memory ", b"clients_closed ")
 # How long anything may take that has to come.
 PATIENCE = 20
 
@@ -38,6 +40,8 @@ class Lane(threading.Thread):
         self.paths = [folder / f"requests{number}", folder / f"replies{number}"]
         self.replies_first = replies_first
         self.frames, self.halves, self.closing, self.withheld = [], {}, set(), []
+        # Each value that a figure had.
+        self.figures = {it.strip(): [] for it in FIGURES}
         self.reads = threading.Event()
         self.reads.set()
         self.closes = True
@@ -58,8 +62,12 @@ class Lane(threading.Thread):
                 self.reads.wait()
                 kind, connection, length = HEAD.unpack(self.exactly(requests, HEAD.size))
                 data = self.exactly(requests, length)
-                self.frames.append((kind, connection, data))
-                self.obey(kind, connection, data)
+                if kind == NOTE and data.startswith(FIGURES):
+                    name, value = data.split()
+                    self.figures[name].append((time.monotonic(), int(value)))
+                else:
+                    self.frames.append((kind, connection, data))
+                    self.obey(kind, connection, data)
         with contextlib.suppress(OSError):
             os.close(self.output)
 
@@ -128,6 +136,8 @@ class Lane(threading.Thread):
         elif command == b"QUIT":
             self.send(frame(DATA, connection, b"+OK\r\n") + frame(CLOSE, connection))
             self.closing.add(connection)
+        elif command == b"HOLD":
+            self.send(frame(HOLDS, connection, int(value).to_bytes(8, "big")))
         elif command == b"DIE":
             os.close(self.output)
             raise EOFError
@@ -207,6 +217,15 @@ class Front:
     def memory(self):
         """Bytes that are resident."""
         return int(Path(f"/proc/{self.process.pid}/statm").read_text().split()[1]) * os.sysconf("SC_PAGE_SIZE")
+
+    def most_memory(self):
+        """The most bytes that ever were resident."""
+        status = Path(f"/proc/{self.process.pid}/status").read_text()
+        return 1024 * int(status.partition("VmHWM:")[2].split()[0])
+
+    def figure(self, name):
+        """The last value that the first lane was told."""
+        return next((value for _, value in reversed(self.lanes[0].figures[name])), 0)
 
     def rests(self):
         """Says whether it takes next to no processor time in a while."""

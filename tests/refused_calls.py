@@ -35,9 +35,11 @@ WITHOUT_GROWTH = {
     )
 }
 # The calls that do without some growths that they are refused: they read a copy of a pair that they can't fetch; a handover keeps in
-# memory what its device has no memory for; a run or a server whose threads are not started, or that looks less far ahead.
+# memory what its device has no memory for; a run or a server whose threads are not started, or that looks less far ahead; a lane keeps
+# room that it gives back else.
 UNSEEN = {
     "Calls::with, the device", "Calls::contains, the device", "Handover::add_far", "Handover::take, the device", "run_renewed", "run_server",
+    "serve, three connections",
 }
 TOLD = ("memory, then ok", "not prepared")
 

@@ -192,5 +192,27 @@ def scan_gives_every_key_that_stays(tried, _):
     assert other.ask("FLUSHDB") == OK and client.ask("DBSIZE") == b":0\r\n" and client.ask("GET", "stay1") == NONE
 
 
+def a_page_of_scan_holds_up_nobody(tried, _):
+    """A page looks at 1,000 keys and 65,536 buckets at most, whatever COUNT says, and goes on over empty buckets up to that."""
+    if tried.is_redis:
+        return "(skipped: redis-server takes any COUNT)"
+    with tried.start(memory="128m", far=None) as server, server.client() as client:
+        cursor, pages = b"0", 0
+        while cursor != b"0" or not pages:
+            cursor, keys = client.strings("SCAN", cursor)
+            assert keys == []
+            pages += 1
+        assert pages <= 64, pages
+        client.ask_all([("SET", f"key{at}", "1") for at in range(20_000)])
+        cursor, found, longest, slowest = b"0", 0, 0, 0
+        while cursor != b"0" or not found:
+            began = time.monotonic()
+            cursor, keys = client.strings("SCAN", cursor, "COUNT", 1_000_000_000)
+            slowest = max(slowest, time.monotonic() - began)
+            found, longest = found + len(keys), max(longest, len(keys))
+        assert found == 20_000 and longest < 1_200 and slowest < 1, (found, longest, slowest)
+        return f"an empty server has {pages} pages; {longest} keys at most, {slowest * 1000:.0f} ms at most"
+
+
 TRIALS = [one_order_explains_several_clients, no_increment_is_lost, appends_and_float_sums_are_kept, values_expire,
-          what_expires_goes_though_nobody_meets_it, scan_gives_every_key_that_stays]
+          what_expires_goes_though_nobody_meets_it, scan_gives_every_key_that_stays, a_page_of_scan_holds_up_nobody]

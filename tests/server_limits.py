@@ -8,6 +8,9 @@ from server_parts import MEBIBYTE, NONE, OK, PONG, bulk, request, until
 
 # What the server may hold at once in these trials, by its own count of resident bytes.
 MOST_RESIDENT = 600 * MEBIBYTE
+# As much memory as has the greatest bound on replies, and few buckets.
+MUCH = {"memory": "4g"}
+FEW = ("--buckets", 1000)
 # The longest value, and how many of them the reply to one request has room for.
 VALUE = b"x" * MEBIBYTE
 MOST_VALUES = 63
@@ -38,7 +41,7 @@ def is_well(server):
 
 def an_mget_has_a_bounded_reply(tried, _):
     """What would pass the bound is refused whole, and what does not is answered whole."""
-    with tried.start() as server, server.client() as client:
+    with tried.start(*FEW, **MUCH) as server, server.client() as client:
         assert client.ask("SET", "k", VALUE) == OK and client.ask("SET", "small", "1") == OK
         for count in (MOST_VALUES + 1, 80, 4200):
             assert client.ask("MGET", *["k"] * count) == TOO_LARGE, count
@@ -50,7 +53,7 @@ def an_mget_has_a_bounded_reply(tried, _):
 
 def an_exec_has_a_bounded_reply(tried, _):
     """From the first command on for which there is no room each has an error, and none is run."""
-    with tried.start() as server, server.client() as client:
+    with tried.start(*FEW, **MUCH) as server, server.client() as client:
         assert client.ask("SET", "k", VALUE) == OK
         got = [("GET", "k")]
         said = executed(client, *got * 70, ("SET", "later", "1"), ("INCR", "number"))
@@ -68,7 +71,7 @@ def an_exec_has_a_bounded_reply(tried, _):
 def other_replies_are_bounded(tried, _):
     """Long requests, and requests of long replies, of one command each."""
     most = 8 * MEBIBYTE
-    with tried.start("--value-limit", "8m", memory="128m") as server, server.client() as client:
+    with tried.start("--value-limit", "8m", memory="512m") as server, server.client() as client:
         echoed = b"e" * (2 * most - len("ECHO"))
         assert client.ask("ECHO", echoed) == bulk(echoed)
         long = b"v" * most

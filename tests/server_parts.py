@@ -219,11 +219,10 @@ class Farserve(Process):
                     return pid
         raise AssertionError(f"there is no process {name}")
 
-    def peak(self):
-        """The most bytes of the program that were resident at once."""
-        status = Path(f"/proc/{self.pid('farserve')}/status").read_text()
+    def peak(self, name="farserve"):
+        """The most bytes of the process of `front` or `farserve` that were resident at once."""
+        status = Path(f"/proc/{self.pid(name)}/status").read_text()
         return int(status.partition("VmHWM:")[2].split()[0]) << 10
-
 
     def files(self, name):
         """How many files the process of `front` or `farserve` has open."""

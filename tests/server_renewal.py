@@ -1,11 +1,14 @@
 """Trials of server.py: a server whose names are few begins a new map many times, under load, and no reply is lost."""
+import os
 import random
+import subprocess
 import threading
 import time
+from pathlib import Path
 
 import histories
 from server_keys import CLIENTS, answered, random_call, replies_of, scan_all, side_by_side
-from server_parts import MEBIBYTE, NONE, OK, PATIENCE, bulk, request, until
+from server_parts import MEBIBYTE, NONE, OK, PATIENCE, ROOT, bulk, request, until
 from stores_parts import Store
 
 # With so many names for so few buckets a renewal comes behind some two thousand changes, or some two hundred.
@@ -250,5 +253,29 @@ def faults_of_the_names(tried, _):
         assert text in said and "--names" in said, (options, said)
 
 
+def files_that_can_not_be_cut_end_nothing(tried, _):
+    """A renewal begins its scratch files anew. If the system refuses to cut them they are written again as they are."""
+    library = Path(tried.work) / "fail_cut.so"
+    subprocess.run(["cc", "-O", "-Wall", "-shared", "-fPIC", "-o", library, ROOT / "tests/fail_cut.c"], check=True)
+    os.environ["LD_PRELOAD"] = str(library)
+    try:
+        server = tried.start(*FEW, memory="32m", far="uncut")
+    finally:
+        del os.environ["LD_PRELOAD"]
+    with server:
+        client = server.client()
+        values = {f"key{at}": b"%03d" % at * 15_000 for at in range(300)}
+        for turn in range(8):
+            for name, value in values.items():
+                told = client.ask("SET", name, value)
+                assert told == OK, (turn, name, told)
+            wrong = [it for it, value in values.items() if client.value("GET", it) != value]
+            assert not wrong, (turn, wrong[:5])
+        assert renewals(client) > 2
+        nothing_is_lost(client)
+        assert server.scratch() > MEBIBYTE
+        return f"{renewals(client)} renewals"
+
+
 TRIALS = [names_are_renewed_under_load, one_order_explains_clients_across_renewals, what_lies_on_disk_is_renewed,
-          what_fills_memory_is_renewed, what_lies_in_a_store_is_renewed, faults_of_the_names]
+          what_fills_memory_is_renewed, what_lies_in_a_store_is_renewed, files_that_can_not_be_cut_end_nothing, faults_of_the_names]

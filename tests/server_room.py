@@ -8,8 +8,6 @@ from server_ends import SLACK
 from server_parts import MEBIBYTE, OK, bulk, until
 
 FULL = b"-OOM command not allowed"
-# What changes of large values have in memory beside the map's objects: five copies in each of four threads, the sweep and the evictor.
-COPIES = 6 * 5 * MEBIBYTE
 # Larger than any value that is set here. A value is a part of it.
 BYTES = random.Random(7).randbytes(2 * MEBIBYTE)
 
@@ -76,8 +74,8 @@ def set_values(clients, count, size_of, first=0):
 
 def only_memory_refuses_without_far(tried, counts):
     """All buckets are filled long before memory is: the first refusal comes when that is full, and says so."""
-    memory, size = 32 * MEBIBYTE, 2_000
-    with tried.start("--buckets", 503, memory="32m", far=None) as server:
+    memory, size = 48 * MEBIBYTE, 2_000
+    with tried.start("--buckets", 503, memory="48m", far=None) as server:
         clients = [server.client() for _ in range(8)]
         # A bucket has some keys after this, so none is empty.
         assert set(set_values(clients, 5_000, lambda it: size).values()) == {OK}
@@ -85,8 +83,8 @@ def only_memory_refuses_without_far(tried, counts):
         told = set(replies.values()) - {OK}
         refused = [it for it in replies if replies[it] != OK]
         assert len(told) == 1 and min(told).startswith(FULL), told
-        held = (15_000 - len(refused)) * size
-        assert memory * 0.5 < held < memory, f"{held / MEBIBYTE:.1f} MiB were set before the first refusal"
+        held, most = (15_000 - len(refused)) * size, int(clients[0].info("far")["most_in_frames"])
+        assert most * 0.8 < held < most * 1.3, f"{held / MEBIBYTE:.1f} MiB were set before the first refusal, of {most / MEBIBYTE:.1f}"
         assert clients[0].ask("GET", f"key{min(refused)}") == b"$-1\r\n" and clients[0].ask("GET", "key7") == bulk(value_of(7, size))
         is_refused_by_no_device(clients[0])
         until(lambda: int(clients[0].info("far")["refused_memory"]) == len(refused), "a count of all refusals")
@@ -95,7 +93,7 @@ def only_memory_refuses_without_far(tried, counts):
         assert set(set_values(clients, 100, lambda it: size).values()) == {OK}
         peak = server.peak()
         assert peak < memory * SLACK, f"{peak / MEBIBYTE:.1f} MiB were resident"
-    return f"{held / MEBIBYTE:.1f} MiB of 32 were set, {peak / MEBIBYTE:.1f} were resident"
+    return f"{held / MEBIBYTE:.1f} MiB were set, {peak / MEBIBYTE:.1f} were resident"
 
 
 def of_sizes(least, most):
@@ -119,7 +117,7 @@ def sets_of_all_sizes(server, counts, memory):
     kept = [it for it in last if clients[0].ask("GET", f"key{it}") == bulk(value_of(it, size_of(it)))]
     assert len(kept) > 5, f"{len(kept)} of the last 200 were kept"
     peak = server.peak()
-    assert peak < memory * SLACK + COPIES, f"{peak / MEBIBYTE:.1f} MiB were resident"
+    assert peak < memory * SLACK, f"{peak / MEBIBYTE:.1f} MiB were resident"
     return f"{len(replies)} set, {int(clients[0].info('stats')['evicted_keys'])} evicted, {peak / MEBIBYTE:.1f} MiB resident"
 
 

@@ -8,7 +8,7 @@ import time
 
 import histories
 from server_keys import CLIENTS, answered, random_call, replies_of, side_by_side
-from server_parts import MEBIBYTE, NONE, OK, PONG, bulk, until
+from server_parts import MEBIBYTE, NONE, OK, PONG, bulk, request, until
 from stores_parts import Proxied, Store
 
 FAILED = b"-ERR far device failed\r\n"
@@ -164,6 +164,49 @@ def one_order_over_a_store_that_comes_and_goes(tried, counts):
     return f"{refused} calls were refused in {runs} runs, {lost} buckets were lost"
 
 
+def a_store_that_refuses_writes_is_left_alone(tried, _):
+    """The store becomes a copy of one that is not there: it answers reads, and refuses all else. Then it takes writes again."""
+    with Store(tried.work) as store, over(tried, store, "--threads", 1) as server:
+        client, other, far = server.client(), server.client(), store.client()
+        objects = filled(client)
+        assert client.info()["far_state"] == "ok"
+        assert far.ask("REPLICAOF", "127.0.0.1", "1") == OK
+
+        def asked():
+            return int(far.info("stats")["total_commands_processed"])
+        before, began, refused, slowest = asked(), time.monotonic(), 0, {"SET": 0, "DEL": 0}
+        gone = set()
+        while time.monotonic() < began + 5:
+            at, now = random.randrange(COUNT), time.monotonic()
+            # A key that goes leaves its object in the store, to be removed some day. Some hundreds of these may wait, and then a
+            # command looks for room among them all before it is refused.
+            asked_for = ("DEL", f"key{at}") if now > began + 2 else ("SET", f"key{at}", value(at))
+            client.send(request(*asked_for))
+            assert other.ask("PING") == PONG
+            told = client.reply()
+            slowest[asked_for[0]] = max(slowest[asked_for[0]], time.monotonic() - now)
+            assert told in (OK, FAILED, b":0\r\n", b":1\r\n") or told.startswith(b"-OOM"), told
+            refused += told.startswith(b"-")
+            if told == b":1\r\n":
+                gone.add(at)
+        rate = (asked() - before) / (time.monotonic() - began)
+        # What INFO itself asked is in it.
+        assert refused > 10 and rate < 100 and slowest["SET"] < .1 and slowest["DEL"] < 3, (refused, rate, slowest)
+        assert client.info()["far_state"] == "resting"
+        # Reads go on meanwhile.
+        left = [it for it in range(COUNT) if it not in gone]
+        good, lost, _ = outcomes(client, left[::10])
+        assert lost == 0, (good, lost)
+        before, began = asked(), time.monotonic()
+        time.sleep(2)
+        idle = (asked() - before) / (time.monotonic() - began)
+        assert idle < 100, idle
+        assert far.ask("REPLICAOF", "NO", "ONE") == OK
+        until(lambda: client.ask("SET", "key0", value(0)) == OK and client.info()["far_state"] == "ok", "writes that are taken again")
+        assert outcomes(client, left)[:2] == (len(left), 0)
+    return f"of {objects} objects; {len(gone)} removed, {refused} refused, the slowest {slowest}; {rate:.0f} calls a second, {idle:.0f} idle"
+
+
 def several_stores_behind_a_proxy(tried, _):
     if shutil.which("nutcracker") is None:
         return "(skipped: no nutcracker)"
@@ -217,5 +260,5 @@ def faults_of_a_store_at_the_start(tried, _):
 
 
 TRIALS = [what_has_no_room_lies_in_a_store, a_killed_store_is_named, a_stopped_store_is_late, others_go_on_beside_a_stopped_store,
-          one_order_over_a_store_that_comes_and_goes, several_stores_behind_a_proxy, a_store_asks_for_a_password,
+          one_order_over_a_store_that_comes_and_goes, a_store_that_refuses_writes_is_left_alone, several_stores_behind_a_proxy, a_store_asks_for_a_password,
           faults_of_a_store_at_the_start]

@@ -7,7 +7,8 @@ use Rattle.std.proofs.lemmas.Grind.{flat_map-append}
 use Rattle.table_core.specs.declared.limits.Limits.{Limits}
 use Rattle.resp.specs.Replies.{Token, Failure, token}
 use Rattle.far_server.specs.declared.queue.Request.{Request}
-use Rattle.far_server.specs.Bounds.{most_reply, longest, too_large}
+use Rattle.far_server.specs.declared.settings.Bounds.{Bounds}
+use Rattle.far_server.specs.Bounds.{longest, too_large}
 use Rattle.far_server.specs.Queues.{held}
 use Rattle.far_server.specs.Sessions.{Session}
 use Rattle.far_server.specs.Runs.{IsRequest}
@@ -17,16 +18,16 @@ use Rattle.far_server.specs.Answers.{IsRunOrRefused, AreExecuted}
 pub len_tokens : (rs first rest : List Token) → rs ≡ first ++ rest → length (flat_map token rs) ≡ length (flat_map token first) + length (flat_map token rest)
 len_tokens rs first rest is = ap (λ (ts : List Token). length (flat_map token ts)) is ∙ (ap (λ (bytes : List ℕ). length bytes) (flat_map-append token first rest) ∙ length-append (flat_map token first) (flat_map token rest))
 
-run_more : (l : Limits) (most limit : ℕ) (ws : List (List (List ℕ))) (w : List (List ℕ)) (rs first : List Token) (a b c : Session)
-    → AreExecuted l most limit ws rs a b → length (flat_map token rs) + longest most ≤ limit → IsRequest l most (limit - length (flat_map token rs)) w b c first
-    → AreExecuted l most limit (ws ++ w ∷ []) (rs ++ first) a c
-run_more l most limit [] w rs first a b c before fits asked =
+run_more : (l : Limits) (v : Bounds) (limit : ℕ) (ws : List (List (List ℕ))) (w : List (List ℕ)) (rs first : List Token) (a b c : Session)
+    → AreExecuted l v limit ws rs a b → length (flat_map token rs) + longest v.longest_value ≤ limit → IsRequest l v.longest_value (limit - length (flat_map token rs)) w b c first
+    → AreExecuted l v limit (ws ++ w ∷ []) (rs ++ first) a c
+run_more l v limit [] w rs first a b c before fits asked =
     let none : length (flat_map token rs) ≡ 0 = ap (λ (ts : List Token). length (flat_map token ts)) before.1 in
     let whole : limit - length (flat_map token rs) ≡ limit = omega (arith, none) in
-    let there : IsRequest l most limit w b c first = subst (λ (n : ℕ). IsRequest l most n w b c first) whole asked in
-    let at : IsRequest l most limit w a c first = subst (λ (s : Session). IsRequest l most limit w s c first) (sym before.0) there in
+    let there : IsRequest l v.longest_value limit w b c first = subst (λ (n : ℕ). IsRequest l v.longest_value n w b c first) whole asked in
+    let at : IsRequest l v.longest_value limit w a c first = subst (λ (s : Session). IsRequest l v.longest_value limit w s c first) (sym before.0) there in
     inl (c, first, [], record { fits = omega (arith, none, fits); ran = at }, (refl, refl), ap (λ (ts : List Token). ts ++ first) before.1 ∙ sym (append-nil first))
-run_more l most limit (v ∷ ws) w rs first a b c (inl p) fits asked =
+run_more l v limit (u ∷ ws) w rs first a b c (inl p) fits asked =
     let len = len_tokens rs p.1 p.2 p.5 in
     let left : limit - length (flat_map token rs) ≡ (limit - length (flat_map token p.1)) - length (flat_map token p.2) = omega (arith, len) in
     inl (
@@ -34,48 +35,48 @@ run_more l most limit (v ∷ ws) w rs first a b c (inl p) fits asked =
       p.1,
       p.2 ++ first,
       p.3,
-      run_more l most (limit - length (flat_map token p.1)) ws w p.2 first p.0 b c p.4 (omega (arith, len, fits)) (subst (λ (n : ℕ). IsRequest l most n w b c first) left asked),
+      run_more l v (limit - length (flat_map token p.1)) ws w p.2 first p.0 b c p.4 (omega (arith, len, fits)) (subst (λ (n : ℕ). IsRequest l v.longest_value n w b c first) left asked),
       ap (λ (ts : List Token). ts ++ first) p.5 ∙ append_assoc p.1 p.2 first,
     )
-run_more l most limit (v ∷ ws) w rs first a b c (inr q) fits asked = absurd (omega (arith, q.passes, fits))
+run_more l v limit (u ∷ ws) w rs first a b c (inr q) fits asked = absurd (omega (arith, q.passes, fits))
 
-refuse_more : (l : Limits) (most limit : ℕ) (ws : List (List (List ℕ))) (w : List (List ℕ)) (rs : List Token) (a b : Session)
-    → AreExecuted l most limit ws rs a b → limit < length (flat_map token rs) + longest most → AreExecuted l most limit (ws ++ w ∷ []) (rs ++ Failure too_large ∷ []) a b
-refuse_more l most limit [] w rs a b before passes =
+refuse_more : (l : Limits) (v : Bounds) (limit : ℕ) (ws : List (List (List ℕ))) (w : List (List ℕ)) (rs : List Token) (a b : Session)
+    → AreExecuted l v limit ws rs a b → limit < length (flat_map token rs) + longest v.longest_value → AreExecuted l v limit (ws ++ w ∷ []) (rs ++ Failure too_large ∷ []) a b
+refuse_more l v limit [] w rs a b before passes =
     let none : length (flat_map token rs) ≡ 0 = ap (λ (ts : List Token). length (flat_map token ts)) before.1 in
     inr (record { passes = omega (arith, none, passes); untouched = before.0; reply = ap (λ (ts : List Token). ts ++ Failure too_large ∷ []) before.1 })
-refuse_more l most limit (v ∷ ws) w rs a b (inl p) passes =
+refuse_more l v limit (u ∷ ws) w rs a b (inl p) passes =
     let len = len_tokens rs p.1 p.2 p.5 in
-    let some : 0 < longest most = omega arith in
+    let some : 0 < longest v.longest_value = omega arith in
     inl (
       p.0,
       p.1,
       p.2 ++ Failure too_large ∷ [],
       p.3,
-      refuse_more l most (limit - length (flat_map token p.1)) ws w p.2 p.0 b p.4 (omega (arith, len, passes, some)),
+      refuse_more l v (limit - length (flat_map token p.1)) ws w p.2 p.0 b p.4 (omega (arith, len, passes, some)),
       ap (λ (ts : List Token). ts ++ Failure too_large ∷ []) p.5 ∙ append_assoc p.1 p.2 (Failure too_large ∷ []),
     )
-refuse_more l most limit (v ∷ ws) w rs a b (inr q) passes =
+refuse_more l v limit (u ∷ ws) w rs a b (inr q) passes =
     let len = length-append ws (w ∷ []) in
-    let count : length (v ∷ ws) + 1 ≡ length (v ∷ (ws ++ w ∷ [])) = omega (arith, len) in
+    let count : length (u ∷ ws) + 1 ≡ length (u ∷ (ws ++ w ∷ [])) = omega (arith, len) in
     inr (record {
       passes = q.passes;
       untouched = q.untouched;
-      reply = ap (λ (ts : List Token). ts ++ Failure too_large ∷ []) q.reply ∙ (replicate_more (length (v ∷ ws)) (Failure too_large) ∙ ap (λ (n : ℕ). replicate n (Failure too_large)) count);
+      reply = ap (λ (ts : List Token). ts ++ Failure too_large ∷ []) q.reply ∙ (replicate_more (length (u ∷ ws)) (Failure too_large) ∙ ap (λ (n : ℕ). replicate n (Failure too_large)) count);
     })
 
 -- one request more, of an array of which so many bytes stand before the replies
-pub execute_more : (l : Limits) (most head used : ℕ) (ws : List (List (List ℕ))) (w : List (List ℕ)) (rs more : List Token) (a b c : Session)
-    → AreExecuted l most (most_reply - head) ws rs a b → used ≡ head + length (flat_map token rs) → IsRunOrRefused l most used w b c more
-    → AreExecuted l most (most_reply - head) (ws ++ w ∷ []) (rs ++ more) a c
-execute_more l most head used ws w rs more a b c before is (inl p) =
-    let left : most_reply - used ≡ (most_reply - head) - length (flat_map token rs) = omega (arith, is) in
-    run_more l most (most_reply - head) ws w rs more a b c before (omega (arith, is, p.0)) (subst (λ (n : ℕ). IsRequest l most n w b c more) left p.1)
-execute_more l most head used ws w rs more a b c before is (inr q) =
-    let some : 0 < longest most = omega arith in
-    let refused : AreExecuted l most (most_reply - head) (ws ++ w ∷ []) (rs ++ Failure too_large ∷ []) a b = refuse_more l most (most_reply - head) ws w rs a b before (omega (arith, is, q.0, some)) in
-    subst (λ (s : Session). AreExecuted l most (most_reply - head) (ws ++ w ∷ []) (rs ++ more) a s) q.1.0
-    (subst (λ (ts : List Token). AreExecuted l most (most_reply - head) (ws ++ w ∷ []) (rs ++ ts) a b) (sym q.1.1) refused)
+pub execute_more : (l : Limits) (v : Bounds) (head used : ℕ) (ws : List (List (List ℕ))) (w : List (List ℕ)) (rs more : List Token) (a b c : Session)
+    → AreExecuted l v (v.longest_reply - head) ws rs a b → used ≡ head + length (flat_map token rs) → IsRunOrRefused l v used w b c more
+    → AreExecuted l v (v.longest_reply - head) (ws ++ w ∷ []) (rs ++ more) a c
+execute_more l v head used ws w rs more a b c before is (inl p) =
+    let left : v.longest_reply - used ≡ (v.longest_reply - head) - length (flat_map token rs) = omega (arith, is) in
+    run_more l v (v.longest_reply - head) ws w rs more a b c before (omega (arith, is, p.0)) (subst (λ (n : ℕ). IsRequest l v.longest_value n w b c more) left p.1)
+execute_more l v head used ws w rs more a b c before is (inr q) =
+    let some : 0 < longest v.longest_value = omega arith in
+    let refused : AreExecuted l v (v.longest_reply - head) (ws ++ w ∷ []) (rs ++ Failure too_large ∷ []) a b = refuse_more l v (v.longest_reply - head) ws w rs a b before (omega (arith, is, q.0, some)) in
+    subst (λ (s : Session). AreExecuted l v (v.longest_reply - head) (ws ++ w ∷ []) (rs ++ more) a s) q.1.0
+    (subst (λ (ts : List Token). AreExecuted l v (v.longest_reply - head) (ws ++ w ∷ []) (rs ++ ts) a b) (sym q.1.1) refused)
 
 -- the requests up to the next one
 pub next_held : (rs : List Request) (all : List (List (List ℕ))) (i : ℕ) (r : Request) → map held rs ≡ all → i < length rs → r ≡ slice_index_or rs i r

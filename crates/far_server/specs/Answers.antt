@@ -10,10 +10,11 @@ use Rattle.lanes.specs.declared.service.Next.{Next}
 use Rattle.lanes.specs.declared.service.Next.TheVariants as behind
 use Rattle.far_server.specs.declared.connection.Connection.{Connection}
 use Rattle.far_server.specs.declared.queue.Queue.{Queue}
+use Rattle.far_server.specs.declared.settings.Bounds.{Bounds}
 use Rattle.far_server.specs.Sessions.{Session}
 use Rattle.far_server.specs.Queues.{waiting}
 use Rattle.far_server.specs.Logins.{HasLogin, Exceeds}
-use Rattle.far_server.specs.Bounds.{most_reply, longest, too_large}
+use Rattle.far_server.specs.Bounds.{longest, too_large}
 use Rattle.far_server.specs.Runs.{IsRequest}
 
 -- what is known of a connection: whether it may ask, and what waits for EXEC, behind a MULTI
@@ -56,23 +57,23 @@ IsHeld before after request rs = ((after ≡ before ++ request ∷ []) × (rs �
 abbrev pub MovesOn : Option (List (List (List ℕ))) → Option (List (List (List ℕ))) → Type 0
 MovesOn before after = (after ≡ before) ⊎ ((after ≡ None) ⊎ ((before ≡ None) × (after ≡ Some [])))
 
-module _ (l : Limits) (most : ℕ) where
+module _ (l : Limits) (b : Bounds) where
   -- A request was run where the limit had room for the longest value.
   pub record IsRunWithin (limit : ℕ) (request : List (List ℕ)) (old new : Session) (rs : List Token) : Type 0 where
-    pub fits : longest most ≤ limit
-    pub ran : IsRequest l most limit request old new rs
+    pub fits : longest b.longest_value ≤ limit
+    pub ran : IsRequest l b.longest_value limit request old new rs
 
   -- None of so many requests was run, since the limit had no room for the longest value: each is answered by the error.
   pub record AreRefused (limit count : ℕ) (old new : Session) (rs : List Token) : Type 0 where
-    pub passes : limit < longest most
+    pub passes : limit < longest b.longest_value
     pub untouched : old ≡ new
     pub reply : rs ≡ replicate count (Failure too_large)
 
   -- a request behind replies of so many bytes in an array: it was run, or refused
   abbrev pub IsRunOrRefused : ℕ → List (List ℕ) → Session → Session → List Token → Type 0
   IsRunOrRefused used request old new rs =
-      ((used + longest most ≤ most_reply) × IsRequest l most (most_reply - used) request old new rs)
-      ⊎ ((most_reply < used + longest most) × ((old ≡ new) × (rs ≡ Failure too_large ∷ [])))
+      ((used + longest b.longest_value ≤ b.longest_reply) × IsRequest l b.longest_value (b.longest_reply - used) request old new rs)
+      ⊎ ((b.longest_reply < used + longest b.longest_value) × ((old ≡ new) × (rs ≡ Failure too_large ∷ [])))
 
   -- Requests were run one after another within a limit for all replies, which are these; from the first on for which it had no room none was.
   abbrev pub AreExecuted : ℕ → List (List (List ℕ)) → List Token → Session → Session → Type 0
@@ -83,13 +84,13 @@ module _ (l : Limits) (most : ℕ) where
 
   -- an array of the replies to requests
   abbrev pub AreExecutedEach : List (List (List ℕ)) → List Token → Session → Session → Type 0
-  AreExecutedEach requests each old new = AreExecuted (most_reply - length (token (Count (length requests)))) requests each old new
+  AreExecutedEach requests each old new = AreExecuted (b.longest_reply - length (token (Count (length requests)))) requests each old new
 
   -- The request was run at once.
   pub record IsRun (before after : Known) (arguments : List (List ℕ)) (old new : Session) (rs : List Token) : Type 0 where
     pub none_before : before.waits ≡ None
     pub none_after : after.waits ≡ None
-    pub ran : IsRequest l most most_reply arguments old new rs
+    pub ran : IsRequest l b.longest_value b.longest_reply arguments old new rs
 
   -- It waits for EXEC.
   pub record IsQueued (before after : Known) (arguments : List (List ℕ)) (old new : Session) (rs : List Token) : Type 0 where
@@ -117,10 +118,10 @@ module _ (l : Limits) (most : ℕ) where
   abbrev pub IsExecutedOrElse : Known → Known → Session → Session → List Token → Type 0
   IsExecutedOrElse before after old new rs = IsExecuted before after old new rs ⊎ IsElse before after old new
 
-module _ (l : Limits) (most : ℕ) (before after : Known) (arguments : List (List ℕ)) (old new : Session) (rs : List Token) where
+module _ (l : Limits) (b : Bounds) (before after : Known) (arguments : List (List ℕ)) (old new : Session) (rs : List Token) where
   -- what became of a request
   abbrev pub Did : Type 0
-  Did = IsRun l most before after arguments old new rs ⊎ (IsQueued l most before after arguments old new rs ⊎ (IsExecuted l most before after old new rs ⊎ IsElse l most before after old new))
+  Did = IsRun l b before after arguments old new rs ⊎ (IsQueued l b before after arguments old new rs ⊎ (IsExecuted l b before after old new rs ⊎ IsElse l b before after old new))
 
 -- A request of a connection that has to log in first: who may ask behind it said the password, and what is too large is refused.
 pub record IsRefusedOr (password : Option (List ℕ)) (before after : Known) (arguments : List (List ℕ)) (rs : List Token) : Type 0 where
@@ -129,8 +130,8 @@ pub record IsRefusedOr (password : Option (List ℕ)) (before after : Known) (ar
   pub excess : (text : List ℕ) → Exceeds arguments text → (rs ≡ Failure text ∷ []) × (after ≡ before)
 
 -- Who may ask behind it might before, or need not say a password, or said it; who may not has made no call, and is refused what is too large.
-pub record IsAnswered (l : Limits) (password : Option (List ℕ)) (most : ℕ) (before after : Known) (arguments : List (List ℕ)) (old new : Session) (rs : List Token) : Type 0 where
+pub record IsAnswered (l : Limits) (password : Option (List ℕ)) (b : Bounds) (before after : Known) (arguments : List (List ℕ)) (old new : Session) (rs : List Token) : Type 0 where
   pub login : after.passed ≡ true → (before.passed ≡ true) ⊎ HasLogin password arguments
   pub gate : before.passed ≡ false → old ≡ new
   pub excess : before.passed ≡ false → (text : List ℕ) → Exceeds arguments text → (rs ≡ Failure text ∷ []) × (after ≡ before)
-  pub did : Did l most before after arguments old new rs
+  pub did : Did l b before after arguments old new rs

@@ -1,9 +1,5 @@
 -- How long a reply may be.
-use Rattle.std.specs.Prelude.{ℕ, ◌+◌, ◌^◌, List, codes}
-
--- the most bytes of the reply to one request: before each key or command there is room in it for the longest value
-abbrev pub most_reply : ℕ
-most_reply = 2 ^ 26
+use Rattle.std.specs.Prelude.{ℕ, ◌+◌, List, codes}
 
 -- the most bytes of the reply that is a value, where values have at most so many
 abbrev pub longest : ℕ → ℕ

@@ -10,7 +10,7 @@ ghost use Rattle.far_server.specs.Logins.{HasLogin, Exceeds};
 ghost use Rattle.far_server.specs.Answers.{known, waits_in, is_free, IsHeld, MovesOn, IsRunOrRefused, AreExecutedEach, IsExecutedOrElse, Did, IsRefusedOr, IsAnswered};
 
 use crate::around::{Around, Desk, milliseconds};
-use crate::bound::{MOST_REPLY, may_grow_to, push_too_large};
+use crate::bound::{may_grow_to, push_too_large};
 use crate::connection::Connection;
 use crate::login::{NO_LOGIN, answer_auth, answer_hello, excess_of};
 use crate::queue::{Queue, Request};
@@ -89,15 +89,16 @@ fn run_within<S: Calls<Blob>, C: Clock, R: Wait>(
     used: usize,
     reply: &mut Vec<u8>,
 ) -> Result<(), AllocError>
-    ensures ran { OnOk result ((rs : List Token) × (reply.new.items ≡ reply.old.items ++ flat_map token rs) × IsRunOrRefused S.limits around.now.settings.now.longest_value used (held request.now) (S.shown me.old) (S.shown me.new) rs) }
+    ensures ran { OnOk result ((rs : List Token) × (reply.new.items ≡ reply.old.items ++ flat_map token rs) × IsRunOrRefused S.limits around.now.settings.now.bounds used (held request.now) (S.shown me.old) (S.shown me.new) rs) }
     ensures queue { connection.new.queue ≡ connection.old.queue }
 {
-    if !may_grow_to(MOST_REPLY, used, around.settings.longest_value) {
+    let bounds = around.settings.bounds;
+    if !may_grow_to(bounds.longest_reply as usize, used, bounds.longest_value) {
         return push_too_large(reply);
     }
     let request = request.arguments();
     let asked = read(request, now);
-    let limit = MOST_REPLY - used;
+    let limit = bounds.longest_reply as usize - used;
     run(
         around, me, connection, desk, request, asked, now, limit, reply,
     )
@@ -114,7 +115,7 @@ fn execute<S: Calls<Blob>, C: Clock, R: Wait>(
     now: u64,
     reply: &mut Vec<u8>,
 ) -> Result<(), AllocError>
-    ensures ran { OnOk result ((rs : List Token) × (reply.new.items ≡ reply.old.items ++ flat_map token rs) × ((each : List Token) × AreExecutedEach S.limits around.now.settings.now.longest_value (waiting queue.now) each (S.shown me.old) (S.shown me.new) × (rs ≡ Count (length (waiting queue.now)) ∷ each))) }
+    ensures ran { OnOk result ((rs : List Token) × (reply.new.items ≡ reply.old.items ++ flat_map token rs) × ((each : List Token) × AreExecutedEach S.limits around.now.settings.now.bounds (waiting queue.now) each (S.shown me.old) (S.shown me.new) × (rs ≡ Count (length (waiting queue.now)) ∷ each))) }
     ensures queue { connection.new.queue ≡ connection.old.queue }
 {
     let before = reply.len();
@@ -142,7 +143,7 @@ fn answer_exec<S: Calls<Blob>, C: Clock, R: Wait>(
     now: u64,
     reply: &mut Vec<u8>,
 ) -> Result<(), AllocError>
-    ensures { OnOk result ((rs : List Token) × (reply.new.items ≡ reply.old.items ++ flat_map token rs) × IsExecutedOrElse S.limits around.now.settings.now.longest_value (known connection.old) (known connection.new) (S.shown me.old) (S.shown me.new) rs) }
+    ensures { OnOk result ((rs : List Token) × (reply.new.items ≡ reply.old.items ++ flat_map token rs) × IsExecutedOrElse S.limits around.now.settings.now.bounds (known connection.old) (known connection.new) (S.shown me.old) (S.shown me.new) rs) }
 {
     match connection.queue.take() {
         None => push_one_failure(reply, NO_MULTI_BEFORE_EXEC),
@@ -212,12 +213,15 @@ fn wait_or_run<S: Calls<Blob>, C: Clock, R: Wait>(
     reply: &mut Vec<u8>,
 ) -> Result<(), AllocError>
     requires { IfOk asked (λ c. Spells (listed request) c) }
-    ensures { OnOk result ((rs : List Token) × (reply.new.items ≡ reply.old.items ++ flat_map token rs) × Did S.limits around.now.settings.now.longest_value (known connection.old) (known connection.new) (listed request.entry) (S.shown me.old) (S.shown me.new) rs) }
+    ensures { OnOk result ((rs : List Token) × (reply.new.items ≡ reply.old.items ++ flat_map token rs) × Did S.limits around.now.settings.now.bounds (known connection.old) (known connection.new) (listed request.entry) (S.shown me.old) (S.shown me.new) rs) }
 {
     match connection.queue.take() {
-        None => run(
-            around, me, connection, desk, request, asked, now, MOST_REPLY, reply,
-        ),
+        None => {
+            let limit = around.settings.bounds.longest_reply as usize;
+            run(
+                around, me, connection, desk, request, asked, now, limit, reply,
+            )
+        }
         Some(mut queue) => {
             let most = around.settings.longest_queue;
             let waited = wait(around.alloc, most, &mut queue, request, asked, reply);
@@ -239,7 +243,7 @@ fn answer_friend<S: Calls<Blob>, C: Clock, R: Wait>(
     reply: &mut Vec<u8>,
 ) -> Result<(), AllocError>
     requires { IfOk asked (λ c. Spells (listed request) c) }
-    ensures { OnOk result ((rs : List Token) × (reply.new.items ≡ reply.old.items ++ flat_map token rs) × Did S.limits around.now.settings.now.longest_value (known connection.old) (known connection.new) (listed request.entry) (S.shown me.old) (S.shown me.new) rs) }
+    ensures { OnOk result ((rs : List Token) × (reply.new.items ≡ reply.old.items ++ flat_map token rs) × Did S.limits around.now.settings.now.bounds (known connection.old) (known connection.new) (listed request.entry) (S.shown me.old) (S.shown me.new) rs) }
 {
     match asked {
         Ok(Command::Quit) => push_one_simple(reply, b"OK"),
@@ -356,7 +360,7 @@ pub(crate) fn answer_request<S: Calls<Blob>, C: Clock, R: Wait>(
     request: Arguments<'_>,
     reply: &mut Vec<u8>,
 ) -> Result<Next, AllocError>
-    ensures { OnOk result ((rs : List Token) × (reply.new.items ≡ reply.old.items ++ flat_map token rs) × IsAnswered S.limits around.now.settings.now.password around.now.settings.now.longest_value (known connection.old) (known connection.new) (listed request.entry) (S.shown me.old) (S.shown me.new) rs) }
+    ensures { OnOk result ((rs : List Token) × (reply.new.items ≡ reply.old.items ++ flat_map token rs) × IsAnswered S.limits around.now.settings.now.password around.now.settings.now.bounds (known connection.old) (known connection.new) (listed request.entry) (S.shown me.old) (S.shown me.new) rs) }
 {
     let now = milliseconds(around.clock);
     let asked = read(request, now);

@@ -4,6 +4,7 @@ use crate::deadlines::has_deadline;
 use crate::renewal::Renewal;
 use crate::settings::ServerSettings;
 use crate::tally::{Tallies, Tally, count};
+use crate::turns::{LARGE, Turns};
 use crate::usage::FarUsage;
 use far_map::Traffic;
 use rand::rngs::SmallRng;
@@ -22,6 +23,7 @@ pub(crate) struct Around<'a, C, R> {
     pub(crate) tallies: &'a Tallies,
     pub(crate) usage: &'a FarUsage,
     pub(crate) renewal: &'a Renewal,
+    pub(crate) turns: &'a Turns,
     /// Its number; that of the sweep is behind those of all lanes.
     pub(crate) lane: u32,
     /// When the server was started.
@@ -88,6 +90,13 @@ impl Desk {
         self.tally.count_set(was_none);
         if has_deadline(self.stored.as_slice()) {
             count(&mut self.tally.dated);
+        }
+    }
+
+    /// Gives back the memory of a large value.
+    pub(crate) fn give_back(&mut self, alloc: Global) {
+        if self.stored.capacity() > LARGE {
+            self.stored = Vec::new(alloc);
         }
     }
 

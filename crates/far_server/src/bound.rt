@@ -7,9 +7,6 @@ ghost use Rattle.far_server.specs.Bounds.{longest, too_large};
 use crate::single::push_one_failure;
 use std::alloc::AllocError;
 
-/// The most bytes of the reply to one request. It may be passed by what is no value, as a page of SCAN behind other replies of an EXEC.
-pub(crate) const MOST_REPLY: usize = 1 << 26;
-
 /// The most bytes of the keys of a page of SCAN that has more than one bucket, with what is around them in the reply.
 pub(crate) const MOST_PAGE: usize = 1 << 20;
 

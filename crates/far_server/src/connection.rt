@@ -34,6 +34,15 @@ impl Connection {
         }
     }
 
+    /// How many bytes of memory it takes beside a fixed part.
+    pub(crate) fn keeps(&self) -> usize {
+        let queue = match &self.queue {
+            Some(queue) => queue.bytes(),
+            None => 0,
+        };
+        self.name.capacity().saturating_add(queue)
+    }
+
     /// It is called so from now on, unless the name is too long: whether it is.
     pub(crate) fn set_name(&mut self, name: &[u8]) -> Result<bool, AllocError>
         ensures named { IfOk result (λ named. MatchBool named ((length name.now ≤ 1024) × (self.new.name.items ≡ name.now)) ((1024 < length name.now) × (self.new.name ≡ self.old.name))) }

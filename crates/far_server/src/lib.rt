@@ -28,13 +28,14 @@ mod sweeping;
 mod tally;
 mod telling;
 mod top;
+mod turns;
 mod usage;
 mod visiting;
 
 pub use ending::{LaneEnd, WorkerEnd};
 pub use lanes::{FrameFault, LaneFault};
 pub use pipes::{OpenFault, Pipes};
-pub use settings::ServerSettings;
+pub use settings::{Bounds, ServerSettings};
 pub use top::run_server;
 pub use usage::FarUsage;
 

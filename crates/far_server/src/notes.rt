@@ -2,14 +2,20 @@
 
 use crate::tally::Tallies;
 use std::alloc::AllocError;
+use std::sync::atomic::Ordering;
 
 /// Has an answer sent once all that came before is answered: the number behind it is told back.
 const SYNC: &[u8] = b"sync ";
 
 const SYNCED: &[u8] = b"synced ";
 
-/// How many connections the gateway refused since its start.
+/// What the gateway tells of its clients, each behind a word: how many it refused, how many it closed to keep to the clients' part of
+/// the memory, and how many bytes they have it and the lanes keep.
 const REJECTED: &[u8] = b"rejected_connections ";
+
+const EVICTED: &[u8] = b"clients_closed ";
+
+const MEMORY: &[u8] = b"clients_memory ";
 
 /// The number that this text spells. None where it is no number, or one of more than 64 bits.
 fn number_in(text: &[u8]) -> Option<u64> {
@@ -27,9 +33,16 @@ pub(crate) fn take_note(
             answer.extend_from_slice(SYNCED)?;
             answer.extend_from_slice(number)?;
         }
-    } else if let Some(count) = text.strip_prefix(REJECTED) {
-        if let Some(count) = number_in(count) {
-            tallies.tell_rejected(count);
+        return Ok(());
+    }
+    let told = &tallies.gateway;
+    for (word, place) in [
+        (REJECTED, &told.rejected),
+        (EVICTED, &told.evicted),
+        (MEMORY, &told.memory),
+    ] {
+        if let Some(number) = text.strip_prefix(word).and_then(number_in) {
+            place.store(number, Ordering::SeqCst);
         }
     }
     Ok(())

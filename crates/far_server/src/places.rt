@@ -41,6 +41,14 @@ pub(crate) fn make_place<C, R>(
     }
 }
 
+/// How many bytes of memory the connection of this number takes beside a fixed part.
+pub(crate) fn kept_for(connections: &BTreeMap<u64, Connection>, number: u64) -> u64 {
+    match connections.get(&number) {
+        Some(place) => place.keeps() as u64,
+        None => 0,
+    }
+}
+
 /// Nothing is known of the connection of this number any more. Says whether something was.
 pub(crate) fn forget(connections: &mut BTreeMap<u64, Connection>, number: u64) -> bool
     ensures forgotten { (e : Known) → known_at connections.new.entries number e ≡ e }
@@ -77,7 +85,7 @@ pub(crate) fn answer_at<S: Calls<Blob>, C: Clock, R: Wait>(
     request: Arguments<'_>,
     reply: &mut Vec<u8>,
 ) -> Result<Next, AllocError>
-    ensures answered { OnOk result ((rs : List Token) × (reply.new.items ≡ reply.old.items ++ flat_map token rs) × ((e : Known) → IsAnswered S.limits around.now.settings.now.password around.now.settings.now.longest_value (known_at connections.old.entries number e) (known_at connections.new.entries number e) (listed request.entry) (S.shown me.old) (S.shown me.new) rs)) }
+    ensures answered { OnOk result ((rs : List Token) × (reply.new.items ≡ reply.old.items ++ flat_map token rs) × ((e : Known) → IsAnswered S.limits around.now.settings.now.password around.now.settings.now.bounds (known_at connections.old.entries number e) (known_at connections.new.entries number e) (listed request.entry) (S.shown me.old) (S.shown me.new) rs)) }
     ensures told { IfOk result (λ next. (e : Known) → IsAdmission (known_at connections.old.entries number e).passed (known_at connections.new.entries number e).passed next) }
     ensures others { (d : ℕ) (e : Known) → d ≢ number → known_at connections.new.entries d e ≡ known_at connections.old.entries d e }
 {

@@ -7,8 +7,11 @@ ghost use Rattle.far_server.specs.Queues.{held, waiting};
 use commands::{Arguments, Span};
 use std::alloc::{AllocError, Global};
 
-/// How many bytes an argument that waits takes beside its own.
+/// How many bytes an argument that waits takes beside its own: its place.
 const COST: usize = 16;
+
+/// How many bytes a request that waits takes beside its arguments: two lists, and what malloc keeps of each.
+const REQUEST: usize = 96;
 
 /// A request of its own, whose arguments are copied.
 #[derive(Drop)]
@@ -47,10 +50,11 @@ impl Request {
         Ok(copy)
     }
 
-    /// How many bytes it takes.
-    fn len(&self) -> usize {
-        let spans = self.spans.len().saturating_mul(COST);
-        self.bytes.len().saturating_add(spans)
+    /// How many bytes of memory it takes.
+    fn size(&self) -> usize {
+        let spans = self.spans.capacity().saturating_mul(COST);
+        let arguments = self.bytes.capacity().saturating_add(spans);
+        arguments.saturating_add(REQUEST)
     }
 
     pub(crate) fn arguments(&self) -> Arguments<'_>
@@ -67,6 +71,7 @@ impl Request {
 #[derive(Drop)]
 pub(crate) struct Queue {
     requests: Vec<Request>,
+    /// How many bytes of memory they take.
     bytes: usize,
     /// One was refused, so that EXEC runs none.
     is_spoilt: bool,
@@ -93,9 +98,14 @@ impl Queue {
         self.is_spoilt = true;
     }
 
-    /// Whether a request may wait too, where those that wait may have so many bytes.
+    /// How many bytes of memory the requests take.
+    pub(crate) fn bytes(&self) -> usize {
+        self.bytes
+    }
+
+    /// Whether a request may wait too, where those that wait may take so many bytes.
     pub(crate) fn has_room(&self, request: Arguments<'_>, most: u32) -> bool {
-        let mut bytes = self.bytes;
+        let mut bytes = self.bytes.saturating_add(REQUEST);
         for span in request.spans {
             bytes = bytes.saturating_add(span.len.saturating_add(COST));
         }
@@ -108,9 +118,9 @@ impl Queue {
         ensures kept { OnErr result (waiting self.new ≡ waiting self.old) }
     {
         let copy = Request::copy(alloc, request)?;
-        let len = copy.len();
+        let size = copy.size();
         self.requests.push(copy)?;
-        self.bytes = self.bytes.saturating_add(len);
+        self.bytes = self.bytes.saturating_add(size);
         Ok(())
     }
 

@@ -14,8 +14,8 @@ use key_commands::KeyCommand;
 use std::sync::Wait;
 use std::time::Duration;
 
-/// How many objects a command has swapped out at most, for those that it brings.
-const MOST_TURNS: u32 = 64;
+/// How many objects a command has swapped out at most: as many small ones as have the bytes of a large value.
+const MOST_TURNS: u32 = 100_000;
 
 /// How many microseconds a command sleeps before it looks again whether the sweep has made room.
 const NAP: u64 = 200;

@@ -72,11 +72,11 @@ fn run_other<S: Calls<Blob>, C: Clock, R: Wait>(
     limit: usize,
     reply: &mut Vec<u8>,
 ) -> Result<(), AllocError>
-    ensures ran { OnOk result ((rs : List Token) × (reply.new.items ≡ reply.old.items ++ flat_map token rs) × IsOther S.limits now around.now.settings.now.longest_value limit command.entry (S.shown me.old) (S.shown me.new) rs) }
+    ensures ran { OnOk result ((rs : List Token) × (reply.new.items ≡ reply.old.items ++ flat_map token rs) × IsOther S.limits now around.now.settings.now.bounds.longest_value limit command.entry (S.shown me.old) (S.shown me.new) rs) }
     ensures queue { connection.new.queue ≡ connection.old.queue }
 {
     let (rt, alloc) = (around.rt, around.alloc);
-    let most = around.settings.longest_value;
+    let most = around.settings.bounds.longest_value;
     match command {
         Command::Keys(of, keys) => run_keys(rt, alloc, me, of, keys, now, most, limit, desk, reply),
         Command::SetMany(pairs) => set_pairs(rt, alloc, me, pairs, now, most, desk, reply),
@@ -105,12 +105,12 @@ fn run_command<S: Calls<Blob>, C: Clock, R: Wait>(
     limit: usize,
     reply: &mut Vec<u8>,
 ) -> Result<(), AllocError>
-    ensures ran { OnOk result ((rs : List Token) × (reply.new.items ≡ reply.old.items ++ flat_map token rs) × IsRunAs S.limits now around.now.settings.now.longest_value limit command.entry (S.shown me.old) (S.shown me.new) rs) }
+    ensures ran { OnOk result ((rs : List Token) × (reply.new.items ≡ reply.old.items ++ flat_map token rs) × IsRunAs S.limits now around.now.settings.now.bounds.longest_value limit command.entry (S.shown me.old) (S.shown me.new) rs) }
     ensures queue { connection.new.queue ≡ connection.old.queue }
 {
     match on_one_key(command) {
         Some((key, command)) => {
-            let most = around.settings.longest_value;
+            let most = around.settings.bounds.longest_value;
             let asking = Asking { command, now, most };
             answer_key(around.rt, around.alloc, me, key, asking, desk, reply)
         }
@@ -131,7 +131,7 @@ pub(crate) fn run<S: Calls<Blob>, C: Clock, R: Wait>(
     reply: &mut Vec<u8>,
 ) -> Result<(), AllocError>
     requires { IfOk asked (λ c. Spells (listed request) c) }
-    ensures ran { OnOk result ((rs : List Token) × (reply.new.items ≡ reply.old.items ++ flat_map token rs) × IsRequest S.limits around.now.settings.now.longest_value limit (listed request.entry) (S.shown me.old) (S.shown me.new) rs) }
+    ensures ran { OnOk result ((rs : List Token) × (reply.new.items ≡ reply.old.items ++ flat_map token rs) × IsRequest S.limits around.now.settings.now.bounds.longest_value limit (listed request.entry) (S.shown me.old) (S.shown me.new) rs) }
     ensures queue { connection.new.queue ≡ connection.old.queue }
 {
     let _ = request;

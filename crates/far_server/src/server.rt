@@ -5,7 +5,7 @@ ghost use Rattle.far_server.specs.Answers.{known_at, unknown, IsAdmission};
 use crate::around::{Around, Desk};
 use crate::connection::Connection;
 use crate::notes::take_note;
-use crate::places::{answer_at, forget, make_place};
+use crate::places::{answer_at, forget, kept_for, make_place};
 use crate::settings::ServerSettings;
 use crate::tally::count;
 use commands::{Arguments, Span};
@@ -121,7 +121,7 @@ impl<'a, S: Calls<Blob>, C: Clock, R: Wait> Server<'a, S, C, R, Kept> {
         make_place(self.around, connections, connection, desk, passed)
     }
 
-    /// Tells what was counted.
+    /// Tells what was counted, and gives back what was large.
     fn tell(&mut self)
         ensures same_reference { self.new.me.ghost_name ≡ self.old.me.ghost_name }
         ensures session { self.new.me.now ≡ self.old.me.now }
@@ -129,13 +129,14 @@ impl<'a, S: Calls<Blob>, C: Clock, R: Wait> Server<'a, S, C, R, Kept> {
         ensures connections { self.new.kept.connections.entries ≡ self.old.kept.connections.entries }
     {
         self.kept.desk.tell(self.around, &self.me.traffic());
+        self.kept.desk.give_back(self.around.alloc);
     }
 }
 
 impl<'a, S: Calls<Blob>, C: Clock, R: Wait> Service for Server<'a, S, C, R, Kept> {
     ghost use Rattle.far_server.specs.Services.{lane_of, Acts};
 
-    ghost does = { λ s call t. (t.me.ghost_name ≡ s.me.ghost_name) × (t.around.now ≡ s.around.now) × Acts S.limits s.around.now.settings.now.password s.around.now.settings.now.longest_value (lane_of s.around.now.settings.now.password (S.shown s.me.now) s.kept.connections.entries) call (lane_of s.around.now.settings.now.password (S.shown t.me.now) t.kept.connections.entries) };
+    ghost does = { λ s call t. (t.me.ghost_name ≡ s.me.ghost_name) × (t.around.now ≡ s.around.now) × Acts S.limits s.around.now.settings.now.password s.around.now.settings.now.bounds (lane_of s.around.now.settings.now.password (S.shown s.me.now) s.kept.connections.entries) call (lane_of s.around.now.settings.now.password (S.shown t.me.now) t.kept.connections.entries) };
 
     fn open(&mut self, connection: u64, _address: &[u8]) -> Result<bool, AllocError> {
         match self.make_place(connection) {
@@ -155,6 +156,10 @@ impl<'a, S: Calls<Blob>, C: Clock, R: Wait> Service for Server<'a, S, C, R, Kept
         out: &mut Vec<u8>,
     ) -> Result<Next, AllocError> {
         let request = Arguments { bytes, spans };
+        let around = self.around;
+        let _turn = around
+            .turns
+            .take(around.rt, bytes.len(), around.settings.large);
         match answer_at(
             self.around,
             self.me,
@@ -178,6 +183,10 @@ impl<'a, S: Calls<Blob>, C: Clock, R: Wait> Service for Server<'a, S, C, R, Kept
         }
         self.tell();
         Ok(())
+    }
+
+    fn keeps(&self, connection: u64) -> u64 {
+        kept_for(&self.kept.connections, connection)
     }
 
     fn note(&mut self, text: &[u8], reply: &mut Vec<u8>) -> Result<(), AllocError> {

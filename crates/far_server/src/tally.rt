@@ -137,14 +137,34 @@ impl Tally {
     }
 }
 
+/// What the gateway last told of its clients.
+#[derive(Drop)]
+pub(crate) struct GatewayTold {
+    /// Connections that it refused since its start.
+    pub(crate) rejected: AtomicU64,
+    /// Connections that it closed since its start to keep to the clients' part of the memory.
+    pub(crate) evicted: AtomicU64,
+    /// Bytes of what clients have it and the lanes keep.
+    pub(crate) memory: AtomicU64,
+}
+
+impl GatewayTold {
+    fn new() -> GatewayTold {
+        GatewayTold {
+            rejected: AtomicU64::new(0),
+            evicted: AtomicU64::new(0),
+            memory: AtomicU64::new(0),
+        }
+    }
+}
+
 /// What each lane, and the sweep behind them, last told. Each writes its own numbers alone, so that none waits for another.
 #[derive(Drop)]
 pub(crate) struct Tallies {
     told: Vec<AtomicU64>,
     /// How many connections have got a number.
     ids: AtomicU64,
-    /// How many connections the gateway refused, as it last told.
-    rejected: AtomicU64,
+    pub(crate) gateway: GatewayTold,
     /// How many lanes have not left the map.
     serving: AtomicU32,
     /// How many keys were counted that the map does not have, since it was renewed without them.
@@ -166,7 +186,7 @@ impl Tallies {
         Ok(Tallies {
             told,
             ids: AtomicU64::new(0),
-            rejected: AtomicU64::new(0),
+            gateway: GatewayTold::new(),
             serving: AtomicU32::new(lanes),
             missing: AtomicU64::new(0),
         })
@@ -190,16 +210,6 @@ impl Tallies {
     /// A number that no connection has got, from 1 on.
     pub(crate) fn next_id(&self) -> u64 {
         self.ids.fetch_add(1, Ordering::SeqCst).wrapping_add(1)
-    }
-
-    /// So many connections were refused by the gateway.
-    pub(crate) fn tell_rejected(&self, count: u64) {
-        self.rejected.store(count, Ordering::SeqCst);
-    }
-
-    /// How many connections the gateway refused, as it last told.
-    pub(crate) fn rejected(&self) -> u64 {
-        self.rejected.load(Ordering::SeqCst)
     }
 
     /// Tells what a lane has counted, of which it last told so much.

@@ -15,6 +15,7 @@ use server_commands::{
     Facts, command_count, command_docs, command_list, config_get, info, slow_log_get, slow_log_len,
 };
 use std::alloc::AllocError;
+use std::sync::atomic::Ordering;
 
 /// How many keys have a value, as the lanes last told.
 pub(crate) fn keys<C, R>(around: &Around<'_, C, R>) -> i64 {
@@ -33,7 +34,9 @@ fn facts<S: Calls<Blob>, C, R>(around: &Around<'_, C, R>, me: &S, now: u64) -> F
         clients: sum.came.saturating_sub(sum.left),
         accepted: sum.came,
         commands: sum.commands,
-        rejected: around.tallies.rejected(),
+        rejected: around.tallies.gateway.rejected.load(Ordering::SeqCst),
+        evicted_clients: around.tallies.gateway.evicted.load(Ordering::SeqCst),
+        clients_memory: around.tallies.gateway.memory.load(Ordering::SeqCst),
         most_clients: settings.options.most_clients,
         most_memory: settings.options.most_memory,
         evicts: settings.options.evicts,
@@ -63,6 +66,7 @@ fn facts<S: Calls<Blob>, C, R>(around: &Around<'_, C, R>, me: &S, now: u64) -> F
         lost_buckets: around.usage.lost(),
         far_bytes: around.usage.bytes(),
         far_limit: settings.far_limit,
+        is_resting: around.usage.resting() > 0,
         names_left: me.names_left(),
         renewals: around.renewal.count(),
         renewal_lost_pairs: around.renewal.lost_pairs(),

@@ -15,6 +15,7 @@ use crate::renewal::Renewal;
 use crate::settings::ServerSettings;
 use crate::states::WorkerState;
 use crate::tally::Tallies;
+use crate::turns::Turns;
 use crate::usage::FarUsage;
 use far_blob::Blob;
 use far_device::Device;
@@ -105,11 +106,13 @@ where
         Err(_) => return Err(RunFault::Memory),
     };
     let renewal = Renewal::new(&settings);
+    let turns = Turns::new();
     let lanes = Lanes {
         settings: &settings,
         tallies: &tallies,
         usage,
         renewal: &renewal,
+        turns: &turns,
         pipes,
         clock,
         started: milliseconds(clock),

@@ -2,13 +2,14 @@
 
 use std::sync::atomic::{AtomicU64, Ordering};
 
-/// How many objects lie on all devices of a server, how many of them are known to be lost, and how many bytes their slots take. Each
-/// device tells by how much its own numbers changed, so all are sums over all devices.
+/// How many objects lie on all devices of a server, how many of them are known to be lost, how many bytes their slots take, and how
+/// many devices rest. Each device tells by how much its own numbers changed, so all are sums over all devices.
 #[derive(Drop)]
 pub struct FarUsage {
     objects: AtomicU64,
     lost: AtomicU64,
     bytes: AtomicU64,
+    resting: AtomicU64,
 }
 
 /// Adds by how much a number of a device changed. The sum wraps on the way, and is right once all have told.
@@ -25,6 +26,7 @@ impl FarUsage {
             objects: AtomicU64::new(0),
             lost: AtomicU64::new(0),
             bytes: AtomicU64::new(0),
+            resting: AtomicU64::new(0),
         }
     }
 
@@ -41,6 +43,16 @@ impl FarUsage {
     /// A device tells that its slots take so many bytes now, and how many they took when it last told.
     pub fn tell_bytes(&self, before: u64, after: u64) {
         tell(&self.bytes, before, after);
+    }
+
+    /// A device tells whether it rests now, since its store fails, and whether it did when it last told.
+    pub fn tell_resting(&self, before: bool, after: bool) {
+        tell(&self.resting, u64::from(before), u64::from(after));
+    }
+
+    /// How many devices rest.
+    pub fn resting(&self) -> u64 {
+        self.resting.load(Ordering::SeqCst)
     }
 
     /// How many objects lie on devices.

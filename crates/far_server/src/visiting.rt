@@ -19,8 +19,11 @@ use resp::{push_count, push_string};
 use std::alloc::{AllocError, Global};
 use std::sync::Wait;
 
-/// How many buckets SCAN visits for each key that it is to look at.
-const BUCKETS_A_KEY: u64 = 10;
+/// How many keys SCAN looks at, and how many buckets it visits, at most, whatever its COUNT: others of its lane wait meanwhile. Empty
+/// buckets take little, so it goes on over many.
+const MOST_KEYS: u64 = 1_000;
+
+const MOST_BUCKETS: u32 = 65_536;
 
 /// The keys of a bucket, without those whose value is expired at this time; 0 for all.
 pub(crate) fn keys_in<S: Calls<Blob>, R: Wait>(
@@ -142,9 +145,9 @@ fn find<S: Calls<Blob>, R: Wait>(
     let buckets = me.buckets();
     let mut found = Found::new(alloc);
     let first = scan.cursor.min(u64::from(buckets)) as u32;
-    let most = scan.count.saturating_mul(BUCKETS_A_KEY);
+    let count = scan.count.min(MOST_KEYS);
     for bucket in first..buckets {
-        if found.looked >= scan.count || u64::from(bucket - first) >= most {
+        if found.looked >= count || bucket - first >= MOST_BUCKETS {
             return Ok((bucket, found));
         }
         let more = match find_in(rt, alloc, me, bucket, scan, now) {

@@ -1,4 +1,4 @@
--- Which devices may go to another thread: a counted one whose disk may, and one over a store.
+-- Which devices may go to another thread: a counted one whose disk may, and one over a store whose clock may.
 use denote.RattleType.{RattleType}
 use denote.Ref.{NamedLft}
 use denote.Param.Send.{IsSend, sendable}
@@ -11,6 +11,8 @@ use Rattle.resp_device.proofs.Sent as resp
 use Rattle.farserve.specs.contracts.counted.CountedDevice as CountedDevice
 use Rattle.farserve.specs.contracts.link.Link as Link
 use Rattle.farserve.specs.contracts.link.Ends as Ends
+use Rattle.farserve.specs.contracts.rest.Rest as Rest
+use Rattle.farserve.specs.contracts.resting.RestingStore as RestingStore
 use Rattle.farserve.specs.contracts.stores.StoreDevice as StoreDevice
 
 pub counted_send : (κ : NamedLft) (K : RattleType) (g : Ghosts K.Denot) → IsSend K → IsSend (CountedDevice.the_row κ K g)
@@ -30,3 +32,13 @@ stored_send κ =
     let device = resp.device_send Link.the_row link_send in
     let all : FieldsHave IsSend (StoreDevice.the_type κ).parts = (search (sendable, device), (search (sendable, vecs.crosses, maps.crosses) depth 40, (search (sendable, vecs.crosses) depth 40, tt))) in
     declared_send (StoreDevice.the_type κ) all
+
+rest_send : IsSend Rest.the_row
+rest_send = search sendable depth 40
+
+pub resting_send : (κ : NamedLft) (C : RattleType) → IsSend C → IsSend (RestingStore.the_row κ C)
+resting_send κ C clock =
+    let inner = stored_send κ in
+    let rest = rest_send in
+    let all : FieldsHave IsSend (RestingStore.the_type κ C).parts = (search (sendable, inner), (search (sendable, clock), (search (sendable, rest), (search (sendable, rest), (search sendable, (search (sendable, vecs.crosses) depth 40, tt)))))) in
+    declared_send (RestingStore.the_type κ C) all

@@ -11,7 +11,7 @@ use std::hash::RandomState;
 use std::random::RandomSource;
 use std::rt::Files;
 
-/// How many there are beside the one by which a map is renewed, where there are no more folders.
+/// How many there are at most beside the one by which a map is renewed, where there are no more folders.
 pub const DEVICES: u32 = 4;
 
 /// A device in a folder, of the lane of this number.
@@ -32,18 +32,19 @@ where
     Ok(CountedDevice::new(FileDevice::new(rt.alloc(), disk, keys), usage))
 }
 
-/// Devices in these folders in turn, in which at most so many bytes are kept together; and behind them one in which as many may be kept
-/// again, while a map is renewed.
+/// So many devices, and one for each folder at least, in these folders in turn, in which at most so many bytes are kept together; and
+/// behind them one in which as many may be kept again, while a map is renewed.
 pub fn open_far<'a, 'b, R>(
     rt: R,
     folders: &[&'a str],
+    count: u32,
     most: u64,
     usage: &'b FarUsage,
 ) -> Result<Vec<CountedDevice<'b, BoundedDisk<FileDisk<R>>>>, Fault<'a>>
 where
     R: Files<File = File> + AllocGlobal + RandomSource + Copy + Drop,
 {
-    let count = DEVICES.max(folders.len().min(64) as u32);
+    let count = count.max(folders.len().min(64) as u32);
     let mut devices = Vec::new(rt.alloc());
     for lane in 0..=count {
         let Some(folder) = folders.get(lane as usize % folders.len().max(1)).copied() else {

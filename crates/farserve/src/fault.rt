@@ -18,8 +18,8 @@ pub enum Fault<'a> {
     Open(&'a str),
     /// The text of `--unix`, at which a socket can't lie.
     Unix(&'a str),
-    /// The text of `--memory`, too little for the buckets and threads.
-    Little(&'a str),
+    /// The text of `--memory`, too little for the buckets, the threads and the longest value, and how many MiB would do.
+    Little(&'a str, Option<u64>),
     /// There are no pipes to a front.
     Pipes,
     /// The file of the password can't be read.
@@ -80,12 +80,14 @@ impl Display for Fault<'_> {
                 "--bind {text}: others than this machine could get in, so it needs --password-file"
             ),
             Fault::Unix(text) => write!(f, "--unix {text}: no path of 1 to 107 bytes"),
-            Fault::Little(text) => {
-                write!(
-                    f,
-                    "--memory {text}: too little for so many buckets and threads"
-                )
-            }
+            Fault::Little(text, None) => write!(
+                f,
+                "--memory {text}: too little for so many buckets and threads, and for values of --value-limit"
+            ),
+            Fault::Little(text, Some(least)) => write!(
+                f,
+                "--memory {text}: too little for so many buckets and threads, and for values of --value-limit: {least}m would do"
+            ),
             Fault::Pipes => f.write_str("it has no front; bin/farserve starts both"),
             Fault::Unread(path, fault) => write!(f, "--password-file {path}: {fault}"),
             Fault::Empty(path) => write!(f, "--password-file {path}: its first line is empty"),

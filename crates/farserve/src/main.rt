@@ -4,6 +4,8 @@
 //! a NUL behind it, and one more NUL; standard error has a line that says what was chosen.
 #![tactic(auto)]
 
+ghost use Rattle.std.specs.Prelude.{◌≤◌};
+
 mod asked;
 mod bounded;
 mod counted;
@@ -12,6 +14,8 @@ mod fault;
 mod link;
 mod password;
 mod pipes;
+mod rest;
+mod resting;
 mod sizes;
 mod sizing;
 mod stores;
@@ -21,12 +25,12 @@ use asked::{Asked, Store, command};
 use devices::{DEVICES, open_far, open_none};
 use far_device::Device;
 use far_map::Settings;
-use far_server::{FarUsage, ServerSettings, WorkerEnd, run_server};
+use far_server::{Bounds, FarUsage, ServerSettings, WorkerEnd, run_server};
 use fault::Fault;
 use pipes::NamedPipes;
 use resp::Limits;
 use server_commands::Options;
-use sizing::{Sizes, Tier, divide};
+use sizing::{Sizes, Tier, divide, least_memory};
 use std::env::Env;
 use std::fs::File;
 use std::io::ErrorKind;
@@ -44,8 +48,37 @@ const BUCKET: (u32, u32) = (4 << 20, 16 << 20);
 /// The least bytes that a request may have, and that may wait for EXEC on a connection.
 const REQUEST: u32 = 4 << 20;
 
+/// Names for each bucket from which on a map is not renewed often.
+const MANY_NAMES: u64 = 64;
+
 /// Arguments of a request, and bytes of a line of words.
 const ARGUMENTS: u32 = 65_536;
+
+/// The most bytes of a request, and that wait for EXEC on a connection, where values have at most so many.
+fn request_for(value: u32) -> u32 {
+    value.saturating_mul(2).max(REQUEST)
+}
+
+/// Divides the memory that is asked for.
+fn divided<'a>(asked: &Asked<'a>) -> Result<Sizes, Fault<'a>> {
+    let (buckets, threads, tier) = (asked.buckets, asked.threads, asked.tier());
+    let (value, request) = (asked.value_limit, request_for(asked.value_limit));
+    match divide(asked.memory, buckets, threads, tier, value, request) {
+        Some(sizes) => Ok(sizes),
+        None => Err(Fault::Little(
+            asked.memory_text,
+            least_memory(buckets, threads, tier, value, request),
+        )),
+    }
+}
+
+/// How many devices there are beside the one by which a map is renewed. Each keeps the memory of the largest objects that it wrote and
+/// read, and several are of use only to several requests at once.
+fn devices_for(sizes: Sizes) -> u32
+    ensures { result ≤ 4 }
+{
+    if sizes.large > 0 { DEVICES } else { 1 }
+}
 
 /// The limit of what lies far, as INFO tells it: 0 for none.
 fn told_limit(limit: u64) -> u64 {
@@ -69,7 +102,7 @@ fn settings(
     };
     let requests = Limits {
         arguments: ARGUMENTS,
-        bytes: value.saturating_mul(2).max(REQUEST),
+        bytes: request_for(value),
         line: ARGUMENTS,
     };
     ServerSettings {
@@ -77,8 +110,12 @@ fn settings(
         is_far: asked.tier() != Tier::Nowhere,
         lanes: asked.threads,
         requests,
-        longest_value: value,
+        bounds: Bounds {
+            longest_value: value,
+            longest_reply: sizes.reply,
+        },
         longest_queue: requests.bytes,
+        large: sizes.large,
         far_limit: told_limit(asked.far_limit),
         password,
         seed,
@@ -103,25 +140,27 @@ fn drawn<'a, R: RandomSource>(rt: &R) -> Result<u64, Fault<'a>> {
     }
 }
 
-/// Writes what the front needs for a store.
-fn tell_links(rt: &impl Print, folder: &str, store: Store<'_>) -> io::Result<()> {
+/// Writes what the front needs for a store, over so many devices and the one by which a map is renewed.
+fn tell_links(rt: &impl Print, folder: &str, store: Store<'_>, devices: u32) -> io::Result<()> {
     let (address, timeout) = (store.address, store.timeout);
     print!(rt; "--far-resp\0{address}\0--far-timeout\0{timeout}\0")?;
     if let Some(path) = store.password_file {
         print!(rt; "--far-password-file\0{path}\0")?;
     }
-    for lane in 0..=DEVICES {
+    for lane in 0..=devices {
         print!(rt; "--far-link\0{folder}/far-requests{lane}\0{folder}/far-replies{lane}\0")?;
     }
     Ok(())
 }
 
 /// Writes how many lanes there are, and what the front is started with.
-fn tell_front(rt: &impl Print, asked: &Asked<'_>) -> io::Result<()> {
+fn tell_front(rt: &impl Print, asked: &Asked<'_>, sizes: Sizes) -> io::Result<()> {
     let (lanes, port, bind, timeout) = (asked.threads, asked.port, asked.bind, asked.timeout);
     let (auth_timeout, clients) = (asked.auth_timeout, asked.most_clients);
+    let (memory, reply) = (sizes.clients, sizes.reply);
     print!(rt; "{lanes}\0--port\0{port}\0--bind\0{bind}\0--timeout\0{timeout}\0")?;
     print!(rt; "--auth-timeout\0{auth_timeout}\0--connections\0{clients}\0")?;
+    print!(rt; "--clients-memory\0{memory}\0--output-limit\0{reply}\0")?;
     if let Some(path) = asked.unix {
         print!(rt; "--unix\0{path}\0")?;
     }
@@ -129,7 +168,7 @@ fn tell_front(rt: &impl Print, asked: &Asked<'_>) -> io::Result<()> {
         print!(rt; "--guarded\0")?;
     }
     if let Some(store) = asked.store {
-        tell_links(rt, asked.pipes, store)?;
+        tell_links(rt, asked.pipes, store, devices_for(sizes))?;
     }
     print!(rt; "\0")
 }
@@ -157,10 +196,21 @@ fn tell_log(rt: &impl Eprint, asked: &Asked<'_>, sizes: Sizes) -> io::Result<()>
     eprint!(rt; "\n")
 }
 
+/// Says where the map may be renewed every few commands: what it holds takes a name for each pair, when it is put into the next one.
+fn warn_of_names(rt: &impl Eprint, names: u64, buckets: u32) -> io::Result<()> {
+    let many = u64::from(buckets).saturating_mul(MANY_NAMES);
+    if names < many {
+        eprintln!(rt;
+            "farserve: --names {names}: the map may be renewed often; from {many} on it is not"
+        )?;
+    }
+    Ok(())
+}
+
 /// Tells both.
 fn tell<'a, R: Print + Eprint>(rt: &R, asked: &Asked<'a>, sizes: Sizes) -> Result<(), Fault<'a>> {
     let _ = tell_log(rt, asked, sizes);
-    match tell_front(rt, asked) {
+    match tell_front(rt, asked, sizes) {
         Ok(()) => Ok(()),
         Err(_) => Err(Fault::Write),
     }
@@ -213,14 +263,13 @@ where
     R: Files<File = File> + AllocGlobal + Print + Eprint + Threads + Wait + Sync,
 {
     let tier = asked.tier();
-    let Some(sizes) = divide(asked.memory, asked.buckets, asked.threads, tier) else {
-        return Err(Fault::Little(asked.memory_text));
-    };
+    let sizes = divided(asked)?;
     let password = match asked.password_file {
         Some(path) => Some(password::digest_of(rt, rt.alloc(), path)?),
         None => None,
     };
     let names = asked.names(sizes.buckets)?;
+    let _ = warn_of_names(rt, names, sizes.buckets);
     let seed = drawn(&host)?;
     let settings = settings(asked, sizes, names, password, seed);
     let usage = FarUsage::new();
@@ -234,14 +283,15 @@ where
         }
         Tier::Files => {
             let folders = asked.folders.as_slice();
-            let devices = open_far(host, folders, asked.far_limit, &usage)?;
+            let count = devices_for(sizes);
+            let devices = open_far(host, folders, count, asked.far_limit, &usage)?;
             tell(rt, asked, sizes)?;
             serve_over(rt, host, asked, settings, devices, &usage)
         }
         Tier::Store => {
             // The front opens the other ends once it was told so.
             tell(rt, asked, sizes)?;
-            let devices = open_stores(host, asked.pipes, DEVICES + 1, &usage)?;
+            let devices = open_stores(host, asked.pipes, devices_for(sizes) + 1, &usage)?;
             serve_over(rt, host, asked, settings, devices, &usage)
         }
     }

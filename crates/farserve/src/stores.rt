@@ -5,6 +5,7 @@ ghost use Rattle.resp_device.specs.Devices.{state_in};
 use crate::fault::Fault;
 use crate::link::Link;
 use crate::pipes::open_pair;
+use crate::resting::RestingStore;
 use far_device::{Device, DeviceFault};
 use far_server::FarUsage;
 use resp_device::{Failure, RespDevice};
@@ -13,13 +14,13 @@ use std::collections::HashSet;
 use std::fs::File;
 use std::hash::RandomState;
 use std::random::RandomSource;
-use std::rt::Files;
+use std::rt::{Clock, Files};
 
 /// A device that asks for another connection where its last one is over, and tells how many objects it keeps, and how many of them the
 /// store has no more.
 #[derive(Drop)]
 pub struct StoreDevice<'a> {
-    inner: RespDevice<Link>,
+    pub(crate) inner: RespDevice<Link>,
     /// Objects that were asked for, and that the store had no more. Where there is no memory to note one, it isn't counted.
     lost: HashSet<u64>,
     usage: &'a FarUsage,
@@ -56,6 +57,11 @@ impl<'a> StoreDevice<'a> {
         let now = self.told();
         self.usage.tell_objects(before.objects, now.objects);
         self.usage.tell_lost(before.lost, now.lost);
+    }
+
+    /// Why the last call that failed did so.
+    pub fn last_failure(&self) -> Option<Failure> {
+        self.inner.last_failure()
     }
 
     /// Asks for another connection where the last one can't be used. The front has one, or says at once that there is none.
@@ -126,9 +132,9 @@ pub fn open_stores<'a, 'b, R>(
     folder: &str,
     count: u32,
     usage: &'b FarUsage,
-) -> Result<Vec<StoreDevice<'b>>, Fault<'a>>
+) -> Result<Vec<RestingStore<'b, R>>, Fault<'a>>
 where
-    R: Files<File = File> + AllocGlobal + RandomSource + Copy + Drop,
+    R: Files<File = File> + AllocGlobal + RandomSource + Clock + Copy + Drop,
 {
     let alloc = rt.alloc();
     let mut devices = Vec::new(alloc);
@@ -156,10 +162,8 @@ where
         ) else {
             return Err(Fault::Memory);
         };
-        if devices
-            .push(StoreDevice::new(alloc, device, usage))
-            .is_err()
-        {
+        let device = StoreDevice::new(alloc, device, usage);
+        if devices.push(RestingStore::new(device, rt, usage)).is_err() {
             return Err(Fault::Memory);
         }
     }

@@ -1,29 +1,21 @@
 -- A client that closes, bytes behind a lane's close, and beginnings where a fault ends it.
-use Rattle.std.proofs.Common.{◌≡◌, ℕ, Bool, inl, inr, List, [], ◌++◌, refl, sym, ap, ◌∙◌, append_assoc, append-nil, subst}
+use Rattle.std.proofs.Common.{◌≡◌, ◌⊎◌, ℕ, ◌<◌, Bool, true, inl, inr, List, [], ◌∷◌, ◌++◌, length, refl, sym, ap, ◌∙◌, arith, append_assoc, append-nil, length-append, subst}
 use Rattle.resp.specs.declared.limits.Limits.{Limits}
 use Rattle.lanes.specs.declared.slots.Slots.{Slots}
 use Rattle.lanes.specs.Marks.{Mark, said, is_stopped}
 use Rattle.lanes.specs.Calls.{Exchange, asked, replied}
-use Rattle.lanes.specs.Lanes.{protocol_error, IsBegun, IsOpen, IsOver, IsSettledBy}
+use Rattle.lanes.specs.Lanes.{protocol_error, IsOpen, IsOver, IsSettledBy}
 use Rattle.lanes.specs.Served.{IsBegunBy, AreBegun}
-use Rattle.lanes.specs.Slots.{Seen, Runs, Closed, Gone, unseen, slot_at, Replaces, StandsAt, AllStand, InTurn, IsAnswered}
+use Rattle.lanes.specs.Slots.{Seen, Fresh, Runs, Closed, Gone, slot_at, Replaces, StandsAt, AllStand, InTurn, IsAnswered}
 use Rattle.lanes.specs.Turns.{Says}
 use Rattle.lanes.proofs.Saying.{StopsAt}
 use Rattle.lanes.proofs.Standing.{same_on, others_say, others_stop, settled_by, stands_so, at_or, placed_so}
 
 -- ---- a client that closes, and bytes behind a lane's close
 
-fresh_open : (limits : Limits) (came sent : List ℕ) (es : List Exchange) (wanted : ℕ) → IsBegun limits [] wanted → came ≡ [] → sent ≡ [] → es ≡ [] → IsOpen limits came sent es [] wanted
-fresh_open limits came sent es wanted begun a b c =
-    let P : List ℕ → Type 0 = λ l. IsOpen limits l sent es [] wanted in
-    let Q : List ℕ → Type 0 = λ l. IsOpen limits [] l es [] wanted in
-    let R : List Exchange → Type 0 = λ l. IsOpen limits [] [] l [] wanted in
-    let o : IsOpen limits [] [] [] [] wanted = record { is = refl; each = tt; go_on = tt; begun = begun; sent_is = refl } in
-    subst P (sym a) (subst Q (sym b) (subst R (sym c) o))
-
 -- where nothing came yet
-pub free_stands : (limits : Limits) → IsBegun limits [] 1 → (d : ℕ) → StandsAt limits d [] [] [] unseen
-free_stands limits begun d = (refl, refl, refl, fresh_open limits [] [] [] 1 begun refl refl refl)
+pub free_stands : (limits : Limits) (d : ℕ) → StandsAt limits d [] [] [] Fresh
+free_stands limits d = (refl, refl, refl, refl, refl, refl)
 
 -- the client closes a connection that runs, and the lane does
 pub client_left : (limits : Limits) (c : ℕ) (slots slots' : Slots) (held : List ℕ) (wanted : ℕ) (came came' sent sent' : List (Mark ℕ)) (steps steps' : List (Mark Exchange)) → AllStand limits slots came sent steps → slot_at slots c ≡ Runs held wanted → StopsAt c came came' → StopsAt c steps steps' → StopsAt c sent sent' → Replaces c Gone slots slots' → AllStand limits slots' came' sent' steps'
@@ -35,7 +27,7 @@ client_left limits c slots slots' held wanted came came' sent sent' steps steps'
     let T : List Exchange → Type 0 = λ l. IsOpen limits (said c came') (said c sent') l held wanted in
     let was : IsOpen limits (said c came') (said c sent') (said c steps') held wanted = subst T (sym (p.same c)) (subst S (sym (q.same c)) (subst C (sym (o.same c)) mine.3)) in
     record {
-      now = placed_so limits c slots slots' Gone came' sent' steps' r (inl (held, wanted, was, q.here ∙ sym o.here), p.here ∙ sym q.here) (λ d other. stands_so limits d came came' sent sent' steps steps' (slot_at slots d) (others_stop c d came came' other o) (others_stop c d sent sent' other q) (others_stop c d steps steps' other p) (h.now d));
+      now = placed_so limits c slots slots' Gone came' sent' steps' r (inl (held, wanted, was, q.here ∙ sym o.here), q.here, p.here) (λ d other. stands_so limits d came came' sent sent' steps steps' (slot_at slots d) (others_stop c d came came' other o) (others_stop c d sent sent' other q) (others_stop c d steps steps' other p) (h.now d));
       once_sent = λ d. q.once mine.1 d (h.once_sent d);
       once_steps = λ d. p.once mine.2 d (h.once_steps d);
     }
@@ -48,10 +40,13 @@ client_left_too limits c slots slots' came came' sent steps h is o r =
     let C : List ℕ → Type 0 = λ l. IsOver limits l (said c sent) (said c steps) in
     let was : IsOver limits (said c came') (said c sent) (said c steps) = subst C (sym (o.same c)) mine.2 in
     record {
-      now = placed_so limits c slots slots' Gone came' sent steps r (inr (was, mine.0), mine.1 ∙ sym mine.0) (λ d other. stands_so limits d came came' sent sent steps steps (slot_at slots d) (others_stop c d came came' other o) (same_on d sent) (same_on d steps) (h.now d));
+      now = placed_so limits c slots slots' Gone came' sent steps r (inr (was, mine.0), mine.0, mine.1) (λ d other. stands_so limits d came came' sent sent steps steps (slot_at slots d) (others_stop c d came came' other o) (same_on d sent) (same_on d steps) (h.now d));
       once_sent = h.once_sent;
       once_steps = h.once_steps;
     }
+
+lost_more : (rest frame : List ℕ) (es : List Exchange) → (0 < length rest) ⊎ (es ≡ []) → (0 < length (rest ++ frame)) ⊎ (es ≡ [])
+lost_more rest frame es lost = elim lost [ inl some ↦ inl (omega (arith, some, length-append rest frame)) | inr none ↦ inr none ]
 
 over_more : (limits : Limits) (came sent frame : List ℕ) (es : List Exchange) → IsOver limits came sent es → IsOver limits (came ++ frame) sent es
 over_more limits came sent frame es o =
@@ -68,17 +63,27 @@ over_more limits came sent frame es o =
         cause = b.cause;
         sent_is = b.sent_is;
       })
-      | inr b ↦ inr (record {
-        rest = b.rest ++ frame;
-        is = ap (λ l. l ++ frame) b.is ∙ append_assoc (asked es) b.rest frame;
-        each = b.each;
-        before = b.before;
-        last = b.last;
-        es_is = b.es_is;
-        go_on = b.go_on;
-        is_last = b.is_last;
-        sent_is = b.sent_is;
-      })
+      | inr e ↦ elim e [
+        | inl b ↦ inr (inl (record {
+          rest = b.rest ++ frame;
+          is = ap (λ l. l ++ frame) b.is ∙ append_assoc (asked es) b.rest frame;
+          each = b.each;
+          before = b.before;
+          last = b.last;
+          es_is = b.es_is;
+          go_on = b.go_on;
+          is_last = b.is_last;
+          sent_is = b.sent_is;
+        }))
+        | inr b ↦ inr (inr (record {
+          rest = b.rest ++ frame;
+          is = ap (λ l. l ++ frame) b.is ∙ append_assoc (asked es) b.rest frame;
+          each = b.each;
+          go_on = b.go_on;
+          lost = lost_more b.rest frame es b.lost;
+          sent_is = b.sent_is;
+        }))
+      ]
     ]
 
 -- bytes came on a connection that is over
@@ -94,13 +99,76 @@ passed_over limits c slots bytes came came' sent steps h is s =
       once_steps = h.once_steps;
     }
 
+-- ---- what comes of a connection that is gone
+
+open_more : (limits : Limits) (n m : Bool) (came sent frame : List ℕ) (es : List Exchange) (held : List ℕ) (wanted : ℕ) → IsOpen limits came sent es held wanted → m ≡ n → m ≡ true → IsSettledBy limits n m (came ++ frame) sent es
+open_more limits n m came sent [] es held wanted o same stopped =
+    let P : List ℕ → Type 0 = λ l. IsOpen limits l sent es held wanted in
+    inl (held, wanted, subst P (sym (append-nil came)) o, same)
+open_more limits n m came sent (x ∷ xs) es held wanted o same stopped = inr (
+  inr (inr (record {
+    rest = held ++ x ∷ xs;
+    is = ap (λ l. l ++ x ∷ xs) o.is ∙ append_assoc (asked es) held (x ∷ xs);
+    each = o.each;
+    go_on = o.go_on;
+    lost = inl (omega (arith, length-append held (x ∷ xs)));
+    sent_is = o.sent_is;
+  })),
+  stopped,
+)
+
+settled_more : (limits : Limits) (n m : Bool) (came sent frame : List ℕ) (es : List Exchange) → m ≡ true → IsSettledBy limits n m came sent es → IsSettledBy limits n m (came ++ frame) sent es
+settled_more limits n m came sent frame es stopped s =
+    elim s [
+      | inl o ↦ open_more limits n m came sent frame es o.0 o.1 o.2 o.3 stopped
+      | inr o ↦ inr (over_more limits came sent frame es o.0, o.1)
+    ]
+
+settled_stopped : (limits : Limits) (n m : Bool) (came sent : List ℕ) (es : List Exchange) → m ≡ true → IsSettledBy limits n m came sent es → IsSettledBy limits true m came sent es
+settled_stopped limits n m came sent es stopped s =
+    elim s [
+      | inl o ↦ inl (o.0, o.1, o.2, stopped)
+      | inr o ↦ inr o
+    ]
+
+-- bytes came
+pub passed_gone : (limits : Limits) (c : ℕ) (slots : Slots) (bytes : List ℕ) (came came' sent : List (Mark ℕ)) (steps : List (Mark Exchange)) → AllStand limits slots came sent steps → slot_at slots c ≡ Gone → Says c bytes came came' → AllStand limits slots came' sent steps
+passed_gone limits c slots bytes came came' sent steps h is s =
+    let P : Seen → Type 0 = λ x. StandsAt limits c came sent steps x in
+    let mine : StandsAt limits c came sent steps Gone = subst P is (h.now c) in
+    let C : List ℕ → Type 0 = λ l. IsSettledBy limits (is_stopped c came) (is_stopped c sent) l (said c sent) (said c steps) in
+    let N : Bool → Type 0 = λ n. IsSettledBy limits n (is_stopped c sent) (said c came') (said c sent) (said c steps) in
+    let was : IsSettledBy limits (is_stopped c came') (is_stopped c sent) (said c came') (said c sent) (said c steps) = subst N (sym (s.stops_are c)) (subst C (sym s.here) (settled_more limits (is_stopped c came) (is_stopped c sent) (said c came) (said c sent) bytes (said c steps) mine.1 mine.0)) in
+    record {
+      now = placed_so limits c slots slots Gone came' sent steps (record { here = is; others = λ d other. refl }) (was, mine.1, mine.2) (λ d other. stands_so limits d came came' sent sent steps steps (slot_at slots d) (others_say c d bytes came came' other s) (same_on d sent) (same_on d steps) (h.now d));
+      once_sent = h.once_sent;
+      once_steps = h.once_steps;
+    }
+
+-- the client closes
+pub stopped_gone : (limits : Limits) (c : ℕ) (slots : Slots) (came came' sent : List (Mark ℕ)) (steps : List (Mark Exchange)) → AllStand limits slots came sent steps → slot_at slots c ≡ Gone → StopsAt c came came' → AllStand limits slots came' sent steps
+stopped_gone limits c slots came came' sent steps h is o =
+    let P : Seen → Type 0 = λ x. StandsAt limits c came sent steps x in
+    let mine : StandsAt limits c came sent steps Gone = subst P is (h.now c) in
+    let C : List ℕ → Type 0 = λ l. IsSettledBy limits true (is_stopped c sent) l (said c sent) (said c steps) in
+    let N : Bool → Type 0 = λ n. IsSettledBy limits n (is_stopped c sent) (said c came') (said c sent) (said c steps) in
+    let was : IsSettledBy limits (is_stopped c came') (is_stopped c sent) (said c came') (said c sent) (said c steps) = subst N (sym o.here) (subst C (sym (o.same c)) (settled_stopped limits (is_stopped c came) (is_stopped c sent) (said c came) (said c sent) (said c steps) mine.1 mine.0)) in
+    record {
+      now = placed_so limits c slots slots Gone came' sent steps (record { here = is; others = λ d other. refl }) (was, mine.1, mine.2) (λ d other. stands_so limits d came came' sent sent steps steps (slot_at slots d) (others_stop c d came came' other o) (same_on d sent) (same_on d steps) (h.now d));
+      once_sent = h.once_sent;
+      once_steps = h.once_steps;
+    }
+
 -- ---- beginnings, where a fault ends it
 
 begun_over : (limits : Limits) (came sent : List ℕ) (es : List Exchange) → IsOver limits came sent es → IsBegunBy limits came sent es
 begun_over limits came sent es o =
     elim o [
       | inl b ↦ record { rest = b.rest ++ b.behind; is = b.is; each = b.each; owed = []; error = protocol_error b.fault; error_is = inr (b.fault, refl); sent_is = append-nil sent ∙ b.sent_is }
-      | inr b ↦ record { rest = b.rest; is = b.is; each = b.each; owed = []; error = []; error_is = inl refl; sent_is = append-nil sent ∙ (b.sent_is ∙ sym (append-nil (replied es))) }
+      | inr e ↦ elim e [
+        | inl b ↦ record { rest = b.rest; is = b.is; each = b.each; owed = []; error = []; error_is = inl refl; sent_is = append-nil sent ∙ (b.sent_is ∙ sym (append-nil (replied es))) }
+        | inr b ↦ record { rest = b.rest; is = b.is; each = b.each; owed = []; error = []; error_is = inl refl; sent_is = append-nil sent ∙ (b.sent_is ∙ sym (append-nil (replied es))) }
+      ]
     ]
 
 begun_settled : (limits : Limits) (n m : Bool) (came sent : List ℕ) (es : List Exchange) → IsSettledBy limits n m came sent es → IsBegunBy limits came sent es

@@ -14,7 +14,7 @@ use Rattle.lanes.specs.Turns.{Stands, Comes, Faulty}
 use Rattle.lanes.proofs.Closing.{free_stands}
 use Rattle.lanes.proofs.Seeing.{none_at}
 use Rattle.lanes.proofs.Standing.{settled_by, left_by}
-use Rattle.lanes.proofs.Framing.{nothing_begun, made_comes}
+use Rattle.lanes.proofs.Framing.{made_comes}
 
 -- where nothing came yet, and nothing is held
 pub begins : {D : Type 0} (tells : D → D → List Frame → List Frame → Type 0) (limits : Limits) (start : D) → tells start start [] [] → Standing tells limits start start none_seen []
@@ -22,7 +22,7 @@ begins tells limits start told = record {
   came = [];
   sent = [];
   told = told;
-  stands = λ c. (let P : Seen → Type 0 = λ s. StandsAt limits c [] [] [] s in subst P (sym (none_at c)) (free_stands limits (nothing_begun limits) c));
+  stands = λ c. (let P : Seen → Type 0 = λ s. StandsAt limits c [] [] [] s in subst P (sym (none_at c)) (free_stands limits c));
   once_sent = λ c. tt;
   once = λ c. tt;
 }

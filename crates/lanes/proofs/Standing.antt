@@ -1,12 +1,13 @@
 -- How connections stand, as frames come, requests are taken and frames are sent.
-use Rattle.std.proofs.Common.{◌≡◌, ◌≢◌, ℕ, inl, inr, Bool, List, [], ◌∷◌, ◌++◌, refl, sym, ap, ◌∙◌, append_assoc, append-nil, subst}
+use Rattle.std.proofs.Common.{◌≡◌, ◌≢◌, ℕ, inl, inr, Bool, List, [], ◌∷◌, ◌++◌, refl, sym, ap, ◌∙◌, arith, append_assoc, append-nil, subst}
 use Rattle.std.proofs.lemmas.Bool.Decides.{eqb_tells}
 use Rattle.resp.specs.declared.limits.Limits.{Limits}
+use Rattle.resp.proofs.Commands.{nothing_there}
 use Rattle.lanes.specs.declared.slots.Slots.{Slots}
 use Rattle.lanes.specs.Marks.{Mark, Else, said, is_stopped, EndsOnce}
 use Rattle.lanes.specs.Calls.{Exchange, request_bytes, reply_bytes, asked, replied, AreTaken, AllGoOn}
-use Rattle.lanes.specs.Lanes.{IsBegun, IsOpen, IsOver, IsSettledBy}
-use Rattle.lanes.specs.Slots.{Seen, Runs, Closed, Gone, slot_at, Replaces, IsPassed, StandsBy, StandsAt, AllStand, InTurn, IsAnswered}
+use Rattle.lanes.specs.Lanes.{IsBegun, IsOpen, IsShed, IsOver, IsSettledBy}
+use Rattle.lanes.specs.Slots.{Seen, Fresh, Runs, Closed, Gone, slot_at, Replaces, StandsBy, StandsAt, AllStand, InTurn, IsAnswered}
 use Rattle.lanes.specs.Turns.{Says}
 use Rattle.lanes.proofs.Saying.{StopsAt, says_else}
 
@@ -28,18 +29,50 @@ pub go_on-append : (es fs : List Exchange) → AllGoOn es → AllGoOn fs → All
 go_on-append [] fs he hf = hf
 go_on-append (e ∷ es) fs he hf = (he.0, go_on-append es fs he.1 hf)
 
+-- ---- connections on which nothing came
+
+pub nothing_begun : (limits : Limits) → IsBegun limits [] 1
+nothing_begun limits = record {
+  begun = [];
+  more = [];
+  is = refl;
+  missing = 1;
+  lacks = nothing_there limits;
+  wanted_is = omega arith;
+  bounded = omega arith;
+  few = omega arith;
+}
+
+fresh_open : (limits : Limits) (came sent : List ℕ) (es : List Exchange) → came ≡ [] → sent ≡ [] → es ≡ [] → IsOpen limits came sent es [] 1
+fresh_open limits came sent es a b c =
+    let P : List ℕ → Type 0 = λ l. IsOpen limits l sent es [] 1 in
+    let Q : List ℕ → Type 0 = λ l. IsOpen limits [] l es [] 1 in
+    let R : List Exchange → Type 0 = λ l. IsOpen limits [] [] l [] 1 in
+    let o : IsOpen limits [] [] [] [] 1 = record { is = refl; each = tt; go_on = tt; begun = nothing_begun limits; sent_is = refl } in
+    subst P (sym a) (subst Q (sym b) (subst R (sym c) o))
+
+fresh_shed : (limits : Limits) (came sent : List ℕ) (es : List Exchange) → came ≡ [] → sent ≡ [] → es ≡ [] → IsShed limits came sent es
+fresh_shed limits came sent es a b c =
+    let P : List ℕ → Type 0 = λ l. IsShed limits l sent es in
+    let Q : List ℕ → Type 0 = λ l. IsShed limits [] l es in
+    let R : List Exchange → Type 0 = λ l. IsShed limits [] [] l in
+    let o : IsShed limits [] [] [] = record { rest = []; is = refl; each = tt; go_on = tt; lost = inr refl; sent_is = refl } in
+    subst P (sym a) (subst Q (sym b) (subst R (sym c) o))
+
 -- ---- settled connections
 
 -- however a connection stands, no reply is owed on it
 pub settled_by : (limits : Limits) (came_stopped sent_stopped steps_stopped : Bool) (came sent : List ℕ) (es : List Exchange) (s : Seen) → StandsBy limits came_stopped sent_stopped steps_stopped came sent es s → IsSettledBy limits came_stopped sent_stopped came sent es
+settled_by limits a b c came sent es Fresh h = inl ([], 1, fresh_open limits came sent es h.3 h.4 h.5, h.1 ∙ sym h.0)
 settled_by limits a b c came sent es (Runs held wanted) h = inl (held, wanted, h.3, h.1 ∙ sym h.0)
 settled_by limits a b c came sent es Closed h = inr (h.2, h.0)
 settled_by limits a b c came sent es Gone h = h.0
 
 pub left_by : (limits : Limits) (came_stopped sent_stopped steps_stopped : Bool) (came sent : List ℕ) (es : List Exchange) (s : Seen) → StandsBy limits came_stopped sent_stopped steps_stopped came sent es s → steps_stopped ≡ sent_stopped
+left_by limits a b c came sent es Fresh h = h.2 ∙ sym h.1
 left_by limits a b c came sent es (Runs held wanted) h = h.2 ∙ sym h.1
 left_by limits a b c came sent es Closed h = h.1 ∙ sym h.0
-left_by limits a b c came sent es Gone h = h.1
+left_by limits a b c came sent es Gone h = h.2 ∙ sym h.1
 
 -- what is the same of a list and a longer one
 pub record SameOn {A : Type 0} (d : ℕ) (old new : List (Mark A)) : Type 0 where
@@ -76,23 +109,6 @@ idle limits slots came came' sent sent' steps steps' a b c p q h = record {
   now = λ d. stands_so limits d came came' sent sent' steps steps' (slot_at slots d) (a d) (b d) (c d) (h.now d);
   once_sent = λ d. p d (h.once_sent d);
   once_steps = λ d. q d (h.once_steps d);
-}
-
--- a connection that had not begun, and never will
-gone_by : (limits : Limits) (d : ℕ) (came sent : List (Mark ℕ)) (steps : List (Mark Exchange)) (old new : Seen) → IsPassed old new → StandsAt limits d came sent steps old → StandsAt limits d came sent steps new
-gone_by limits d came sent steps old new p h =
-    let P : Seen → Type 0 = λ s. StandsAt limits d came sent steps s in
-    elim p [
-      | inl e ↦ subst P (sym e) h
-      | inr e ↦ subst P (sym e.1) (settled_by limits (is_stopped d came) (is_stopped d sent) (is_stopped d steps) (said d came) (said d sent) (said d steps) old h, left_by limits (is_stopped d came) (is_stopped d sent) (is_stopped d steps) (said d came) (said d sent) (said d steps) old h)
-    ]
-
--- numbers were passed
-pub passed : (limits : Limits) (slots slots' : Slots) (came sent : List (Mark ℕ)) (steps : List (Mark Exchange)) → ((d : ℕ) → IsPassed (slot_at slots d) (slot_at slots' d)) → AllStand limits slots came sent steps → AllStand limits slots' came sent steps
-passed limits slots slots' came sent steps same h = record {
-  now = λ d. gone_by limits d came sent steps (slot_at slots d) (slot_at slots' d) (same d) (h.now d);
-  once_sent = h.once_sent;
-  once_steps = h.once_steps;
 }
 
 -- ---- a turn
@@ -188,4 +204,28 @@ shut limits c slots slots' came sent sent' steps steps' t p q r =
       now = placed_so limits c slots slots' Closed came sent' steps' r (q.here, p.here, o) (λ d other. stands_so limits d came came sent sent' steps steps' (slot_at slots d) (same_on d came) (others_stop c d sent sent' other q) (others_stop c d steps steps' other p) (t.others d other));
       once_sent = λ d. q.once t.sent_on d (t.once_sent d);
       once_steps = λ d. p.once t.steps_on d (t.once_steps d);
+    }
+
+-- ---- a connection begins
+
+pub opens : (limits : Limits) (c : ℕ) (slots slots' : Slots) (came sent : List (Mark ℕ)) (steps : List (Mark Exchange)) → AllStand limits slots came sent steps → slot_at slots c ≡ Fresh → Replaces c (Runs [] 1) slots slots' → AllStand limits slots' came sent steps
+opens limits c slots slots' came sent steps h is r =
+    let P : Seen → Type 0 = λ x. StandsAt limits c came sent steps x in
+    let mine : StandsAt limits c came sent steps Fresh = subst P is (h.now c) in
+    record {
+      now = placed_so limits c slots slots' (Runs [] 1) came sent steps r (mine.0, mine.1, mine.2, fresh_open limits (said c came) (said c sent) (said c steps) mine.3 mine.4 mine.5) (λ d other. h.now d);
+      once_sent = h.once_sent;
+      once_steps = h.once_steps;
+    }
+
+-- the lane gives it up at once
+pub given_up : (limits : Limits) (c : ℕ) (slots slots' : Slots) (came sent sent' : List (Mark ℕ)) (steps steps' : List (Mark Exchange)) → AllStand limits slots came sent steps → slot_at slots c ≡ Fresh → StopsAt c steps steps' → StopsAt c sent sent' → Replaces c Gone slots slots' → AllStand limits slots' came sent' steps'
+given_up limits c slots slots' came sent sent' steps steps' h is p q r =
+    let P : Seen → Type 0 = λ x. StandsAt limits c came sent steps x in
+    let mine : StandsAt limits c came sent steps Fresh = subst P is (h.now c) in
+    let shed : IsShed limits (said c came) (said c sent') (said c steps') = fresh_shed limits (said c came) (said c sent') (said c steps') mine.3 (q.same c ∙ mine.4) (p.same c ∙ mine.5) in
+    record {
+      now = placed_so limits c slots slots' Gone came sent' steps' r (inr (inr (inr shed), q.here), q.here, p.here) (λ d other. stands_so limits d came came sent sent' steps steps' (slot_at slots d) (same_on d came) (others_stop c d sent sent' other q) (others_stop c d steps steps' other p) (h.now d));
+      once_sent = λ d. q.once mine.1 d (h.once_sent d);
+      once_steps = λ d. p.once mine.2 d (h.once_steps d);
     }

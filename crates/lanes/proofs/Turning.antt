@@ -1,5 +1,5 @@
 -- A turn of a connection, step by step.
-use Rattle.std.proofs.Common.{◌≡◌, ◌≢◌, ℕ, ◌+◌, ◌≤◌, inl, inr, true, false, List, [], ◌∷◌, ◌++◌, length, drop, refl, sym, ap, ◌∙◌, arith, append_assoc, append-nil, subst}
+use Rattle.std.proofs.Common.{◌≡◌, ◌≢◌, ℕ, ◌+◌, ◌<◌, ◌≤◌, inl, inr, true, false, List, [], ◌∷◌, ◌++◌, length, drop, refl, sym, ap, ◌∙◌, arith, append_assoc, append-nil, subst}
 use Rattle.std.proofs.lemmas.List.{map-append, drop-drop}
 use Rattle.std.proofs.Math.Seq.{drop-append_seam}
 use Rattle.resp.specs.declared.limits.Limits.{Limits}
@@ -57,7 +57,7 @@ answered_more limits rest rest' out out' e is out_is taken goes a b es o = recor
 
 -- the last one is
 answered_last : (limits : Limits) (rest rest' out out' : List ℕ) (e : Exchange) → rest ≡ request_bytes e ++ rest' → out' ≡ out ++ reply_bytes e → IsTaken limits e → IsLast e → (a b : List ℕ) (es : List Exchange) → IsAnswered limits rest a (b ++ out) es → IsOver limits a (b ++ out') (es ++ e ∷ [])
-answered_last limits rest rest' out out' e is out_is taken last a b es o = inr (record {
+answered_last limits rest rest' out out' e is out_is taken last a b es o = inr (inl (record {
   rest = rest';
   is = came_more rest rest' e a es is o.is;
   each = taken-append limits es (e ∷ []) o.each (taken, tt);
@@ -67,7 +67,7 @@ answered_last limits rest rest' out out' e is out_is taken last a b es o = inr (
   go_on = o.go_on;
   is_last = last;
   sent_is = sent_more out out' e b es out_is o.sent_is;
-})
+}))
 
 -- what follows is no request
 answered_bad : (limits : Limits) (rest out out' : List ℕ) (at : ℕ) (fault : Fault) → out' ≡ out ++ protocol_error fault → Spoilt command (IsAdmitted limits) rest at → IsCause limits rest at fault → (a b : List ℕ) (es : List Exchange) → IsAnswered limits rest a (b ++ out) es → IsOver limits a (b ++ out') (es ++ [])
@@ -85,6 +85,12 @@ answered_bad limits rest out out' at fault out_is bad cause a b es o =
       cause = cause;
       sent_is = ap (λ l. b ++ l) out_is ∙ (sym (append_assoc b out (protocol_error fault)) ∙ ap (λ l. l ++ protocol_error fault) o.sent_is);
     }))
+
+-- what follows is not kept
+answered_shed : (limits : Limits) (rest out : List ℕ) → 0 < length rest → (a b : List ℕ) (es : List Exchange) → IsAnswered limits rest a (b ++ out) es → IsOver limits a (b ++ out) (es ++ [])
+answered_shed limits rest out some a b es o =
+    let P : List Exchange → Type 0 = λ l. IsOver limits a (b ++ out) l in
+    subst P (sym (append-nil es)) (inr (inr (record { rest = rest; is = o.is; each = o.each; go_on = o.go_on; lost = inl some; sent_is = o.sent_is })))
 
 -- what stands behind a request
 rest_is : (bytes front rest : List ℕ) (at n : ℕ) → drop at bytes ≡ front ++ rest → length front ≡ n → drop (at + n) bytes ≡ rest
@@ -134,6 +140,16 @@ turn_bad tells does limits past c start now x y slots rest out out' at fault bad
   told = t.told;
   run = t.run;
   turn = took (IsAnswered limits rest) (IsOver limits) limits c slots out out' [] (marks t.came) (marks t.sent) (past ++ step_marks t.steps) (past ++ step_marks t.steps) (answered_bad limits rest out out' at fault is bad cause) (says_nothing c (past ++ step_marks t.steps)) t.turn;
+}
+
+pub turn_shed : {D X : Type 0} (tells : D → D → List Frame → List Frame → Type 0) (does : X → Call → X → Type 0) (limits : Limits) (past : List (Mark Exchange)) (c : ℕ) (start now : D) (x y : X) (slots : Slots) (rest out : List ℕ) → 0 < length rest → Turns (IsAnswered limits rest) tells does limits past c start now x y slots out → Turns (IsOver limits) tells does limits past c start now x y slots out
+turn_shed tells does limits past c start now x y slots rest out some t = record {
+  came = t.came;
+  sent = t.sent;
+  steps = t.steps;
+  told = t.told;
+  run = t.run;
+  turn = took (IsAnswered limits rest) (IsOver limits) limits c slots out out [] (marks t.came) (marks t.sent) (past ++ step_marks t.steps) (past ++ step_marks t.steps) (answered_shed limits rest out some) (says_nothing c (past ++ step_marks t.steps)) t.turn;
 }
 
 -- frames were sent, with a part of the replies

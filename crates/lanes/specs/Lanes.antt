@@ -9,7 +9,7 @@ use Rattle.resp.specs.Parsing.{IsCause}
 use Rattle.resp.specs.Replies.{token, Failure}
 use Rattle.lanes.specs.declared.frame.Head.{Head}
 use Rattle.lanes.specs.declared.frame.Kind.{Kind}
-use Rattle.lanes.specs.declared.frame.Kind.TheVariants.{Data, Open, Close, Wake, LetIn, LetOut, Note}
+use Rattle.lanes.specs.declared.frame.Kind.TheVariants.{Data, Open, Close, Wake, LetIn, LetOut, Note, Holds}
 use Rattle.lanes.specs.Marks.{Mark as Said, Piece, Stop, Else, said, is_stopped, EndsOnce}
 use Rattle.lanes.specs.Calls.{Exchange, asked, replied, AreTaken, AllGoOn, IsLast}
 
@@ -25,6 +25,7 @@ mark_of Wake c bytes = Else
 mark_of LetIn c bytes = Else
 mark_of LetOut c bytes = Else
 mark_of Note c bytes = Else
+mark_of Holds c bytes = Else
 
 abbrev pub frame_mark : Frame → Said ℕ
 frame_mark f = mark_of f.head.kind f.head.connection f.bytes
@@ -90,8 +91,21 @@ pub record IsEnded (limits : Limits) (came sent : List ℕ) (es : List Exchange)
   pub is_last : IsLast last
   pub sent_is : sent ≡ replied es
 
+-- The lane gave the connection up. The bytes that came are those of the requests, and then some that were not kept: at least one,
+-- unless no request was taken. What was sent are the replies to all requests that the service was asked.
+-- A lane does so where memory is refused, which no contract can see. So a lane that gives a connection up without need meets this too,
+-- before its first request or while bytes of it wait: that none does is tested. One that skips a reply does not, nor one that gives a
+-- connection up once all that came of it is answered.
+pub record IsShed (limits : Limits) (came sent : List ℕ) (es : List Exchange) : Type 0 where
+  pub rest : List ℕ
+  pub is : came ≡ asked es ++ rest
+  pub each : AreTaken limits es
+  pub go_on : AllGoOn es
+  pub lost : (0 < length rest) ⊎ (es ≡ [])
+  pub sent_is : sent ≡ replied es
+
 abbrev pub IsOver : Limits → List ℕ → List ℕ → List Exchange → Type 0
-IsOver limits came sent es = IsBroken limits came sent es ⊎ IsEnded limits came sent es
+IsOver limits came sent es = IsBroken limits came sent es ⊎ (IsEnded limits came sent es ⊎ IsShed limits came sent es)
 
 -- No reply is owed on a connection. The lane has closed it if it is over, and else just if the client has.
 abbrev pub IsSettledBy : Limits → Bool → Bool → List ℕ → List ℕ → List Exchange → Type 0

@@ -1,10 +1,11 @@
 -- What a lane holds of each number.
-use Rattle.std.specs.Prelude.{◌≡◌, ◌≢◌, ◌⊎◌, ℕ, Bool, true, false, nat_lt, if◌then◌else◌, List, [], ◌++◌, map, Option, Some, None}
+use Rattle.std.specs.Prelude.{◌≡◌, ◌≢◌, ℕ, Bool, true, false, nat_lt, if◌then◌else◌, List, [], ◌++◌, map, Option, Some, None}
 use Rattle.std.specs.Option.{unwrap_or}
 use Rattle.std.specs.Ordering.{nat_cmp}
 use Rattle.std.specs.Map.{lookup}
 use Rattle.std.specs.BTreeMap.{is_at}
 use Rattle.resp.specs.declared.limits.Limits.{Limits}
+use Rattle.lanes.specs.declared.slots.Held.{Held}
 use Rattle.lanes.specs.declared.slots.Slot.{Slot}
 use Rattle.lanes.specs.declared.slots.Slots.{Slots}
 use Rattle.lanes.specs.declared.slots.State.{State}
@@ -13,9 +14,10 @@ use Rattle.lanes.specs.Marks.{Mark, said, is_stopped, EndsOnce}
 use Rattle.lanes.specs.Calls.{Exchange, asked, replied, AreTaken, AllGoOn}
 use Rattle.lanes.specs.Lanes.{IsOpen, IsOver, IsSettledBy}
 
--- how a connection stands: it goes on, with what is held of it and how much is waited for; or the lane has closed it, and the
--- client not yet; or it has begun and is gone, or never begins
+-- how a connection stands: it has not begun; or it goes on, with what is held of it and how much is waited for; or the lane has
+-- closed it, and the client not yet; or it is gone
 pub data Seen : Type 0 where
+  Fresh : Seen
   Runs : (held : List ℕ) (wanted : ℕ) → Seen
   Closed : Seen
   Gone : Seen
@@ -25,18 +27,25 @@ seen_so Running held wanted = Runs held wanted
 seen_so Over held wanted = Closed
 
 abbrev pub seen : Slot → Seen
-seen s = seen_so s.state s.held.items s.wanted
+seen s = seen_so s.state s.held.bytes.items s.held.wanted
 
--- a connection that has not begun is seen as one on which nothing came
-abbrev pub unseen : Seen
-unseen = Runs [] 1
+-- what is seen of a connection behind a turn: what is held of it, or that the lane has closed it
+abbrev pub seen_left : Option Held → Seen
+seen_left (Some held) = Runs held.bytes.items held.wanted
+seen_left None = Closed
+
+-- what is seen of a connection behind its open: it goes on, or there was no memory for it
+abbrev pub seen_opened : Bool → Seen
+seen_opened true = Runs [] 1
+seen_opened false = Gone
 
 abbrev pub state_of : Seen → Option State
+state_of Fresh = None
 state_of (Runs held wanted) = Some Running
 state_of Closed = Some Over
 state_of Gone = None
 
--- what a lane holds: of each connection that is not gone, by its number, and a number above each that was used
+-- what a lane holds: of each connection that is not gone, by its number, and the number that is used next
 pub record Views : Type 0 where
   pub entries : List (ℕ × Seen)
   pub next : ℕ
@@ -48,9 +57,9 @@ none_seen = record { entries = []; next = 0 }
 abbrev pub views_of : Slots → Views
 views_of slots = record { entries = map (λ e. (e.0, seen e.1)) slots.map.entries; next = slots.next }
 
--- a number without a slot is gone where one above it was used
+-- numbers are used in order: one without a slot is gone if it was used
 abbrev pub seen_in : Views → ℕ → Seen
-seen_in views c = unwrap_or (lookup (is_at (nat_cmp c)) views.entries) (if nat_lt c views.next then Gone else unseen)
+seen_in views c = unwrap_or (lookup (is_at (nat_cmp c)) views.entries) (if nat_lt c views.next then Gone else Fresh)
 
 abbrev pub find_slot : Slots → ℕ → Option Slot
 find_slot slots c = lookup (is_at (nat_cmp c)) slots.map.entries
@@ -66,16 +75,14 @@ pub record Replaces (c : ℕ) (view : Seen) (old new : Slots) : Type 0 where
 abbrev pub OthersSame : ℕ → Slots → Slots → Type 0
 OthersSame c old new = (d : ℕ) → d ≢ c → slot_at new d ≡ slot_at old d
 
--- a number that was passed is gone, if its connection had not begun
-abbrev pub IsPassed : Seen → Seen → Type 0
-IsPassed old new = (new ≡ old) ⊎ ((old ≡ unseen) × (new ≡ Gone))
-
 -- how a connection stands, of which this is seen
 abbrev pub StandsBy : Limits → Bool → Bool → Bool → List ℕ → List ℕ → List Exchange → Seen → Type 0
+StandsBy limits came_stopped sent_stopped steps_stopped came sent es Fresh =
+    (came_stopped ≡ false) × (sent_stopped ≡ false) × (steps_stopped ≡ false) × (came ≡ []) × (sent ≡ []) × (es ≡ [])
 StandsBy limits came_stopped sent_stopped steps_stopped came sent es (Runs held wanted) =
     (came_stopped ≡ false) × (sent_stopped ≡ false) × (steps_stopped ≡ false) × IsOpen limits came sent es held wanted
 StandsBy limits came_stopped sent_stopped steps_stopped came sent es Closed = (sent_stopped ≡ true) × (steps_stopped ≡ true) × IsOver limits came sent es
-StandsBy limits came_stopped sent_stopped steps_stopped came sent es Gone = IsSettledBy limits came_stopped sent_stopped came sent es × (steps_stopped ≡ sent_stopped)
+StandsBy limits came_stopped sent_stopped steps_stopped came sent es Gone = IsSettledBy limits came_stopped sent_stopped came sent es × (sent_stopped ≡ true) × (steps_stopped ≡ true)
 
 abbrev pub StandsAt : Limits → ℕ → List (Mark ℕ) → List (Mark ℕ) → List (Mark Exchange) → Seen → Type 0
 StandsAt limits c came sent steps s = StandsBy limits (is_stopped c came) (is_stopped c sent) (is_stopped c steps) (said c came) (said c sent) (said c steps) s

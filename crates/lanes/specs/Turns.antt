@@ -1,5 +1,5 @@
 -- What the parts of a lane's loop do.
-use Rattle.std.specs.Prelude.{◌≡◌, ◌≢◌, ℕ, ◌+◌, ◌<◌, ◌≤◌, Bool, true, false, List, [], ◌∷◌, ◌++◌, length, drop}
+use Rattle.std.specs.Prelude.{◌≡◌, ◌≢◌, ◌⊎◌, ℕ, ◌+◌, ◌<◌, ◌≤◌, Bool, true, false, List, [], ◌∷◌, ◌++◌, length, drop}
 use Rattle.resp.specs.declared.limits.Limits.{Limits}
 use Rattle.resp.specs.Lines.{Lacks, Spoilt}
 use Rattle.resp.specs.Requests.{command, IsAdmitted, longest}
@@ -8,7 +8,7 @@ use Rattle.resp.specs.Parsing.{IsCause}
 use Rattle.lanes.specs.declared.service.Next.{Next}
 use Rattle.lanes.specs.declared.service.Next.TheVariants.{GoOn, WakeAll, End, LetIn, LetOut}
 use Rattle.lanes.specs.declared.taking.Taken.{Taken}
-use Rattle.lanes.specs.declared.taking.Taken.TheVariants.{Whole, Short, Bad}
+use Rattle.lanes.specs.declared.taking.Taken.TheVariants.{Whole, Short, Bad, Refused}
 use Rattle.lanes.specs.declared.answering.Turned.{Turned}
 use Rattle.lanes.specs.declared.answering.Turned.TheVariants.{Holds, Closes}
 use Rattle.lanes.specs.declared.frame.Kind.{Kind}
@@ -18,7 +18,7 @@ use Rattle.lanes.specs.Marks.{Mark, Else, said, is_stopped, EndsOnce}
 use Rattle.lanes.specs.Calls.{Call, Exchange, request_bytes, reply_bytes, IsTaken, GoesOn, IsLast, Step, Took, step_marks, Does, Run}
 use Rattle.lanes.specs.Lanes.{Frame, mark_of, marks, protocol_error, IsBegun, IsOver}
 use Rattle.lanes.specs.Served.{AreBegun}
-use Rattle.lanes.specs.Slots.{Seen, Runs, Closed, AllStand, InTurn, IsAnswered}
+use Rattle.lanes.specs.Slots.{Closed, Replaces, AllStand, InTurn, IsAnswered}
 
 -- these were said on connection c besides, and nothing on others
 pub record Says {A : Type 0} (c : ℕ) (xs : List A) (old new : List (Mark A)) : Type 0 where
@@ -42,6 +42,10 @@ abbrev pub Signals : {D : Type 0} → (D → D → List Frame → List Frame →
 Signals {D} tells old new =
     (start : D) (came sent : List Frame) → tells start old came sent
     → (more : List Frame) × tells start new came more × (marks more ≡ marks sent ++ Else ∷ [])
+
+-- such a frame was sent, or none
+abbrev pub Hints : {D : Type 0} → (D → D → List Frame → List Frame → Type 0) → D → D → Type 0
+Hints tells old new = (new ≡ old) ⊎ Signals tells old new
 
 -- all frames that came were dealt with
 pub record Stands {D X : Type 0} (tells : D → D → List Frame → List Frame → Type 0) (does : X → Call → X → Type 0) (limits : Limits) (past : List (Mark Exchange)) (start now : D) (x y : X) (slots : Slots) : Type 0 where
@@ -106,16 +110,17 @@ abbrev pub Takes : {X : Type 0} → (X → Call → X → Type 0) → Limits →
 Takes does limits c x y bytes old out (Whole consumed next) = TakesWhole does limits c x y bytes consumed next old out
 Takes does limits c x y bytes old out (Short missing) = (x ≡ y) × Lacks command (IsAdmitted limits) bytes missing × (length bytes + missing ≤ longest limits) × (out ≡ old)
 Takes does limits c x y bytes old out Bad = (x ≡ y) × (at : ℕ) × (fault : Fault) × Spoilt command (IsAdmitted limits) bytes at × IsCause limits bytes at fault × (out ≡ old ++ protocol_error fault)
+Takes does limits c x y bytes old out Refused = (x ≡ y) × (out ≡ old)
 
 -- so far as the requests were answered: the beginning of one is left, or the connection is over
 abbrev pub AnswersSo : {D X : Type 0} → (D → D → List Frame → List Frame → Type 0) → (X → Call → X → Type 0) → Limits → List (Mark Exchange) → ℕ → D → D → X → X → Slots → List ℕ → List ℕ → Turned → Type 0
 AnswersSo tells does limits past c start now x y slots bytes out (Holds at wanted) = (at ≤ length bytes) × IsBegun limits (drop at bytes) wanted × Turns (IsAnswered limits (drop at bytes)) tells does limits past c start now x y slots out
 AnswersSo tells does limits past c start now x y slots bytes out Closes = Turns (IsOver limits) tells does limits past c start now x y slots out
 
--- what a slot holds behind a turn
-abbrev pub seen_after : List ℕ → Turned → Seen
-seen_after bytes (Holds at wanted) = Runs (drop at bytes) wanted
-seen_after bytes Closes = Closed
+-- the same where all replies were sent, and the lane has closed the connection if it is over
+abbrev pub EndsSo : {D X : Type 0} → (D → D → List Frame → List Frame → Type 0) → (X → Call → X → Type 0) → Limits → List (Mark Exchange) → ℕ → D → D → X → X → Slots → List ℕ → Turned → Type 0
+EndsSo tells does limits past c start now x y slots bytes (Holds at wanted) = IsBegun limits (drop at bytes) wanted × Turns (IsAnswered limits (drop at bytes)) tells does limits past c start now x y slots []
+EndsSo tells does limits past c start now x y slots bytes Closes = (after : Slots) → Replaces c Closed slots after → Stands tells does limits past start now x y after
 
 abbrev pub goes_on : Next → Bool
 goes_on GoOn = true

@@ -2,15 +2,16 @@
 ghost use Rattle.std.specs.Prelude.{◌≡◌, ℕ, true, List, [], ◌∷◌, ◌++◌, length, IfOk, OnOk, OnErr};
 ghost use Rattle.lanes.specs.declared.slots.Slots.{Slots};
 ghost use Rattle.lanes.specs.Lanes.{Frame};
-ghost use Rattle.lanes.specs.Slots.{IsAnswered, Replaces};
+ghost use Rattle.lanes.specs.Slots.{IsAnswered};
 ghost use Rattle.lanes.specs.Marks.{Mark};
 ghost use Rattle.lanes.specs.Calls.{Exchange, Left};
-ghost use Rattle.lanes.specs.Turns.{Sends, Signals, IsSignal, Stands, Turns, Faulty, AnswersSo, seen_after, goes_on, closing, IsWithin};
+ghost use Rattle.lanes.specs.Turns.{Sends, Signals, IsSignal, Turns, Faulty, AnswersSo, EndsSo, goes_on, closing, IsWithin};
 
 use crate::duplex::Duplex;
 use crate::fault::{FrameFault, LaneFault};
 use crate::frame::{Head, Kind, most_of};
 use crate::service::{Next, Service};
+use crate::slots::FIRST;
 use crate::taking::{Taken, take_one};
 use resp::{Limits, Span};
 
@@ -111,7 +112,7 @@ fn go_on<D: Duplex>(
     }
 }
 
-/// Answers the whole requests at the front of a connection's bytes.
+/// Answers the whole requests at the front of a connection's bytes. The connection is over too where there is no memory to look at one.
 fn answer_all<D: Duplex, S: Service>(
     duplex: &mut D,
     service: &mut S,
@@ -128,6 +129,9 @@ fn answer_all<D: Duplex, S: Service>(
 {
     let mut at = 0;
     'requests: loop {
+        if at == bytes.len() {
+            return Ok(Turned::Holds { at, wanted: FIRST });
+        }
         match take_one(service, limits, connection, &bytes[at..], spans, out) {
             Ok(Taken::Whole { consumed, next }) => {
                 match go_on(duplex, connection, next, out) {
@@ -141,6 +145,7 @@ fn answer_all<D: Duplex, S: Service>(
                 return Ok(Turned::Holds { at, wanted });
             }
             Ok(Taken::Bad) => return Ok(Turned::Closes),
+            Ok(Taken::Refused) => return Ok(Turned::Closes),
             Err(_) => return Err(LaneFault::Memory),
         }
     }
@@ -179,7 +184,7 @@ pub(crate) fn answer<D: Duplex, S: Service>(
     out: &mut Vec<u8>,
 ) -> Result<Turned, LaneFault>
     requires { out.old.items ≡ [] }
-    ensures stands { IfOk result (λ t. (start : D) (x : S) (past : List (Mark Exchange)) (slots after : Slots) → Turns (IsAnswered limits bytes.now) D.tells S.does limits past connection start duplex.old x service.old slots [] → Replaces connection (seen_after bytes.now t) slots after → Stands D.tells S.does limits past start duplex.new x service.new after) }
+    ensures ends { IfOk result (λ t. (start : D) (x : S) (past : List (Mark Exchange)) (slots : Slots) → Turns (IsAnswered limits bytes.now) D.tells S.does limits past connection start duplex.old x service.old slots [] → EndsSo D.tells S.does limits past connection start duplex.new x service.new slots bytes.now t) }
     ensures begun { (start : D) (x : S) (past : List (Mark Exchange)) (slots : Slots) → Turns (IsAnswered limits bytes.now) D.tells S.does limits past connection start duplex.old x service.old slots [] → Faulty D.tells S.does limits past start duplex.new x }
     ensures within { IfOk result (λ t. IsWithin (length bytes.now) t) }
     ensures empty { OnOk result (out.new.items ≡ []) }

@@ -1,99 +1,87 @@
 //! What a lane does with a frame of a connection.
-ghost use Rattle.std.specs.Prelude.{◌≡◌, ◌≤◌, ℕ, List, [], Some, vec_len, length, drop, IfOk, OnOk, IsSome};
+ghost use Rattle.std.specs.Prelude.{◌≡◌, List, [], ◌∷◌, ◌++◌, Some, None, IfOk, OnOk, OnErr, IsSome};
 ghost use Rattle.lanes.specs.declared.slots.Slots.{Slots};
 ghost use Rattle.lanes.specs.Marks.{Mark, Piece, Stop};
-ghost use Rattle.lanes.specs.Calls.{Exchange, Awake};
-ghost use Rattle.lanes.specs.Lanes.{mark_of};
-ghost use Rattle.lanes.specs.Slots.{state_of, slot_at, find_slot, OthersSame, IsAnswered};
-ghost use Rattle.lanes.specs.Turns.{Stands, Comes, Turns, Faulty};
+ghost use Rattle.lanes.specs.Calls.{Exchange, Left, Awake};
+ghost use Rattle.lanes.specs.Lanes.{Frame, mark_of};
+ghost use Rattle.lanes.specs.Slots.{Runs, seen_left, state_of, slot_at, find_slot, Replaces, IsAnswered};
+ghost use Rattle.lanes.specs.Turns.{Stands, Comes, Turns, Faulty, closing};
 
 use crate::answering::{Turned, answer, leave};
 use crate::duplex::Duplex;
 use crate::fault::LaneFault;
 use crate::frame::{Head, Kind};
+use crate::holding::{hold, keep, rest_of};
 use crate::news::{take_note, take_open};
 use crate::service::{Service, Woken};
-use crate::slots::{Slot, Slots, State, remove_slot, set_slot, state_at, take_held};
+use crate::slots::{
+    Held, Slot, Slots, State, pass_over, remove_slot, set_slot, state_at, take_held,
+};
 use resp::{Limits, Span};
-use std::alloc::{AllocError, Global};
+use std::alloc::Global;
 
-/// What stands behind the requests that were taken.
-fn rest_of(alloc: Global, held: Vec<u8>, at: usize) -> Result<Vec<u8>, AllocError>
-    requires { at ≤ vec_len held }
-    ensures { IfOk result (λ rest. rest.items ≡ drop at held.items) }
+/// Closes a connection whose bytes can't be held. The replies so far were sent.
+fn shed<D: Duplex, S: Service>(
+    duplex: &mut D,
+    service: &mut S,
+    connection: u64,
+) -> Result<Option<Held>, LaneFault>
+    ensures closes { IfOk result (λ left. left ≡ None) }
+    ensures left { OnOk result (S.does service.old (Left connection) service.new × ((start : D) (came sent : List Frame) → D.tells start duplex.old came sent → D.tells start duplex.new came (sent ++ closing connection ∷ []))) }
+    ensures failed { OnErr result ((start : D) (came sent : List Frame) → D.tells start duplex.old came sent → D.tells start duplex.new came sent) }
+    ensures limits { D.limits duplex.new ≡ D.limits duplex.old }
 {
-    if at == 0 {
-        return Ok(held);
-    }
-    match Vec::from_slice(alloc, &held[at..]) {
-        Ok(rest) => Ok(rest),
-        Err(refused) => Err(refused),
+    match leave(duplex, service, connection) {
+        Ok(()) => Ok(None),
+        Err(fault) => Err(fault),
     }
 }
 
-/// Answers what stands in a frame, where nothing is held from before: the bytes of a whole request are not copied.
+/// Answers what stands in a frame, where nothing is held from before: the bytes of a whole request are not copied. Returns what is held
+/// then, or None if the lane has closed the connection.
 fn answer_frame<D: Duplex, S: Service>(
-    alloc: Global,
     duplex: &mut D,
     service: &mut S,
     limits: Limits,
-    slots: &mut Slots,
     connection: u64,
     frame: &[u8],
-    mut held: Vec<u8>,
+    held: Vec<u8>,
     spans: &mut Vec<Span>,
     out: &mut Vec<u8>,
-) -> Result<(), LaneFault>
-    requires room { IsSome (find_slot slots.old connection) }
+) -> Result<Option<Held>, LaneFault>
     requires nothing { held.items ≡ [] }
     requires empty { out.old.items ≡ [] }
-    ensures stands { OnOk result ((start : D) (x : S) (past : List (Mark Exchange)) (before : Slots) → Turns (IsAnswered limits frame.now) D.tells S.does limits past connection start duplex.old x service.old before [] → OthersSame connection before slots.old → Stands D.tells S.does limits past start duplex.new x service.new slots.new) }
-    ensures begun { (start : D) (x : S) (past : List (Mark Exchange)) (before : Slots) → Turns (IsAnswered limits frame.now) D.tells S.does limits past connection start duplex.old x service.old before [] → Faulty D.tells S.does limits past start duplex.new x }
+    ensures stands { IfOk result (λ left. (start : D) (x : S) (past : List (Mark Exchange)) (slots after : Slots) → Turns (IsAnswered limits frame.now) D.tells S.does limits past connection start duplex.old x service.old slots [] → Replaces connection (seen_left left) slots after → Stands D.tells S.does limits past start duplex.new x service.new after) }
+    ensures begun { (start : D) (x : S) (past : List (Mark Exchange)) (slots : Slots) → Turns (IsAnswered limits frame.now) D.tells S.does limits past connection start duplex.old x service.old slots [] → Faulty D.tells S.does limits past start duplex.new x }
     ensures empty { OnOk result (out.new.items ≡ []) }
     ensures limits { D.limits duplex.new ≡ D.limits duplex.old }
 {
     match answer(duplex, service, limits, connection, frame, spans, out) {
         Ok(Turned::Holds { at, wanted }) => {
-            match held.extend_from_slice(&frame[at..]) {
-                Ok(()) => {}
-                Err(_) => return Err(LaneFault::Memory),
+            let mut bytes = held;
+            match hold(&mut bytes, &frame[at..], wanted) {
+                Ok(()) => Ok(Some(Held { bytes, wanted })),
+                Err(_) => shed(duplex, service, connection),
             }
-            let state = State::Running;
-            set_slot(
-                slots,
-                connection,
-                Slot {
-                    state,
-                    held,
-                    wanted,
-                },
-            );
-            Ok(())
         }
-        Ok(Turned::Closes) => {
-            set_slot(slots, connection, Slot::new(alloc, State::Over, 0));
-            Ok(())
-        }
+        Ok(Turned::Closes) => Ok(None),
         Err(fault) => Err(fault),
     }
 }
 
-/// Answers what stands in the bytes that were held, with a frame's behind them.
+/// The same of the bytes that were held, with a frame's behind them.
 fn answer_held<D: Duplex, S: Service>(
-    alloc: Global,
     duplex: &mut D,
     service: &mut S,
     limits: Limits,
-    slots: &mut Slots,
     connection: u64,
     held: Vec<u8>,
     spans: &mut Vec<Span>,
     out: &mut Vec<u8>,
-) -> Result<(), LaneFault>
-    requires room { IsSome (find_slot slots.old connection) }
+) -> Result<Option<Held>, LaneFault>
     requires empty { out.old.items ≡ [] }
-    ensures stands { OnOk result ((start : D) (x : S) (past : List (Mark Exchange)) (before : Slots) → Turns (IsAnswered limits held.items) D.tells S.does limits past connection start duplex.old x service.old before [] → OthersSame connection before slots.old → Stands D.tells S.does limits past start duplex.new x service.new slots.new) }
-    ensures begun { (start : D) (x : S) (past : List (Mark Exchange)) (before : Slots) → Turns (IsAnswered limits held.items) D.tells S.does limits past connection start duplex.old x service.old before [] → Faulty D.tells S.does limits past start duplex.new x }
+    ensures stands { IfOk result (λ left. (start : D) (x : S) (past : List (Mark Exchange)) (slots after : Slots) → Turns (IsAnswered limits held.items) D.tells S.does limits past connection start duplex.old x service.old slots [] → Replaces connection (seen_left left) slots after → Stands D.tells S.does limits past start duplex.new x service.new after) }
+    ensures begun { (start : D) (x : S) (past : List (Mark Exchange)) (slots : Slots) → Turns (IsAnswered limits held.items) D.tells S.does limits past connection start duplex.old x service.old slots [] → Faulty D.tells S.does limits past start duplex.new x }
     ensures empty { OnOk result (out.new.items ≡ []) }
     ensures limits { D.limits duplex.new ≡ D.limits duplex.old }
 {
@@ -107,31 +95,49 @@ fn answer_held<D: Duplex, S: Service>(
         out,
     ) {
         Ok(Turned::Holds { at, wanted }) => {
-            let held = match rest_of(alloc, held, at) {
-                Ok(rest) => rest,
-                Err(_) => return Err(LaneFault::Memory),
-            };
-            let state = State::Running;
-            set_slot(
-                slots,
-                connection,
-                Slot {
-                    state,
-                    held,
-                    wanted,
-                },
-            );
-            Ok(())
+            let bytes = rest_of(held, at);
+            Ok(Some(Held { bytes, wanted }))
         }
-        Ok(Turned::Closes) => {
-            set_slot(slots, connection, Slot::new(alloc, State::Over, 0));
-            Ok(())
-        }
+        Ok(Turned::Closes) => Ok(None),
         Err(fault) => Err(fault),
     }
 }
 
-/// Takes bytes of a connection that runs. They are looked at once there are as many as were missing.
+/// Takes bytes of a connection that runs, behind those that are held. They are looked at once there are as many as were missing.
+/// Returns what is held then, or None if the lane has closed the connection.
+fn take_turn<D: Duplex, S: Service>(
+    duplex: &mut D,
+    service: &mut S,
+    limits: Limits,
+    connection: u64,
+    held: Held,
+    frame: &[u8],
+    spans: &mut Vec<Span>,
+    out: &mut Vec<u8>,
+) -> Result<Option<Held>, LaneFault>
+    requires empty { out.old.items ≡ [] }
+    ensures stands { IfOk result (λ left. (start : D) (x : S) (past : List (Mark Exchange)) (slots after : Slots) → slot_at slots connection ≡ Runs held.bytes.items held.wanted → Comes D.tells S.does limits past start duplex.old x service.old slots (Piece connection frame.now) → Replaces connection (seen_left left) slots after → Stands D.tells S.does limits past start duplex.new x service.new after) }
+    ensures begun { (start : D) (x : S) (past : List (Mark Exchange)) (slots : Slots) → slot_at slots connection ≡ Runs held.bytes.items held.wanted → Comes D.tells S.does limits past start duplex.old x service.old slots (Piece connection frame.now) → Faulty D.tells S.does limits past start duplex.new x }
+    ensures empty { OnOk result (out.new.items ≡ []) }
+    ensures limits { D.limits duplex.new ≡ D.limits duplex.old }
+{
+    let Held { mut bytes, wanted } = held;
+    if bytes.is_empty() {
+        return answer_frame(
+            duplex, service, limits, connection, frame, bytes, spans, out,
+        );
+    }
+    match hold(&mut bytes, frame, wanted) {
+        Ok(()) => {}
+        Err(_) => return shed(duplex, service, connection),
+    }
+    if bytes.len() < wanted {
+        return Ok(Some(Held { bytes, wanted }));
+    }
+    answer_held(duplex, service, limits, connection, bytes, spans, out)
+}
+
+/// Takes bytes of a connection that runs, and keeps what is held of it then. The front is told how much that is, if the connection goes on.
 fn take_bytes<D: Duplex, S: Service>(
     alloc: Global,
     duplex: &mut D,
@@ -151,35 +157,21 @@ fn take_bytes<D: Duplex, S: Service>(
     ensures empty { OnOk result (out.new.items ≡ []) }
     ensures limits { D.limits duplex.new ≡ D.limits duplex.old }
 {
-    let (mut held, wanted) = take_held(alloc, slots, connection);
-    if held.is_empty() {
-        return answer_frame(
-            alloc, duplex, service, limits, slots, connection, frame, held, spans, out,
-        );
+    let (held, told) = take_held(alloc, slots, connection);
+    match take_turn(duplex, service, limits, connection, held, frame, spans, out) {
+        Ok(Some(left)) => match keep(duplex, service, slots, connection, left, told) {
+            Ok(()) => Ok(()),
+            Err(fault) => Err(LaneFault::Frame(fault)),
+        },
+        Ok(None) => {
+            set_slot(slots, connection, Slot::new(alloc, State::Over, 0));
+            Ok(())
+        }
+        Err(fault) => Err(fault),
     }
-    match held.extend_from_slice(frame) {
-        Ok(()) => {}
-        Err(_) => return Err(LaneFault::Memory),
-    }
-    if held.len() < wanted {
-        let state = State::Running;
-        set_slot(
-            slots,
-            connection,
-            Slot {
-                state,
-                held,
-                wanted,
-            },
-        );
-        return Ok(());
-    }
-    answer_held(
-        alloc, duplex, service, limits, slots, connection, held, spans, out,
-    )
 }
 
-/// The client closes its connection, which is gone then.
+/// The client closes its connection, which is gone then. It may be gone already: it was given up when it began.
 fn take_close<D: Duplex, S: Service>(
     duplex: &mut D,
     service: &mut S,
@@ -192,7 +184,7 @@ fn take_close<D: Duplex, S: Service>(
     ensures limits { D.limits duplex.new ≡ D.limits duplex.old }
 {
     match state_at(slots, connection) {
-        None => Err(LaneFault::OutOfTurn),
+        None => pass_over(slots, connection),
         Some(State::Running) => match leave(duplex, service, connection) {
             Ok(()) => {
                 remove_slot(slots, connection);
@@ -207,7 +199,7 @@ fn take_close<D: Duplex, S: Service>(
     }
 }
 
-/// Takes a frame of bytes. Those behind the lane's own close are passed over.
+/// Takes a frame of bytes. Those behind the lane's own close are passed over, also once the connection is gone.
 fn take_data<D: Duplex, S: Service>(
     alloc: Global,
     duplex: &mut D,
@@ -226,7 +218,7 @@ fn take_data<D: Duplex, S: Service>(
     ensures limits { D.limits duplex.new ≡ D.limits duplex.old }
 {
     match state_at(slots, connection) {
-        None => Err(LaneFault::OutOfTurn),
+        None => pass_over(slots, connection),
         Some(State::Over) => Ok(()),
         Some(State::Running) => take_bytes(
             alloc, duplex, service, limits, slots, connection, frame, spans, out,
@@ -280,6 +272,6 @@ pub(crate) fn take_frame<D: Duplex, S: Service>(
             Ok(()) => Ok(Woken::Stay),
             Err(fault) => Err(fault),
         },
-        Kind::LetIn | Kind::LetOut => Err(LaneFault::OutOfTurn),
+        Kind::LetIn | Kind::LetOut | Kind::Holds => Err(LaneFault::OutOfTurn),
     }
 }

@@ -14,7 +14,7 @@ pub enum FrameFault {
     /// A frame is of no kind that there is.
     #[error("a frame is of an unknown kind")]
     Kind,
-    /// A frame has more bytes than its kind may: 2^20 for data, 64 for an open, 4,096 for a note, none for the others.
+    /// A frame has more bytes than its kind may: 2^20 for data, 64 for an open, 4,096 for a note, 8 for what is held, none for the others.
     #[error("a frame is too long")]
     TooLong,
     /// A growth of memory was refused.
@@ -31,11 +31,11 @@ pub enum LaneFault {
     /// A frame can't be read or written.
     #[error(transparent)]
     Frame(FrameFault),
-    /// A growth of memory was refused.
+    /// The service was refused a growth of memory. What the lane itself is refused ends one connection.
     #[error("memory")]
     Memory,
-    /// A frame came that can't come now: data or a close of a connection that has not begun or is gone, an open whose number is
-    /// not above all earlier ones, or what only a lane sends.
+    /// A frame came that can't come now: data or a close of a connection that has not begun, an open whose number is not the next
+    /// one, or what only a lane sends.
     #[error("a frame out of turn")]
     OutOfTurn,
     /// It took more frames than there are numbers.

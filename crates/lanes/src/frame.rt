@@ -19,6 +19,8 @@ pub enum Kind {
     LetOut,
     /// Text that is of no connection.
     Note,
+    /// How many bytes of memory the server keeps for the connection now. Only a lane sends it.
+    Holds,
 }
 
 /// A frame's kind and connection.
@@ -37,6 +39,7 @@ pub(crate) fn most_of(kind: Kind) -> u32
         Kind::Data => 1_048_576,
         Kind::Open => 64,
         Kind::Note => 4_096,
+        Kind::Holds => 8,
         Kind::Close | Kind::Wake | Kind::LetIn | Kind::LetOut => 0,
     }
 }

@@ -6,6 +6,7 @@ mod dealing;
 mod duplex;
 mod fault;
 mod frame;
+mod holding;
 mod holds;
 mod looped;
 mod moving;

@@ -10,9 +10,15 @@ ghost use Rattle.lanes.specs.Turns.{Faulty};
 use crate::dealing::take_frame;
 use crate::duplex::Duplex;
 use crate::fault::LaneFault;
+use crate::holding::{LARGE, empty};
 use crate::holds::{Holds, Pause};
 use crate::service::{Service, Woken};
+use resp::Span;
 use std::alloc::Global;
+
+/// The gateway's frames have no more bytes. There is room for them from the beginning, since a lane that has none for a frame ends. If
+/// that is refused, it is asked for again as frames come.
+const ROOM: usize = 1 << 16;
 
 /// Reads frames until there are no more, or the service leaves at a wake, from where an earlier service left. The requests of
 /// each connection are answered in order, and the replies are written before it reads on. Where the service leaves, another
@@ -33,6 +39,7 @@ pub fn serve_on<D: Duplex, S: Service>(
     let limits = duplex.limits();
     let Holds { mut slots } = holds;
     let mut frame = Vec::new(alloc);
+    let _ = frame.reserve(ROOM);
     let mut spans = Vec::new(alloc);
     let mut out = Vec::new(alloc);
     for round in 0..u64::MAX {
@@ -53,7 +60,11 @@ pub fn serve_on<D: Duplex, S: Service>(
             &mut spans,
             &mut out,
         ) {
-            Ok(Woken::Stay) => {}
+            Ok(Woken::Stay) => {
+                empty(&mut frame, LARGE);
+                empty(&mut spans, LARGE / size_of::<Span>());
+                empty(&mut out, LARGE);
+            }
             Ok(Woken::Leave) => return Ok((Pause::Wake, Holds { slots })),
             Err(fault) => return Err(fault),
         }

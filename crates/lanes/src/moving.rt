@@ -89,6 +89,7 @@ fn kind_of(byte: u8) -> Option<Kind>
         4 => Some(Kind::LetIn),
         5 => Some(Kind::LetOut),
         6 => Some(Kind::Note),
+        7 => Some(Kind::Holds),
         _ => None,
     }
 }

@@ -5,7 +5,7 @@ ghost use Rattle.lanes.specs.Calls.{Exchange};
 ghost use Rattle.lanes.specs.Turns.{Stands, Comes, Faulty};
 ghost use Rattle.lanes.specs.declared.slots.Slots.{Slots};
 
-use crate::answering::put_signal;
+use crate::answering::{leave, put_signal};
 use crate::duplex::Duplex;
 use crate::fault::LaneFault;
 use crate::frame::{Head, Kind, most_of};
@@ -14,7 +14,8 @@ use crate::slots::{Slots, open};
 use resp::Limits;
 use std::alloc::Global;
 
-/// A client has come. If the service lets it in at once, the front is sent that.
+/// A client has come. If the service lets it in at once, the front is sent that. If there is no memory for its slot, the lane closes
+/// the connection, and the service is told that it is over.
 pub(crate) fn take_open<D: Duplex, S: Service>(
     alloc: Global,
     duplex: &mut D,
@@ -29,7 +30,8 @@ pub(crate) fn take_open<D: Duplex, S: Service>(
     ensures limits { D.limits duplex.new ≡ D.limits duplex.old }
 {
     match open(alloc, slots, connection) {
-        Ok(()) => {}
+        Ok(true) => {}
+        Ok(false) => return leave(duplex, service, connection),
         Err(fault) => return Err(fault),
     }
     let kind = Kind::LetIn;

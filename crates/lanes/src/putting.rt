@@ -57,6 +57,7 @@ fn byte_of(kind: Kind) -> u8
         Kind::LetIn => 4,
         Kind::LetOut => 5,
         Kind::Note => 6,
+        Kind::Holds => 7,
     }
 }
 

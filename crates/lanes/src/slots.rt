@@ -1,6 +1,6 @@
 //! What a lane holds of each number.
-ghost use Rattle.std.specs.Prelude.{◌≡◌, ℕ, ◌+◌, ◌<◌, ◌≤◌, [], Some, IfSome, IsSome, OnOk};
-ghost use Rattle.lanes.specs.Slots.{Runs, Gone, seen, seen_so, state_of, slot_at, find_slot, views_of, none_seen, Replaces, OthersSame, IsPassed};
+ghost use Rattle.std.specs.Prelude.{◌≡◌, ◌+◌, ◌<◌, [], Some, None, IfSome, IsSome, IfOk, OnOk};
+ghost use Rattle.lanes.specs.Slots.{Fresh, Runs, Gone, seen, seen_so, seen_opened, state_of, slot_at, find_slot, views_of, none_seen, Replaces, OthersSame};
 
 use crate::fault::LaneFault;
 use std::alloc::Global;
@@ -17,32 +17,41 @@ pub(crate) enum State {
     Over,
 }
 
+/// The beginning of a request.
+#[derive(Drop)]
+pub(crate) struct Held {
+    /// The bytes that came and are no whole request.
+    pub(crate) bytes: Vec<u8>,
+    /// Of how many bytes the request may be whole.
+    pub(crate) wanted: usize,
+}
+
 #[derive(Drop)]
 pub(crate) struct Slot {
     pub(crate) state: State,
-    /// The bytes that came and are no whole request.
-    pub(crate) held: Vec<u8>,
-    /// Of how many bytes the request may be whole.
-    pub(crate) wanted: usize,
+    pub(crate) held: Held,
+    /// How many bytes are kept for the connection, as the front was last told.
+    pub(crate) told: u64,
 }
 
 /// The connections that are not gone, by their numbers.
 #[derive(Drop)]
 pub(crate) struct Slots {
     pub(crate) map: BTreeMap<u64, Slot, Global>,
-    /// Above each number that was used.
+    /// The number of the next connection. All below it were used.
     pub(crate) next: u64,
 }
 
 impl Slot {
-    /// Nothing is held.
+    /// Nothing is held, and the front was told of nothing.
     pub(crate) fn new(alloc: Global, state: State, wanted: usize) -> Self
         ensures { seen result ≡ seen_so state [] wanted }
     {
+        let bytes = Vec::new(alloc);
         Slot {
             state,
-            held: Vec::new(alloc),
-            wanted,
+            held: Held { bytes, wanted },
+            told: 0,
         }
     }
 }
@@ -64,6 +73,7 @@ pub(crate) fn state_at(slots: &Slots, connection: u64) -> Option<State>
     ensures state { IfSome result (λ state. state_of (slot_at slots.now connection) ≡ Some state) }
     ensures within { IsSome result → IsSome (find_slot slots.now connection) }
     ensures used { IsSome result → connection < slots.now.next }
+    ensures gone { result ≡ None → connection < slots.now.next → slot_at slots.now connection ≡ Gone }
 {
     if connection >= slots.next {
         return None;
@@ -71,6 +81,17 @@ pub(crate) fn state_at(slots: &Slots, connection: u64) -> Option<State>
     match slots.map.get(&connection) {
         Some(slot) => Some(slot.state),
         None => None,
+    }
+}
+
+/// What comes of a connection that is gone is passed over. It is a fault if the connection has not begun.
+pub(crate) fn pass_over(slots: &Slots, connection: u64) -> Result<(), LaneFault>
+    ensures { OnOk result (connection < slots.now.next) }
+{
+    if connection < slots.next {
+        Ok(())
+    } else {
+        Err(LaneFault::OutOfTurn)
     }
 }
 
@@ -88,19 +109,19 @@ pub(crate) fn replace_slot(slots: &mut Slots, connection: u64, slot: Slot) -> Sl
     }
 }
 
-/// Takes out what is held, and how much is wanted.
-pub(crate) fn take_held(alloc: Global, slots: &mut Slots, connection: u64) -> (Vec<u8>, usize)
+/// Takes out what is held, and what the front was told of it.
+pub(crate) fn take_held(alloc: Global, slots: &mut Slots, connection: u64) -> (Held, u64)
     requires { IsSome (find_slot slots.old connection) }
-    ensures held { state_of (slot_at slots.old connection) ≡ Some State.Running → slot_at slots.old connection ≡ Runs result.0.items result.1 }
+    ensures held { state_of (slot_at slots.old connection) ≡ Some State.Running → slot_at slots.old connection ≡ Runs result.0.bytes.items result.0.wanted }
     ensures others { OthersSame connection slots.old slots.new }
     ensures within { IsSome (find_slot slots.new connection) }
 {
     let Slot {
         state: _,
         held,
-        wanted,
+        told,
     } = replace_slot(slots, connection, Slot::new(alloc, State::Running, FIRST));
-    (held, wanted)
+    (held, told)
 }
 
 pub(crate) fn set_slot(slots: &mut Slots, connection: u64, slot: Slot)
@@ -118,13 +139,14 @@ pub(crate) fn remove_slot(slots: &mut Slots, connection: u64)
     let _old = slots.map.remove(&connection);
 }
 
-/// Lets a connection begin. It is refused if its number is not above all earlier ones, or is the last of all.
-/// So no number is used twice.
-pub(crate) fn open(alloc: Global, slots: &mut Slots, connection: u64) -> Result<(), LaneFault>
-    ensures same { OnOk result ((d : ℕ) → IsPassed (slot_at slots.old d) (slot_at slots.new d)) }
-    ensures turn { OnOk result ((slots.old.next ≤ connection) × (slots.new.next ≡ connection + 1)) }
+/// Lets a connection begin, if there is memory for its slot; else it is gone. It is refused if its number is not the next one, or is
+/// the last of all. So no number is used twice.
+pub(crate) fn open(alloc: Global, slots: &mut Slots, connection: u64) -> Result<bool, LaneFault>
+    ensures fresh { OnOk result (slot_at slots.old connection ≡ Fresh) }
+    ensures opened { IfOk result (λ is_made. Replaces connection (seen_opened is_made) slots.old slots.new) }
+    ensures turn { OnOk result ((slots.old.next ≡ connection) × (slots.new.next ≡ connection + 1)) }
 {
-    if connection < slots.next || connection == u64::MAX {
+    if connection != slots.next || connection == u64::MAX {
         return Err(LaneFault::OutOfTurn);
     }
     match slots
@@ -133,9 +155,12 @@ pub(crate) fn open(alloc: Global, slots: &mut Slots, connection: u64) -> Result<
     {
         Ok(None) => {
             slots.next = connection + 1;
-            Ok(())
+            Ok(true)
         }
         Ok(Some(_)) => Err(LaneFault::OutOfTurn),
-        Err(_) => Err(LaneFault::Memory),
+        Err(_) => {
+            slots.next = connection + 1;
+            Ok(false)
+        }
     }
 }

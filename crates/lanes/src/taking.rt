@@ -15,6 +15,8 @@ pub(crate) enum Taken {
     Short { missing: usize },
     /// Nothing, and an error was pushed.
     Bad,
+    /// Nothing: there is no memory for where its arguments lie, or for the error.
+    Refused,
 }
 
 /// What a client is told, in Redis' words where it has some.
@@ -32,7 +34,8 @@ fn fault_text(fault: Fault) -> &'static [u8]
     }
 }
 
-/// Takes a request, and pushes the reply to it. One without arguments gets none.
+/// Takes a request, and pushes the reply to it. One without arguments gets none. Want of memory is answered only where the service
+/// answers it.
 pub(crate) fn take_one<S: Service>(
     service: &mut S,
     limits: Limits,
@@ -43,7 +46,10 @@ pub(crate) fn take_one<S: Service>(
 ) -> Result<Taken, AllocError>
     ensures { IfOk result (λ t. Takes S.does limits connection service.old service.new bytes.now out.old.items out.new.items t) }
 {
-    match parse(bytes, limits, spans)? {
+    let Ok(parsed) = parse(bytes, limits, spans) else {
+        return Ok(Taken::Refused);
+    };
+    match parsed {
         Parsed::Request { consumed } => {
             if spans.is_empty() {
                 let next = Next::GoOn;
@@ -53,9 +59,9 @@ pub(crate) fn take_one<S: Service>(
             Ok(Taken::Whole { consumed, next })
         }
         Parsed::Incomplete { missing } => Ok(Taken::Short { missing }),
-        Parsed::Malformed { at: _, fault } => {
-            push_failure(out, fault_text(fault))?;
-            Ok(Taken::Bad)
-        }
+        Parsed::Malformed { at: _, fault } => match push_failure(out, fault_text(fault)) {
+            Ok(()) => Ok(Taken::Bad),
+            Err(_) => Ok(Taken::Refused),
+        },
     }
 }

@@ -16,6 +16,10 @@ pub struct Facts {
     pub commands: u64,
     /// Connections that were refused since there were as many as there may be.
     pub rejected: u64,
+    /// Connections that were closed, since what clients had the server keep was above their part of the memory.
+    pub evicted_clients: u64,
+    /// Bytes of what clients have the server keep.
+    pub clients_memory: u64,
     pub most_clients: u64,
     /// Bytes that the server may have.
     pub most_memory: u64,
@@ -35,6 +39,8 @@ pub struct Facts {
     pub far_bytes: u64,
     /// Bytes that objects on devices may have; 0 for any number.
     pub far_limit: u64,
+    /// Whether a device rests, since its store fails.
+    pub is_resting: bool,
     /// Keys that have a value, as they were last counted.
     pub keys: u64,
     /// Reads of a key that had a value.

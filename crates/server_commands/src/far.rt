@@ -1,7 +1,7 @@
 //! The section of INFO that Redis does not have: of frames and devices.
 
 use crate::facts::Facts;
-use crate::page::push_numbers;
+use crate::page::{push_numbers, push_words};
 use crate::sizes::{push_number, push_places};
 use std::alloc::AllocError;
 
@@ -15,6 +15,11 @@ fn hit_rate(facts: &Facts) -> u64 {
         return 0;
     }
     facts.local_hits.saturating_mul(1000) / reads
+}
+
+/// What the devices do.
+fn far_state(is_resting: bool) -> &'static str {
+    if is_resting { "resting" } else { "ok" }
 }
 
 fn push_hit_rate(facts: &Facts, text: &mut Vec<u8>) -> Result<(), AllocError> {
@@ -37,9 +42,10 @@ pub(crate) fn push_far(facts: &Facts, text: &mut Vec<u8>) -> Result<(), AllocErr
             ("lost_buckets", facts.lost_buckets),
             ("far_bytes", facts.far_bytes),
             ("far_limit", facts.far_limit),
-            ("local_hits", facts.local_hits),
         ],
     )?;
+    push_words(text, &[("far_state", far_state(facts.is_resting))])?;
+    push_numbers(text, &[("local_hits", facts.local_hits)])?;
     push_hit_rate(facts, text)?;
     push_numbers(
         text,

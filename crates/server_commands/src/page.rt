@@ -69,7 +69,7 @@ pub(crate) fn push_numbers(text: &mut Vec<u8>, lines: &[(&str, u64)]) -> Result<
     Ok(())
 }
 
-fn push_words(text: &mut Vec<u8>, lines: &[(&str, &str)]) -> Result<(), AllocError> {
+pub(crate) fn push_words(text: &mut Vec<u8>, lines: &[(&str, &str)]) -> Result<(), AllocError> {
     for (name, word) in lines {
         text.extend_from_slice(name.as_bytes())?;
         text.push(b':')?;
@@ -128,6 +128,7 @@ fn push_clients(facts: &Facts, text: &mut Vec<u8>) -> Result<(), AllocError> {
 
 fn push_memory(facts: &Facts, text: &mut Vec<u8>) -> Result<(), AllocError> {
     push_bytes(text, "used_memory", facts.bytes_in_frames)?;
+    push_numbers(text, &[("clients_memory", facts.clients_memory)])?;
     push_bytes(text, "maxmemory", facts.most_memory)?;
     push_words(text, &[("maxmemory_policy", policy(facts.evicts))])
 }
@@ -143,6 +144,7 @@ fn push_stats(facts: &Facts, text: &mut Vec<u8>) -> Result<(), AllocError> {
             ("total_connections_received", facts.accepted),
             ("total_commands_processed", facts.commands),
             ("rejected_connections", facts.rejected),
+            ("evicted_clients", facts.evicted_clients),
             ("expired_keys", facts.expired),
             ("evicted_keys", facts.evicted),
             ("keyspace_hits", facts.hits),

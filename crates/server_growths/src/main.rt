@@ -5,6 +5,7 @@
 #![tactic(auto)]
 
 mod commanding;
+mod holding;
 mod protocol;
 mod serving;
 
@@ -12,6 +13,7 @@ use std::io;
 
 fn main(rt: HostRuntime) -> io::Result<()> {
     protocol::tell_all(&rt)?;
+    holding::tell_all(&rt)?;
     commanding::tell_all(&rt)?;
     serving::tell_all(&rt)
 }

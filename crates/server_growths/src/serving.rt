@@ -4,7 +4,7 @@ use far_device::FakeDevice;
 use far_map::{RunFault, Settings};
 use far_object::Memory;
 use far_server::{
-    FarUsage, FrameFault, LaneEnd, LaneFault, OpenFault, Pipes, ServerSettings, WorkerEnd,
+    Bounds, FarUsage, FrameFault, LaneEnd, LaneFault, OpenFault, Pipes, ServerSettings, WorkerEnd,
     run_server,
 };
 use growth_trials::{Answer, Outcome, Tried, tell};
@@ -66,8 +66,12 @@ fn settings() -> ServerSettings {
             bytes: 1_000,
             line: 100,
         },
-        longest_value: 100,
+        bounds: Bounds {
+            longest_value: 100,
+            longest_reply: 1 << 20,
+        },
         longest_queue: 1_000,
+        large: 10,
         far_limit: 0,
         password: None,
         seed: 1,
@@ -93,16 +97,24 @@ fn frames(alloc: Global) -> Result<Vec<u8>, Memory> {
     Ok(frames)
 }
 
+/// Whether the lane gave the connection up: behind the frame that lets it in come replies to its first requests, in a frame, and a close.
+fn is_given_up(sent: &[u8]) -> bool {
+    match sent.strip_suffix(CAME[2]) {
+        Some(front) => BEFORE.starts_with(front.get(26..).unwrap_or(b"".as_slice())),
+        None => false,
+    }
+}
+
 /// Whether the part stands somewhere in these bytes.
 fn has(bytes: &[u8], part: &[u8]) -> bool {
     bytes.windows(part.len().max(1)).any(|at| at == part)
 }
 
-/// What a lane that served to the end has answered: all as it should, or a command with want of memory.
+/// What a lane that served to the end has answered: all as it should, or a command or the connection with want of memory.
 fn answered(sent: &[u8]) -> Answer {
     if has(sent, BEFORE) && has(sent, BEHIND) {
         Answer::Right
-    } else if has(sent, b"-OOM command not allowed: out of memory\r\n") {
+    } else if has(sent, b"-OOM command not allowed: out of memory\r\n") || is_given_up(sent) {
         Answer::Memory
     } else {
         Answer::Wrong

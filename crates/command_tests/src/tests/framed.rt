@@ -22,6 +22,8 @@ pub(super) const LET_OUT: u8 = 5;
 
 pub(super) const NOTE: u8 = 6;
 
+pub(super) const HOLDS: u8 = 7;
+
 pub(super) const LIMITS: Limits = Limits {
     arguments: 16,
     bytes: 100,
@@ -79,6 +81,11 @@ impl Service for Echo {
     fn leave(&mut self, connection: u64) -> Result<(), AllocError> {
         let _ = connection;
         Ok(())
+    }
+
+    fn keeps(&self, connection: u64) -> u64 {
+        let _ = connection;
+        0
     }
 
     fn wake(&mut self) -> Result<Woken, AllocError> {
@@ -246,13 +253,13 @@ fn a_client_leaves_inside_a_request_and_the_next_one_begins_anew(rt: HostRuntime
         (OPEN, 0, b"".as_slice()),
         (DATA, 0, b"a\r\n*1\r\n$1\r\n"),
         (CLOSE, 0, b""),
-        (OPEN, 3, b""),
-        (DATA, 3, b"b\r\n"),
+        (OPEN, 1, b""),
+        (DATA, 1, b"b\r\n"),
     ];
     let want = [
         (DATA, 0, b"$1\r\na\r\n".as_slice()),
         (CLOSE, 0, b""),
-        (DATA, 3, b"$1\r\nb\r\n"),
+        (DATA, 1, b"$1\r\nb\r\n"),
     ];
     sends(&rt, rt.alloc(), &came, &want);
 }
@@ -280,16 +287,32 @@ fn frames_out_of_turn_are_faults(rt: HostRuntime) {
         [(CLOSE, 0, b""), (WAKE, 0, b""), (WAKE, 0, b"")],
         [(LET_IN, 0, b""), (WAKE, 0, b""), (WAKE, 0, b"")],
         [(LET_OUT, 0, b""), (WAKE, 0, b""), (WAKE, 0, b"")],
+        [(HOLDS, 0, b""), (WAKE, 0, b""), (WAKE, 0, b"")],
         [(OPEN, 0, b""), (OPEN, 0, b""), (WAKE, 0, b"")],
-        [(OPEN, 2, b""), (OPEN, 1, b""), (WAKE, 0, b"")],
+        [(OPEN, 1, b""), (WAKE, 0, b""), (WAKE, 0, b"")],
         [(OPEN, 0, b""), (CLOSE, 0, b""), (OPEN, 0, b"")],
-        [(OPEN, 0, b""), (CLOSE, 0, b""), (DATA, 0, b"a")],
-        [(OPEN, 0, b""), (CLOSE, 0, b""), (CLOSE, 0, b"")],
+        [(OPEN, 0, b""), (CLOSE, 0, b""), (DATA, 1, b"a")],
+        [(OPEN, 0, b""), (CLOSE, 0, b""), (CLOSE, 1, b"")],
     ];
     for case in cases {
         let came = bytes_of(&rt, alloc, &case);
         fails(&rt, alloc, came.as_slice(), LaneFault::OutOfTurn);
     }
+}
+
+#[test]
+fn what_comes_of_a_connection_that_is_gone_is_passed_over(rt: HostRuntime) {
+    let came = [
+        (OPEN, 0, b"".as_slice()),
+        (CLOSE, 0, b""),
+        (DATA, 0, b"a\r\n"),
+        (CLOSE, 0, b""),
+        (DATA, 0, b"b\r\n"),
+        (OPEN, 1, b""),
+        (DATA, 1, b"c\r\n"),
+    ];
+    let want = [(CLOSE, 0, b"".as_slice()), (DATA, 1, b"$1\r\nc\r\n")];
+    sends(&rt, rt.alloc(), &came, &want);
 }
 
 #[test]
@@ -310,7 +333,7 @@ fn bytes_that_are_no_frames_are_faults(rt: HostRuntime) {
     fails(&rt, alloc, &cut, LaneFault::Frame(FrameFault::Cut));
     // The kind, and a length of which one byte more or less is the fault or none: the frames end inside.
     let cases = [
-        (7, 0, FrameFault::Kind),
+        (8, 0, FrameFault::Kind),
         (255, 0, FrameFault::Kind),
         (DATA, 1 << 20, FrameFault::Cut),
         (DATA, (1 << 20) + 1, FrameFault::TooLong),
@@ -322,6 +345,8 @@ fn bytes_that_are_no_frames_are_faults(rt: HostRuntime) {
         (WAKE, 1, FrameFault::TooLong),
         (LET_IN, 1, FrameFault::TooLong),
         (LET_OUT, 1, FrameFault::TooLong),
+        (HOLDS, 8, FrameFault::Cut),
+        (HOLDS, 9, FrameFault::TooLong),
     ];
     for (kind, len, want) in cases {
         let mut came = Vec::new(alloc);

@@ -42,6 +42,11 @@ impl Service for Plain {
         Ok(())
     }
 
+    fn keeps(&self, connection: u64) -> u64 {
+        let _ = connection;
+        0
+    }
+
     fn wake(&mut self) -> Result<Woken, AllocError> {
         Ok(Woken::Stay)
     }

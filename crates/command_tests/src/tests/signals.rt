@@ -60,6 +60,11 @@ impl Service for Porter {
         Ok(())
     }
 
+    fn keeps(&self, connection: u64) -> u64 {
+        let _ = connection;
+        0
+    }
+
     fn wake(&mut self) -> Result<Woken, AllocError> {
         Ok(Woken::Stay)
     }

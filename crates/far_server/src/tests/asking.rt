@@ -50,7 +50,7 @@ fn on_a_connection(rt: HostRuntime) {
 #[test]
 fn for_what_lies_far(rt: HostRuntime) {
     let want =
-        b"$392\r\n# Far\r\nbuckets:16\r\nframes:16\r\nmost_in_frames:18446744073709551615\r\nbytes_in_frames:0\r\nfar_objects:5\r\nlost_buckets:2\r\nfar_bytes:4160\r\nfar_limit:0\r\nlocal_hits:0\r\nhit_rate:0.000\r\nswap_outs:0\r\nswap_ins:0\r\nread_throughs:0\r\ndevice_failures:0\r\nrefused_memory:0\r\nrefused_full:0\r\nrefused_device:0\r\nnames_left:1099511627775\r\nrenewals:0\r\nrenewal_lost_pairs:0\r\nrenewal_lost_buckets:0\r\nrenewal_last_ms:0\r\n\r\n";
+        b"$406\r\n# Far\r\nbuckets:16\r\nframes:16\r\nmost_in_frames:18446744073709551615\r\nbytes_in_frames:0\r\nfar_objects:5\r\nlost_buckets:2\r\nfar_bytes:4160\r\nfar_limit:0\r\nfar_state:ok\r\nlocal_hits:0\r\nhit_rate:0.000\r\nswap_outs:0\r\nswap_ins:0\r\nread_throughs:0\r\ndevice_failures:0\r\nrefused_memory:0\r\nrefused_full:0\r\nrefused_device:0\r\nnames_left:1099511627775\r\nrenewals:0\r\nrenewal_lost_pairs:0\r\nrenewal_lost_buckets:0\r\nrenewal_last_ms:0\r\n\r\n";
     replies(&rt, rt.alloc(), settings(1), b"INFO far\r\n", want);
 }
 

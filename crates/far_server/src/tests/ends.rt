@@ -1,6 +1,6 @@
 //! What is refused, and how lanes end.
 use super::pipes::{ends, frames_of, replies, settings};
-use crate::{LaneEnd, OpenFault, ServerSettings};
+use crate::{Bounds, LaneEnd, OpenFault, ServerSettings};
 use far_map::Settings;
 use lanes::{FrameFault, LaneFault};
 use std::process::Abort;
@@ -8,7 +8,10 @@ use std::process::Abort;
 #[test]
 fn a_value_too_long(rt: HostRuntime) {
     let settings = ServerSettings {
-        longest_value: 3,
+        bounds: Bounds {
+            longest_value: 3,
+            longest_reply: 1 << 20,
+        },
         ..settings(1)
     };
     let asked = b"SET a 1234\r\nSET a 123\r\nAPPEND a 4\r\nGET a\r\n";
@@ -81,7 +84,7 @@ fn memory_alone_refuses_where_no_device_is(rt: HostRuntime) {
 #[test]
 fn too_much_waits(rt: HostRuntime) {
     let settings = ServerSettings {
-        longest_queue: 50,
+        longest_queue: 150,
         ..settings(1)
     };
     let asked = b"MULTI\r\nGET a\r\nGET b\r\nEXEC\r\n";

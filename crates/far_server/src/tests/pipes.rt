@@ -1,5 +1,5 @@
 //! Pipes in memory, and what a lane answers through them.
-use crate::{FarUsage, LaneEnd, OpenFault, Pipes, ServerSettings, WorkerEnd, run_server};
+use crate::{Bounds, FarUsage, LaneEnd, OpenFault, Pipes, ServerSettings, WorkerEnd, run_server};
 use far_device::FakeDevice;
 use far_map::Settings;
 use resp::Limits;
@@ -52,8 +52,12 @@ pub fn settings(lanes: u32) -> ServerSettings {
             bytes: 100_000,
             line: 1_000,
         },
-        longest_value: 70_000,
+        bounds: Bounds {
+            longest_value: 70_000,
+            longest_reply: 1 << 26,
+        },
         longest_queue: 1_000,
+        large: 10,
         far_limit: 0,
         password: None,
         seed: 1,

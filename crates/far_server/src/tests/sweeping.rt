@@ -4,6 +4,7 @@ use crate::around::{Around, Desk};
 use crate::renewal::Renewal;
 use crate::sweeping::{Hand, expire, expire_in, is_due, make_room, sweep};
 use crate::tally::Tallies;
+use crate::turns::Turns;
 use crate::{FarUsage, ServerSettings};
 use commands::push_stored;
 use far_blob::Blob;
@@ -204,6 +205,7 @@ impl<C: Clock + Sync> Work<Blob> for Sweeping<'_, C> {
         me: &mut S,
     ) -> Result<Told, Refusal> {
         let renewal = Renewal::new(&self.settings);
+        let turns = Turns::new();
         let around = Around {
             rt,
             clock: self.clock,
@@ -212,6 +214,7 @@ impl<C: Clock + Sync> Work<Blob> for Sweeping<'_, C> {
             tallies: self.tallies,
             usage: self.usage,
             renewal: &renewal,
+            turns: &turns,
             lane: worker,
             started: 0,
         };

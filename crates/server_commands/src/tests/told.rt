@@ -12,15 +12,15 @@ const SERVER: &str =
 const CLIENTS: &str = "# Clients connected_clients:3 maxclients:10000 blocked_clients:0 ";
 
 const MEMORY: &str =
-    "# Memory used_memory:917184 used_memory_human:895.69K maxmemory:268435456 maxmemory_human:256.00M maxmemory_policy:allkeys-random ";
+    "# Memory used_memory:917184 used_memory_human:895.69K clients_memory:65536 maxmemory:268435456 maxmemory_human:256.00M maxmemory_policy:allkeys-random ";
 
 const STATS: &str =
-    "# Stats total_connections_received:12 total_commands_processed:1234567 rejected_connections:19 expired_keys:5 evicted_keys:6 keyspace_hits:70 keyspace_misses:30 rejected:33 ";
+    "# Stats total_connections_received:12 total_commands_processed:1234567 rejected_connections:19 evicted_clients:20 expired_keys:5 evicted_keys:6 keyspace_hits:70 keyspace_misses:30 rejected:33 ";
 
 const KEYSPACE: &str = "# Keyspace db0:keys=1000,expires=0,avg_ttl=0 ";
 
 const FAR: &str =
-    "# Far buckets:65536 frames:65536 most_in_frames:134217728 bytes_in_frames:917184 far_objects:13 lost_buckets:14 far_bytes:1703936 far_limit:0 local_hits:1999 hit_rate:0.999 swap_outs:8 swap_ins:1 read_throughs:0 device_failures:9 refused_memory:10 refused_full:11 refused_device:12 names_left:1099511627776 renewals:15 renewal_lost_pairs:16 renewal_lost_buckets:17 renewal_last_ms:18 ";
+    "# Far buckets:65536 frames:65536 most_in_frames:134217728 bytes_in_frames:917184 far_objects:13 lost_buckets:14 far_bytes:1703936 far_limit:0 far_state:ok local_hits:1999 hit_rate:0.999 swap_outs:8 swap_ins:1 read_throughs:0 device_failures:9 refused_memory:10 refused_full:11 refused_device:12 names_left:1099511627776 renewals:15 renewal_lost_pairs:16 renewal_lost_buckets:17 renewal_last_ms:18 ";
 
 #[test]
 fn sections(rt: HostRuntime) -> Result<(), Fail> {

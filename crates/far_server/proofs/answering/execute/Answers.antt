@@ -2,7 +2,6 @@ use Rattle.std.proofs.Common.{◌≡◌, ◌≤◌, ◌+◌, ◌-◌, suc, ℕ, 
 use Rattle.std.proofs.lemmas.List.{length-map, take_all}
 use Rattle.std.specs.List.{flat_map}
 use Rattle.resp.specs.Replies.{Count, token}
-use Rattle.far_server.specs.Bounds.{most_reply}
 use Rattle.far_server.specs.Queues.{held, waiting}
 use Rattle.far_server.specs.Answers.{AreExecuted}
 use Rattle.far_server.proofs.Pushed.{single, more_tokens}
@@ -27,7 +26,7 @@ loop-request-preserved g c =
     let i = c.loop-request.request-index in
     let all = waiting c.args.queue.now in
     let l = g.S.Calls.limits in
-    let most = c.args.around.now.settings.now.longest_value in
+    let bounds = c.args.around.now.settings.now.bounds in
     let before = g.S.Calls.shown c.args.me.now in
     let mid = g.S.Calls.shown c.loop-request.me in
     let new = g.S.Calls.shown c.run_within.new.me in
@@ -42,7 +41,7 @@ loop-request-preserved g c =
     let len : c.len.result ≡ length said = search in
     let used : c.len.result - c.len-before.result ≡ length (token head) + length (flat_map token each) = omega (arith, len, total, parts, inv.1) in
     let more : length c.run_within.new.reply.items ≡ length said + length (flat_map token d.0) = ap (λ (bytes : List ℕ). length bytes) d.1 ∙ length-append said (flat_map token d.0) in
-    let A : List (List (List ℕ)) → Type 0 = λ ws. AreExecuted l most (most_reply - length (token head)) ws (each ++ d.0) before new in
+    let A : List (List (List ℕ)) → Type 0 = λ ws. AreExecuted l bounds (bounds.longest_reply - length (token head)) ws (each ++ d.0) before new in
     let lt : suc i ≤ length c.requests-requests.result.now = omega (arith, c.loop-request-test.true) in (
       c.in-Ok-run_within.ensures.queue ∙ inv.0,
       inv.1,
@@ -51,7 +50,7 @@ loop-request-preserved g c =
         each ++ d.0,
         more_tokens old (head ∷ each) d.0 said c.run_within.new.reply.items inv.3.1 d.1,
         subst A (sym (next_held c.requests-requests.result.now all i item c.requests-requests.ensures lt c.request-item.is))
-            (execute_more l most (length (token head)) (c.len.result - c.len-before.result) (take i all) (held item) each d.0 before mid new inv.3.2 used d.2),
+            (execute_more l bounds (length (token head)) (c.len.result - c.len-before.result) (take i all) (held item) each d.0 before mid new inv.3.2 used d.2),
       ),
     )
 
@@ -61,7 +60,7 @@ returns-clause-ran g c =
     let all = waiting c.args.queue.now in
     let head = Count (length all) in
     let len : length all ≡ length c.requests-requests.result.now = ap (λ (ws : List (List (List ℕ))). length ws) (sym c.requests-requests.ensures) ∙ length-map c.requests-requests.result.now held in
-    let A : List (List (List ℕ)) → Type 0 = λ ws. AreExecuted g.S.Calls.limits c.args.around.now.settings.now.longest_value (most_reply - length (token head)) ws inv.3.0 (g.S.Calls.shown c.args.me.now) (g.S.Calls.shown c.loop-request.me) in (
+    let A : List (List (List ℕ)) → Type 0 = λ ws. AreExecuted g.S.Calls.limits c.args.around.now.settings.now.bounds (c.args.around.now.settings.now.bounds.longest_reply - length (token head)) ws inv.3.0 (g.S.Calls.shown c.args.me.now) (g.S.Calls.shown c.loop-request.me) in (
       head ∷ inv.3.0,
       inv.3.1,
       (inv.3.0, subst A (take_all c.loop-request.request-index all (omega (arith, len, c.loop-request-test.false))) inv.3.2, refl),

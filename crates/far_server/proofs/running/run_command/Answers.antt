@@ -14,7 +14,7 @@ pub returns-in-Some-clause-ran : goal.returns-in-Some-clause-ran
 returns-in-Some-clause-ran g c =
     let l = g.S.Calls.limits in
     let now = c.args.now in
-    let most = c.args.around.now.settings.now.longest_value in
+    let most = c.args.around.now.settings.now.bounds.longest_value in
     let old = g.S.Calls.shown c.args.me.now in
     let new = g.S.Calls.shown c.answer_key.new.me in
     let is : of_one_key c.args.command ≡ Some (c.in-Some.key, c.in-Some.command) = sym c.on_one_key.ensures ∙ c.in-Some.is in

@@ -1,5 +1,5 @@
-use Rattle.std.proofs.Common.{◌≡◌, ◌≢◌, ℕ, ◌+◌, ◌-◌, ◌≤◌, true, false, List, ◌++◌, length, take, drop, sym, ap, ◌∙◌, subst, arith, length-drop}
-use Rattle.std.proofs.lemmas.List.{take_rest}
+use Rattle.std.proofs.Common.{◌≡◌, ◌≢◌, ℕ, ◌+◌, ◌-◌, ◌<◌, ◌≤◌, true, false, List, ◌++◌, length, take, drop, sym, ap, ◌∙◌, subst, arith, length-drop}
+use Rattle.std.proofs.lemmas.List.{take_rest, nil_from_length}
 use Rattle.resp.specs.declared.outcome.Fault.{Fault}
 use Rattle.resp.specs.Lines.{Lacks, Spoilt}
 use Rattle.resp.specs.Requests.{command, IsAdmitted, longest}
@@ -7,11 +7,12 @@ use Rattle.resp.specs.Parsing.{IsCause}
 use Rattle.lanes.specs.declared.service.Next.{Next}
 use Rattle.lanes.specs.declared.service.Next.TheVariants.{End}
 use Rattle.lanes.specs.declared.taking.Taken.{Taken}
-use Rattle.lanes.specs.Lanes.{protocol_error, IsOver}
+use Rattle.lanes.specs.Lanes.{protocol_error, IsBegun, IsOver}
 use Rattle.lanes.specs.Slots.{IsAnswered}
 use Rattle.lanes.specs.Turns.{Turns, Takes, TakesWhole, goes_on}
+use Rattle.lanes.proofs.Standing.{nothing_begun}
 use Rattle.lanes.proofs.Closing.{begun_answered}
-use Rattle.lanes.proofs.Turning.{turn_more, turn_last, turn_bad, turn_wrote, turn_faulty, begun_rest, not_end, is_end}
+use Rattle.lanes.proofs.Turning.{turn_more, turn_last, turn_bad, turn_shed, turn_wrote, turn_faulty, begun_rest, not_end, is_end}
 use Rattle.lanes.proofs.Sending.{whole_faulty}
 use Rattle.lanes.proofs.answering.answer_all.Goals as goal
 
@@ -98,6 +99,29 @@ returns-in-Err-go_on-clause-begun g c =
     λ start x past slots entered.
     let t = c.requests.invariant.turns start x past slots entered in
     whole_faulty g.D.Duplex.tells g.S.Service.does c.args.limits past c.args.connection start c.requests.duplex c.go_on.new.duplex x c.requests.service c.take_one.new.service slots bytes out made c.in-Err-go_on.ensures.part.0 at n c.in-Ok-Whole.next w t c.in-Err-go_on.ensures.part.1
+
+pub returns-then-at-bytes-clause-answered : goal.returns-then-at-bytes-clause-answered
+returns-then-at-bytes-clause-answered g c =
+    let rest = drop c.requests.at c.args.bytes.now in
+    let all : length rest ≡ 0 = omega (arith, c.if-at-bytes.true, length-drop c.requests.at c.args.bytes.now) in
+    let B : List ℕ → Type 0 = λ l. IsBegun c.args.limits l 1 in
+    let begun : IsBegun c.args.limits rest 1 = subst B (sym (nil_from_length rest all)) (nothing_begun c.args.limits) in
+    λ start x past slots entered. (c.requests.invariant.within, begun, c.requests.invariant.turns start x past slots entered)
+
+pub returns-in-Ok-Refused-clause-answered : goal.returns-in-Ok-Refused-clause-answered
+returns-in-Ok-Refused-clause-answered g c =
+    let bytes = c.args.bytes.now in
+    let at = c.requests.at in
+    let out = c.requests.out.items in
+    let made = c.take_one.new.out.items in
+    let P : Taken → Type 0 = λ t. Takes g.S.Service.does c.args.limits c.args.connection c.requests.service c.take_one.new.service (take (length bytes - at) (drop at bytes)) out made t in
+    let b : (c.requests.service ≡ c.take_one.new.service) × (made ≡ out) = subst P c.in-Ok-Refused.field-0-is c.in-Ok-Refused.ensures in
+    let some : 0 < length (drop at bytes) = omega (arith, c.if-at-bytes.false, c.requests.invariant.within, length-drop at bytes) in
+    λ start x past slots entered.
+    let t = c.requests.invariant.turns start x past slots entered in
+    let Y = λ (y : g.row.S.Denot). Turns (IsOver c.args.limits) g.D.Duplex.tells g.S.Service.does c.args.limits past c.args.connection start c.requests.duplex x y slots made in
+    let O : List ℕ → Type 0 = λ l. Turns (IsOver c.args.limits) g.D.Duplex.tells g.S.Service.does c.args.limits past c.args.connection start c.requests.duplex x c.requests.service slots l in
+    subst Y b.0 (subst O (sym b.1) (turn_shed g.D.Duplex.tells g.S.Service.does c.args.limits past c.args.connection start c.requests.duplex x c.requests.service slots (drop at bytes) out some t))
 
 pub returns-in-Ok-Bad-clause-answered : goal.returns-in-Ok-Bad-clause-answered
 returns-in-Ok-Bad-clause-answered g c =

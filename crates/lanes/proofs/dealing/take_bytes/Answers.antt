@@ -1,83 +1,42 @@
-use Rattle.std.proofs.Common.{◌≡◌, ◌<◌, ℕ, List, [], ◌++◌, length, sym, ap, ◌∙◌, subst, rules, arith}
-use Rattle.std.proofs.lemmas.List.{nil_from_length}
-use Rattle.lanes.specs.Marks.{Piece}
-use Rattle.lanes.specs.Slots.{Runs, slot_at, IsAnswered}
-use Rattle.lanes.specs.Turns.{Turns}
-use Rattle.lanes.proofs.Seeing.{placed, ok_map}
-use Rattle.lanes.proofs.Framing.{comes_turns, comes_waits, comes_faulty}
+use Rattle.std.proofs.Common.{Option, refl, sym, subst}
+use Rattle.lanes.specs.declared.slots.Held.{Held}
+use Rattle.lanes.specs.Slots.{seen_left, Replaces}
+use Rattle.lanes.proofs.Seeing.{placed}
+use Rattle.lanes.proofs.Framing.{stands_hinted, faulty_hinted, faulty_kept}
 use Rattle.lanes.proofs.dealing.take_bytes.Goals as goal
 
-pub answer_frame-requires-clause-nothing : goal.answer_frame-requires-clause-nothing
-answer_frame-requires-clause-nothing g c =
-    let none : length c.take_held-held.result.0.items ≡ 0 = search rules in
-    nil_from_length c.take_held-held.result.0.items none
-
-pub returns-then-is_empty-clause-stands : goal.returns-then-is_empty-clause-stands
-returns-then-is_empty-clause-stands g c =
+pub returns-in-Ok-clause-stands : goal.returns-in-Ok-clause-stands
+returns-in-Ok-clause-stands g c =
+    λ start x past h.
     let k = c.args.connection in
     let slots = c.args.slots.now in
-    let H = c.take_held-held.result.0.items in
-    let wanted = c.take_held-held.result.1 in
-    let is : slot_at slots k ≡ Runs H wanted = c.take_held-held.ensures.held c.requires.runs in
-    let none : length H ≡ 0 = search rules in
-    let free : slot_at slots k ≡ Runs [] wanted = is ∙ ap (λ (l : List ℕ). Runs l wanted) (nil_from_length H none) in
-    ok_map c.answer_frame.result _ _ (λ p start x past h. p start x past slots (comes_turns g.D.Duplex.tells g.S.Service.does c.args.limits past k start c.args.duplex.now x c.args.service.now slots [] c.args.frame.now wanted free h) c.take_held-held.ensures.others) c.answer_frame.ensures.stands
+    let after = c.keep.new.slots in
+    let V : Option Held → Type 0 = λ o. Replaces k (seen_left o) slots after in
+    let r = placed k _ _ slots c.take_held-held.new.slots after c.take_held-held.ensures.others c.in-Ok.ensures.kept refl in
+    stands_hinted g.D.Duplex.tells g.S.Service.does c.args.limits past start c.take_turn.new.duplex c.keep.new.duplex x c.take_turn.new.service after c.in-Ok.ensures.told (c.in-Ok-Some.ensures.stands start x past slots after (c.take_held-held.ensures.held c.requires.runs) h (subst V (sym c.in-Ok-Some.field-0-is) r))
 
-pub returns-then-is_empty-clause-begun : goal.returns-then-is_empty-clause-begun
-returns-then-is_empty-clause-begun g c =
+pub returns-in-Ok-clause-begun : goal.returns-in-Ok-clause-begun
+returns-in-Ok-clause-begun g c =
+    λ start x past h. faulty_hinted g.D.Duplex.tells g.S.Service.does c.args.limits past start c.take_turn.new.duplex c.keep.new.duplex x c.in-Ok.ensures.told (c.in-Ok-Some.ensures.begun start x past c.args.slots.now (c.take_held-held.ensures.held c.requires.runs) h)
+
+pub returns-in-Err-keep-clause-begun : goal.returns-in-Err-keep-clause-begun
+returns-in-Err-keep-clause-begun g c =
+    λ start x past h. faulty_kept g.D.Duplex.tells g.S.Service.does c.args.limits past start c.take_turn.new.duplex c.keep.new.duplex x (λ came sent told. c.in-Err-keep.ensures.failed start came sent told) (c.in-Ok-Some.ensures.begun start x past c.args.slots.now (c.take_held-held.ensures.held c.requires.runs) h)
+
+pub returns-in-Ok-None-clause-stands : goal.returns-in-Ok-None-clause-stands
+returns-in-Ok-None-clause-stands g c =
+    λ start x past h.
     let k = c.args.connection in
     let slots = c.args.slots.now in
-    let H = c.take_held-held.result.0.items in
-    let wanted = c.take_held-held.result.1 in
-    let is : slot_at slots k ≡ Runs H wanted = c.take_held-held.ensures.held c.requires.runs in
-    let none : length H ≡ 0 = search rules in
-    let free : slot_at slots k ≡ Runs [] wanted = is ∙ ap (λ (l : List ℕ). Runs l wanted) (nil_from_length H none) in
-    λ start x past h. c.answer_frame.ensures.begun start x past slots (comes_turns g.D.Duplex.tells g.S.Service.does c.args.limits past k start c.args.duplex.now x c.args.service.now slots [] c.args.frame.now wanted free h)
+    let after = c.set_slot.new.slots in
+    let V : Option Held → Type 0 = λ o. Replaces k (seen_left o) slots after in
+    let r = placed k _ _ slots c.take_held-held.new.slots after c.take_held-held.ensures.others c.set_slot.ensures c.new.ensures in
+    c.in-Ok-None.ensures.stands start x past slots after (c.take_held-held.ensures.held c.requires.runs) h (subst V (sym c.in-Ok-None.field-0-is) r)
+
+pub returns-in-Ok-None-clause-begun : goal.returns-in-Ok-None-clause-begun
+returns-in-Ok-None-clause-begun g c =
+    λ start x past h. c.in-Ok-None.ensures.begun start x past c.args.slots.now (c.take_held-held.ensures.held c.requires.runs) h
 
 pub returns-in-Err-clause-begun : goal.returns-in-Err-clause-begun
 returns-in-Err-clause-begun g c =
-    λ start x past h. comes_faulty g.D.Duplex.tells g.S.Service.does c.args.limits past start c.args.duplex.now c.args.duplex.now x c.args.service.now c.args.slots.now (Piece c.args.connection c.args.frame.now) (λ came sent told. told) h
-
-pub returns-then-len-wanted-clause-stands : goal.returns-then-len-wanted-clause-stands
-returns-then-len-wanted-clause-stands g c =
-    let k = c.args.connection in
-    let slots = c.args.slots.now in
-    let H = c.take_held-held.result.0.items in
-    let wanted = c.take_held-held.result.1 in
-    let is : slot_at slots k ≡ Runs H wanted = c.take_held-held.ensures.held c.requires.runs in
-    let after = c.set_slot.new.slots in
-    let items : c.extend_from_slice.new.self.items ≡ H ++ c.args.frame.now = c.in-Ok.ensures.items in
-    let less : length c.extend_from_slice.new.self.items < wanted = first_of (search rules, omega arith) in
-    let L : List ℕ → Type 0 = λ l. length l < wanted in
-    let same = ap (λ (l : List ℕ). Runs l wanted) items in
-    λ start x past h. comes_waits g.D.Duplex.tells g.S.Service.does c.args.limits past k start c.args.duplex.now x c.args.service.now slots after H c.args.frame.now wanted is (subst L items less) (placed k _ _ slots c.take_held-held.new.slots after c.take_held-held.ensures.others c.set_slot.ensures same) h
-
-pub returns-then-len-wanted-clause-begun : goal.returns-then-len-wanted-clause-begun
-returns-then-len-wanted-clause-begun g c =
-    λ start x past h. comes_faulty g.D.Duplex.tells g.S.Service.does c.args.limits past start c.args.duplex.now c.args.duplex.now x c.args.service.now c.args.slots.now (Piece c.args.connection c.args.frame.now) (λ came sent told. told) h
-
-pub returns-clause-stands : goal.returns-clause-stands
-returns-clause-stands g c =
-    let k = c.args.connection in
-    let slots = c.args.slots.now in
-    let H = c.take_held-held.result.0.items in
-    let wanted = c.take_held-held.result.1 in
-    let is : slot_at slots k ≡ Runs H wanted = c.take_held-held.ensures.held c.requires.runs in
-    let items : c.extend_from_slice.new.self.items ≡ H ++ c.args.frame.now = c.in-Ok.ensures.items in
-    ok_map c.answer_held.result _ _
-    (λ p start x past h.
-    let T = λ (l : List ℕ). Turns (IsAnswered c.args.limits l) g.D.Duplex.tells g.S.Service.does c.args.limits past k start c.args.duplex.now x c.args.service.now slots [] in
-    p start x past slots (subst T (sym items) (comes_turns g.D.Duplex.tells g.S.Service.does c.args.limits past k start c.args.duplex.now x c.args.service.now slots H c.args.frame.now wanted is h)) c.take_held-held.ensures.others)
-    c.answer_held.ensures.stands
-
-pub returns-clause-begun : goal.returns-clause-begun
-returns-clause-begun g c =
-    let k = c.args.connection in
-    let slots = c.args.slots.now in
-    let H = c.take_held-held.result.0.items in
-    let wanted = c.take_held-held.result.1 in
-    let is : slot_at slots k ≡ Runs H wanted = c.take_held-held.ensures.held c.requires.runs in
-    let items : c.extend_from_slice.new.self.items ≡ H ++ c.args.frame.now = c.in-Ok.ensures.items in
-    λ start x past h.
-    let T = λ (l : List ℕ). Turns (IsAnswered c.args.limits l) g.D.Duplex.tells g.S.Service.does c.args.limits past k start c.args.duplex.now x c.args.service.now slots [] in
-    c.answer_held.ensures.begun start x past slots (subst T (sym items) (comes_turns g.D.Duplex.tells g.S.Service.does c.args.limits past k start c.args.duplex.now x c.args.service.now slots H c.args.frame.now wanted is h))
+    λ start x past h. c.in-Err.ensures.begun start x past c.args.slots.now (c.take_held-held.ensures.held c.requires.runs) h

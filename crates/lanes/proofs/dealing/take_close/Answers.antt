@@ -1,10 +1,14 @@
-use Rattle.std.proofs.Common.{◌≡◌, Some, ap, ◌∙◌}
+use Rattle.std.proofs.Common.{◌≡◌, Some, refl, ap, ◌∙◌}
 use Rattle.lanes.specs.declared.slots.State.TheVariants.{Running, Over}
 use Rattle.lanes.specs.Marks.{Stop}
 use Rattle.lanes.specs.Slots.{slot_at, state_of}
-use Rattle.lanes.proofs.Seeing.{held_in, wanted_in, seen_runs, seen_closed}
-use Rattle.lanes.proofs.Framing.{comes_closed, comes_closed_too, comes_faulty, closed_faulty}
+use Rattle.lanes.proofs.Seeing.{held_in, wanted_in, seen_runs, seen_closed, ok_map}
+use Rattle.lanes.proofs.Framing.{comes_closed, comes_closed_too, comes_closed_gone, comes_faulty, closed_faulty}
 use Rattle.lanes.proofs.dealing.take_close.Goals as goal
+
+pub returns-in-None-clause-stands : goal.returns-in-None-clause-stands
+returns-in-None-clause-stands g c =
+    ok_map c.pass_over.result _ _ (λ below start x past h. comes_closed_gone g.D.Duplex.tells g.S.Service.does c.args.limits past c.args.connection start c.args.duplex.now x c.args.service.now c.args.slots.now (c.in-None.ensures.gone refl below) h) c.pass_over.ensures
 
 pub returns-in-None-clause-begun : goal.returns-in-None-clause-begun
 returns-in-None-clause-begun g c =
@@ -20,7 +24,7 @@ returns-in-Ok-clause-stands g c =
 
 pub returns-in-Ok-clause-begun : goal.returns-in-Ok-clause-begun
 returns-in-Ok-clause-begun g c =
-    λ start x past h. closed_faulty g.D.Duplex.tells g.S.Service.does c.args.limits past c.args.connection start c.args.duplex.now c.leave.new.duplex x c.args.service.now c.args.slots.now (λ came sent told. c.in-Ok.ensures.left.1 start came sent told) h
+    λ start x past h. closed_faulty g.D.Duplex.tells g.S.Service.does c.args.limits past c.args.connection start c.args.duplex.now c.leave.new.duplex x c.args.service.now c.args.slots.now (Stop c.args.connection) (λ came sent told. c.in-Ok.ensures.left.1 start came sent told) h
 
 pub returns-in-Err-clause-begun : goal.returns-in-Err-clause-begun
 returns-in-Err-clause-begun g c =

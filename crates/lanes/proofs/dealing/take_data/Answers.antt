@@ -1,13 +1,17 @@
-use Rattle.std.proofs.Common.{Some, ◌≡◌, ap, ◌∙◌}
+use Rattle.std.proofs.Common.{Some, ◌≡◌, refl, ap, ◌∙◌}
 use Rattle.lanes.specs.declared.slots.State.TheVariants.{Over}
 use Rattle.lanes.specs.Marks.{Piece}
 use Rattle.lanes.specs.Slots.{slot_at, state_of}
-use Rattle.lanes.proofs.Seeing.{seen_closed}
-use Rattle.lanes.proofs.Framing.{comes_over, comes_faulty}
+use Rattle.lanes.proofs.Seeing.{seen_closed, ok_map}
+use Rattle.lanes.proofs.Framing.{comes_over, comes_gone, comes_faulty}
 use Rattle.lanes.proofs.dealing.take_data.Goals as goal
 
 pub take_bytes-requires-clause-runs : goal.take_bytes-requires-clause-runs
 take_bytes-requires-clause-runs g c = c.in-Some-Running.ensures.state ∙ ap Some c.in-Some-Running.field-0-is
+
+pub returns-in-None-clause-stands : goal.returns-in-None-clause-stands
+returns-in-None-clause-stands g c =
+    ok_map c.pass_over.result _ _ (λ below start x past h. comes_gone g.D.Duplex.tells g.S.Service.does c.args.limits past c.args.connection start c.args.duplex.now x c.args.service.now c.args.slots.now c.args.frame.now (c.in-None.ensures.gone refl below) h) c.pass_over.ensures
 
 pub returns-in-None-clause-begun : goal.returns-in-None-clause-begun
 returns-in-None-clause-begun g c =

@@ -84,7 +84,7 @@ pub returns-in-Ok-wake-clause-stands : goal.returns-in-Ok-wake-clause-stands
 returns-in-Ok-wake-clause-stands g c =
     λ start x past h.
     let M = λ (kind : Kind). Comes g.D.Duplex.tells g.S.Service.does c.args.limits past start c.args.duplex.now x c.args.service.now c.args.slots.now (mark_of kind c.args.head.connection c.args.frame.now) in
-    comes_called g.D.Duplex.tells g.S.Service.does c.args.limits past start c.args.duplex.now x c.args.service.now c.wake.new.self c.args.slots.now c.args.slots.now (Woke c.in-Ok-wake.woken) refl (λ d. inl refl) c.in-Ok-wake.ensures (subst M c.in-Wake.is h)
+    comes_called g.D.Duplex.tells g.S.Service.does c.args.limits past start c.args.duplex.now x c.args.service.now c.wake.new.self c.args.slots.now (Woke c.in-Ok-wake.woken) refl c.in-Ok-wake.ensures (subst M c.in-Wake.is h)
 
 pub returns-in-Ok-wake-clause-begun : goal.returns-in-Ok-wake-clause-begun
 returns-in-Ok-wake-clause-begun g c =
@@ -105,5 +105,8 @@ returns-in-LetIn-clause-begun g c =
     let F : M LetIn → Faulty g.D.Duplex.tells g.S.Service.does c.args.limits past start c.args.duplex.now x = λ m. comes_faulty g.D.Duplex.tells g.S.Service.does c.args.limits past start c.args.duplex.now c.args.duplex.now x c.args.service.now c.args.slots.now Else (λ came sent told. told) m in
     elim c.in-LetIn.is [
       | inl e ↦ F (subst M e h)
-      | inr e ↦ F (subst M e h)
+      | inr e ↦ elim e [
+        | inl f ↦ F (subst M f h)
+        | inr f ↦ F (subst M f h)
+      ]
     ]

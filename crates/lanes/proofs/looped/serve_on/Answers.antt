@@ -65,7 +65,7 @@ loop-round-preserved g c =
     let L = c.limits-limits.result in
     record {
       stands = λ start past h. c.in-Ok-Stay.ensures.stands start c.args.service.now past (frame_came g.D.Duplex.tells g.S.Service.does L past start c.loop-round.duplex c.read.new.self c.args.service.now c.loop-round.service c.loop-round.slots c.read.new.room.items c.as_slice.result.now c.in-Ok-Some.field-0 c.in-Ok-Some.head c.in-Ok-Some.field-0-is c.as_slice.ensures.value c.in-Ok-Some.ensures.came (inv.stands start past h));
-      empty = c.in-Ok-Stay.ensures.empty;
+      empty = c.empty-in-Ok-Stay-2.ensures;
       limits = c.in-Ok-Stay.ensures.limits ∙ (c.in-Ok-Some.ensures.limits ∙ inv.limits);
       limits_then = inv.limits_then;
     }

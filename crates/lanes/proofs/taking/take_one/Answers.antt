@@ -1,11 +1,9 @@
-use Rattle.std.proofs.Common.{◌≡◌, ℕ, ◌<◌, List, ◌++◌, length, refl, subst, rules}
+use Rattle.std.proofs.Common.{◌≡◌, ◌<◌, List, ◌++◌, length, subst, rules}
 use Rattle.std.proofs.lemmas.List.{nil_from_length}
 use Rattle.resp.specs.declared.place.Span.{Span}
 use Rattle.resp.specs.declared.outcome.Parsed.{Parsed}
-use Rattle.resp.specs.Lines.{Spoilt}
-use Rattle.resp.specs.Requests.{command, IsAdmitted}
-use Rattle.resp.specs.Parsing.{arguments_in, IsCause, Parses}
-use Rattle.resp.specs.Replies.{Token, token, Failure}
+use Rattle.resp.specs.Parsing.{arguments_in, Parses}
+use Rattle.resp.specs.Replies.{Token, token}
 use Rattle.std.specs.List.{flat_map}
 use Rattle.lanes.specs.Calls.{Asked}
 use Rattle.lanes.proofs.Requests.{took_request, passed_request}
@@ -16,7 +14,7 @@ returns-then-is_empty g c =
     let spans = c.parse.new.spans.items in
     let P : Parsed → Type 0 = λ p. Parses c.args.limits c.args.bytes.now spans p in
     let none : length spans ≡ 0 = search rules in
-    passed_request g.S.Service.does c.args.limits c.args.connection c.args.service.now c.args.bytes.now spans c.in-Request.consumed c.args.out.now.items (subst P c.in-Request.is c.in_ok-consumed.ensures.parses) (nil_from_length spans none)
+    passed_request g.S.Service.does c.args.limits c.args.connection c.args.service.now c.args.bytes.now spans c.in-Request.consumed c.args.out.now.items (subst P c.in-Request.is c.in-Ok.ensures.parses) (nil_from_length spans none)
 
 pub returns-in_ok-next-in-Request : goal.returns-in_ok-next-in-Request
 returns-in_ok-next-in-Request g c =
@@ -27,12 +25,4 @@ returns-in_ok-next-in-Request g c =
     let step : (r : List Token) × g.S.Service.does c.args.service.now (Asked c.args.connection (arguments_in c.args.bytes.now c.as_slice.result.now) r next) c.answer.new.self × (c.answer.new.out.items ≡ c.args.out.now.items ++ flat_map token r) = c.in_ok-next-in-Request.ensures in
     let A : List Span → Type 0 = λ s. g.S.Service.does c.args.service.now (Asked c.args.connection (arguments_in c.args.bytes.now s) step.0 next) c.answer.new.self in
     let same : c.as_slice.result.now ≡ spans = search rules in
-    took_request g.S.Service.does c.args.limits c.args.connection c.args.service.now c.answer.new.self c.args.bytes.now spans c.in-Request.consumed next step.0 c.args.out.now.items c.answer.new.out.items (subst P c.in-Request.is c.in_ok-consumed.ensures.parses) some (subst A same step.1) step.2
-
-pub returns-in_ok-push_failure-in-Malformed : goal.returns-in_ok-push_failure-in-Malformed
-returns-in_ok-push_failure-in-Malformed g c =
-    let spans = c.parse.new.spans.items in
-    let P : Parsed → Type 0 = λ p. Parses c.args.limits c.args.bytes.now spans p in
-    let bad : Spoilt command (IsAdmitted c.args.limits) c.args.bytes.now c.in-Malformed.at × IsCause c.args.limits c.args.bytes.now c.in-Malformed.at c.in-Malformed.fault = subst P c.in-Malformed.is c.in_ok-consumed.ensures.parses in
-    let R : List ℕ → Type 0 = λ l. c.push_failure.new.out.items ≡ c.args.out.now.items ++ token (Failure l) in
-    (refl, c.in-Malformed.at, c.in-Malformed.fault, bad.0, bad.1, subst R c.fault_text.ensures c.in_ok-push_failure-in-Malformed.ensures.items)
+    took_request g.S.Service.does c.args.limits c.args.connection c.args.service.now c.answer.new.self c.args.bytes.now spans c.in-Request.consumed next step.0 c.args.out.now.items c.answer.new.out.items (subst P c.in-Request.is c.in-Ok.ensures.parses) some (subst A same step.1) step.2

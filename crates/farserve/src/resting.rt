@@ -1,0 +1,142 @@
+//! A store that is left alone for a while after it has failed.
+//!
+//! A call of a store that is away can take as long as a store may be silent, and others wait behind it. One that refuses writes is
+//! asked again and again by whoever needs room. So after such a failure no call of this kind is made for a while: each fails at once.
+ghost use Rattle.std.specs.Prelude.{false};
+
+use crate::rest::Rest;
+use crate::stores::StoreDevice;
+use far_device::{Device, DeviceFault};
+use far_server::FarUsage;
+use resp_device::Failure;
+use std::rt::Clock;
+
+/// A device over a store, which makes no call while it rests, and tells whether it does. Reads rest on their own: a store may go on
+/// answering them where it refuses writes and removes, as one does that copies another. They don't rest behind an error reply: it is
+/// soon there, and where it comes from a proxy other objects may lie in stores that are well.
+#[derive(Drop)]
+pub struct RestingStore<'a, C> {
+    inner: StoreDevice<'a>,
+    clock: C,
+    reads: Rest,
+    writes: Rest,
+    /// Calls that failed since they were not made.
+    rested: u64,
+    usage: &'a FarUsage,
+}
+
+/// Whether a call that failed so may have taken long: it is not an object's failure, nor want of memory here.
+fn is_away(failure: Option<Failure>) -> bool {
+    !matches!(
+        failure,
+        None | Some(Failure::Lost)
+            | Some(Failure::Damaged)
+            | Some(Failure::TooLong)
+            | Some(Failure::Memory)
+            | Some(Failure::Refused)
+    )
+}
+
+impl<'a, C: Clock> RestingStore<'a, C> {
+    /// One that does not rest.
+    pub fn new(inner: StoreDevice<'a>, clock: C, usage: &'a FarUsage) -> Self {
+        RestingStore {
+            inner,
+            clock,
+            reads: Rest::none(),
+            writes: Rest::none(),
+            rested: 0,
+            usage,
+        }
+    }
+
+    /// Milliseconds of a clock that never goes back; 0 where it can't be read.
+    fn now(&self) -> u64 {
+        match self.clock.monotonic() {
+            Ok(since) => since.as_millis().min(u128::from(u64::MAX)) as u64,
+            Err(_) => 0,
+        }
+    }
+
+    /// How reads rest behind one that was made, and had this fault. Want of memory here tells nothing of the store.
+    fn after_read(&self, fault: Option<DeviceFault>) -> Rest {
+        match fault {
+            None => Rest::none(),
+            Some(DeviceFault::Failed) => {
+                let failure = self.inner.last_failure();
+                self.reads.after(is_away(failure), self.now())
+            }
+            Some(DeviceFault::Memory) => self.reads,
+        }
+    }
+
+    /// The same of writes and removes, which an error reply refuses.
+    fn after_write(&self, fault: Option<DeviceFault>) -> Rest {
+        match fault {
+            None => Rest::none(),
+            Some(DeviceFault::Failed) => {
+                let failure = self.inner.last_failure();
+                let is_refused = failure == Some(Failure::Refused);
+                self.writes
+                    .after(is_refused || is_away(failure), self.now())
+            }
+            Some(DeviceFault::Memory) => self.writes,
+        }
+    }
+
+    fn is_resting(&self) -> bool {
+        self.reads.is_on() || self.writes.is_on()
+    }
+}
+
+impl<C: Clock + Drop> Device for RestingStore<'_, C> {
+    ghost use Rattle.farserve.specs.Resting.{resting_state};
+
+    ghost state = { λ device. resting_state device.inner.inner device.rested };
+
+    ghost HONEST = { false };
+
+    fn construct(&mut self) -> Result<(), DeviceFault> {
+        self.inner.construct()
+    }
+
+    fn write(&mut self, id: u64, bytes: &[u8]) -> Result<(), DeviceFault> {
+        if self.writes.forbids(self.now()) {
+            self.rested = self.rested.saturating_add(1);
+            return Err(DeviceFault::Failed);
+        }
+        let was = self.is_resting();
+        let result = self.inner.write(id, bytes);
+        self.writes = self.after_write(result.err());
+        self.usage.tell_resting(was, self.is_resting());
+        result
+    }
+
+    fn read(&mut self, id: u64, out: &mut Vec<u8>) -> Result<bool, DeviceFault> {
+        if self.reads.forbids(self.now()) {
+            self.rested = self.rested.saturating_add(1);
+            return Err(DeviceFault::Failed);
+        }
+        let was = self.is_resting();
+        let result = self.inner.read(id, out);
+        self.reads = self.after_read(result.err());
+        self.usage.tell_resting(was, self.is_resting());
+        result
+    }
+
+    fn remove(&mut self, id: u64) -> Result<bool, DeviceFault> {
+        if self.writes.forbids(self.now()) {
+            self.rested = self.rested.saturating_add(1);
+            return Err(DeviceFault::Failed);
+        }
+        let was = self.is_resting();
+        let result = self.inner.remove(id);
+        self.writes = self.after_write(result.err());
+        self.usage.tell_resting(was, self.is_resting());
+        result
+    }
+
+    fn failures(&self) -> u64 {
+        self.inner.failures().saturating_add(self.rested)
+    }
+}
