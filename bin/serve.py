@@ -17,9 +17,12 @@ from unproved import Unbuilt
 # Lanes if no --threads says otherwise, and as many links to a far store as there may be.
 THREADS = 4
 LINKS = 8
-# What one thread frees all threads use again. With an arena for each thread malloc keeps as much once more for each. Large blocks go
-# back to the system as soon as they are freed: else the first of them that is freed has malloc keep all later ones of its size.
-MALLOC = {"MALLOC_ARENA_MAX": "1", "MALLOC_MMAP_THRESHOLD_": "131072", "MALLOC_TRIM_THRESHOLD_": "131072"}
+# What one thread frees all threads use again. With an arena for each thread malloc keeps as much once more for each.
+ONE_ARENA = {"MALLOC_ARENA_MAX": "1"}
+# Where there is less memory than this large blocks go back to the system as soon as they are freed. That takes time: values of half a
+# megabyte are set at a quarter of the speed. With more memory, what malloc keeps of them is little beside it.
+SMALL = 128 << 20
+AT_ONCE = {"MALLOC_MMAP_THRESHOLD_": "131072", "MALLOC_TRIM_THRESHOLD_": "131072"}
 
 
 class Failed(Exception):
@@ -41,6 +44,21 @@ def threads_in(words):
             value = word.partition("=")[2] or (words[at + 1] if at + 1 < len(words) else "")
             return min(int(value), 64) if re.fullmatch(r"\+?[0-9]+", value) else 0
     return THREADS
+
+
+def memory_in(words):
+    """How many bytes of memory the words ask for. What is no such size the server refuses."""
+    for at, word in enumerate(words):
+        if word == "--memory" or word.startswith("--memory="):
+            value = word.partition("=")[2] or (words[at + 1] if at + 1 < len(words) else "")
+            size = re.fullmatch(r"([0-9]+)([kmg]?)", value.lower())
+            return int(size[1]) << {"": 0, "k": 10, "m": 20, "g": 30}[size[2]] if size else 0
+    return 0
+
+
+def malloc_for(words):
+    """What malloc is told by the server's environment."""
+    return {**ONE_ARENA, **(AT_ONCE if memory_in(words) < SMALL else {})}
 
 
 class Server:
@@ -86,7 +104,7 @@ class Server:
     def serve(self, program, front, words):
         self.make_pipes(words)
         # A signal to the whole group, as a terminal sends it, is not to end it before the front.
-        server = self.start("server", [program, *words, "--pipes", self.folder], SIGNALS, MALLOC)
+        server = self.start("server", [program, *words, "--pipes", self.folder], SIGNALS, malloc_for(words))
         told = self.told(server, b"\0\0")
         if not told.endswith(b"\0\0"):
             # It is the help, or the fault stands on standard error.

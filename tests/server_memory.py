@@ -197,6 +197,11 @@ def memory_is_what_was_given_of_32_mebibytes(tried, _):
     return stays_within(tried, 32, LARGE)
 
 
+def memory_is_what_was_given_of_128_mebibytes(tried, _):
+    """The least for which malloc may keep large blocks (bin/serve.py)."""
+    return stays_within(tried, 128, LARGE)
+
+
 def memory_is_what_was_given_of_256_mebibytes(tried, _):
     return stays_within(tried, 256, LARGE, "--threads", "16")
 
@@ -210,6 +215,6 @@ def memory_is_what_was_given_of_the_longest_values(tried, _):
     return stays_within(tried, 64, 2_000_000, "--value-limit", "2m")
 
 
-TRIALS = [memory_is_what_was_given_of_64_mebibytes, memory_is_what_was_given_of_32_mebibytes,
+TRIALS = [memory_is_what_was_given_of_64_mebibytes, memory_is_what_was_given_of_32_mebibytes, memory_is_what_was_given_of_128_mebibytes,
           memory_is_what_was_given_of_256_mebibytes, memory_is_what_was_given_where_values_are_long,
           memory_is_what_was_given_of_the_longest_values]
