@@ -8,7 +8,7 @@ use std::time::Instant;
 
 /// Bytes that a client takes while nothing waits for it, rounded up. With 2,000 to 9,000 idle clients the gateway grew by 320 to 590
 /// for each, by how full the maps of clients are.
-const BASE: usize = 640;
+pub const BASE: usize = 640;
 
 /// Whether a client's input waits for its turn.
 #[derive(Clone, Copy, PartialEq)]

@@ -18,6 +18,7 @@ mod turns;
 mod words;
 
 use figures::Figure;
+use client::BASE;
 use frame::PLACE;
 use lane::Lane;
 use link::Link;
@@ -120,14 +121,14 @@ fn far_store(options: &Options) -> Result<Option<Store>, String> {
     of(format_args!("far store {}", address.to_string_lossy()), store).map(Some)
 }
 
-/// How many connections there may be, since each is a file.
+/// How many connections there may be, since each is a file, and takes memory. Who comes beyond that is told so.
 fn room_for(options: &Options) -> Result<usize, String> {
     let files = of("files", system::raise_files())?;
     let room = files.saturating_sub(FILES + 2 * options.lanes.len() + LINK_FILES * options.far_links.len());
     if room < options.connections {
         eprintln!("front: {room} connections at most, since {files} files may be open");
     }
-    Ok(room.min(options.connections))
+    Ok(room.min(options.connections).min(options.clients_memory / 2 / BASE))
 }
 
 struct Front {

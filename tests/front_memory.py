@@ -191,19 +191,19 @@ def idle_clients_are_kept(work, clients):
         assert grown <= 700, f"{grown} bytes a client"
 
 
-def who_comes_beyond_it_is_closed_itself(work, _):
+def who_comes_beyond_it_is_told_so(work, _):
     with Front(work, "--clients-memory", str(256 * 1024), lanes=2) as front:
-        kept = [front.client() for _ in range(100)]
-        for client in kept:
-            pong(client)
-        for _ in range(200):
-            client = front.client()
-            with contextlib.suppress(OSError):
-                client.sendall(b"PING\n")
         # It has room for 204.
-        until(lambda: closes(front) >= 90, "closes of the newest")
+        kept = [front.client() for _ in range(204)]
         for client in kept:
             pong(client)
+        for _ in range(100):
+            client = front.client()
+            told = received(client, 100)
+            assert told == b"-ERR max number of clients reached\r\n", told
+        for client in kept:
+            pong(client)
+        assert closes(front) == 0
 
 
 def what_is_held_of_strangers_counts(work, _):
@@ -290,6 +290,6 @@ def sums_are_right_whatever_comes(work, clients):
 
 TRIALS = [
     who_takes_the_most_is_closed, who_asks_is_not_closed_for_another, many_that_do_not_read_leave_others_be,
-    what_lanes_hold_is_bounded, a_closed_client_counts_no_more, idle_clients_are_kept, who_comes_beyond_it_is_closed_itself,
+    what_lanes_hold_is_bounded, a_closed_client_counts_no_more, idle_clients_are_kept, who_comes_beyond_it_is_told_so,
     what_is_held_of_strangers_counts, figures_are_told_now_and_then, sums_are_right_whatever_comes,
 ]
