@@ -111,6 +111,7 @@ class Server:
             write(told.decode())
             raise Failed(server.status(), "")
         count, *words = told[:-2].decode().split("\0")
+        words += ["--server-pid", str(server.process.pid)]
         for lane in range(int(count)):
             words += ["--lane", f"{self.folder}/requests{lane}", f"{self.folder}/replies{lane}"]
         write(self.told(self.start("front", [front, *words]), b"\n").decode())

@@ -10,6 +10,7 @@ mod lane;
 mod link;
 mod listener;
 mod memory;
+mod resident;
 mod shared;
 mod store;
 mod stranger;
@@ -23,6 +24,7 @@ use frame::PLACE;
 use lane::Lane;
 use link::Link;
 use listener::{listen_at, Listener};
+use resident::Resident;
 use shared::Shared;
 use std::fmt::Display;
 use std::fs::{self, File};
@@ -39,7 +41,7 @@ use words::{Options, USAGE};
 const REFUSAL: &[u8] = b"-ERR max number of clients reached\r\n";
 /// How long replies that are owed are waited for at the end.
 const END: Duration = Duration::from_secs(1);
-/// How often it is looked for who was silent too long.
+/// How often it is looked for who was silent too long, and what is resident.
 const SWEEP: Duration = Duration::from_secs(1);
 /// How often a pipe is looked at of which no event tells.
 const LOOK: Duration = Duration::from_millis(1);
@@ -94,6 +96,7 @@ fn serve(options: &Options) -> Result<(), String> {
         connections: room_for(options)?,
         next: 0,
         refused: 0,
+        resident: 0,
         figures: Figure::all(Instant::now()),
     };
     let mut ready = "ready".to_string();
@@ -144,7 +147,9 @@ struct Front {
     next: usize,
     /// How many clients were refused since the start.
     refused: u64,
-    figures: [Figure; 3],
+    /// Bytes of both programs.
+    resident: u64,
+    figures: [Figure; 4],
 }
 
 impl Front {
@@ -162,11 +167,12 @@ impl Front {
         }
         // Who doesn't hear it may be served all the same.
         let _ = writeln!(io::stdout(), "{ready}").and_then(|()| io::stdout().flush());
-        let idle = seconds(options.timeout);
+        let (idle, resident) = (seconds(options.timeout), Resident::new(options.server_pid));
         let mut swept = Instant::now();
         while !self.turn(self.patience())? {
             if self.shared.now - swept >= SWEEP {
                 swept = self.shared.now;
+                self.resident = resident.bytes();
                 self.lanes.iter_mut().for_each(|it| it.close_late(idle, &mut self.shared));
                 debug_assert!(self.shared.memory.is_sum_of(self.lanes.iter().flat_map(Lane::taken)));
             }
@@ -322,7 +328,7 @@ impl Front {
     /// Reports to the first lane those figures that have changed.
     fn tell_figures(&mut self) {
         let (memory, now) = (&self.shared.memory, self.shared.now);
-        let values = [self.refused, memory.closed, memory.sum()];
+        let values = [self.refused, memory.closed, memory.sum(), self.resident];
         for (figure, value) in self.figures.iter_mut().zip(values) {
             if figure.is_due(value, now) && self.lanes[0].tell(format_args!("{} {value}", figure.name)).is_ok() {
                 figure.tell(value, now);

@@ -1,7 +1,7 @@
 //! The calls of Linux that std lacks, declared by hand. All that is unsafe stands here.
 #![allow(unsafe_code)]
 
-use std::ffi::{c_int, c_uint, c_ulong, c_void};
+use std::ffi::{c_int, c_long, c_uint, c_ulong, c_void};
 use std::fs::File;
 use std::io;
 use std::os::fd::{AsRawFd, FromRawFd};
@@ -23,6 +23,7 @@ const SIG_BLOCK: c_int = 0;
 const IPPROTO_TCP: c_int = 6;
 const TCP_NODELAY: c_int = 1;
 const RLIMIT_NOFILE: c_int = 7;
+const SC_PAGESIZE: c_int = 30;
 const F_SETPIPE_SZ: c_int = 1031;
 /// What mallopt is told: from how many bytes on a block is a mapping of its own, and how many free bytes the heap may end with.
 const M_MMAP_THRESHOLD: c_int = -3;
@@ -53,6 +54,7 @@ extern "C" {
     fn setsockopt(socket: c_int, level: c_int, name: c_int, value: *const c_int, length: c_uint) -> c_int;
     fn signalfd(file: c_int, signals: *const [u64; 16], flags: c_int) -> c_int;
     fn sigprocmask(how: c_int, signals: *const [u64; 16], old: *mut [u64; 16]) -> c_int;
+    fn sysconf(name: c_int) -> c_long;
     fn umask(mask: c_uint) -> c_uint;
 }
 
@@ -138,6 +140,11 @@ pub fn free_at_once() {
         mallopt(M_MMAP_THRESHOLD, LARGE);
         mallopt(M_TRIM_THRESHOLD, LARGE);
     }
+}
+
+/// Bytes of a page of memory.
+pub fn page() -> u64 {
+    unsafe { sysconf(SC_PAGESIZE) as u64 }
 }
 
 /// Has the process open as many files as it may, and says how many.

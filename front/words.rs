@@ -8,7 +8,7 @@ use std::path::PathBuf;
 use std::str::FromStr;
 
 pub const USAGE: &str = "usage: front [--port N] [--bind ADDRESS] [--guarded] [--unix PATH] [--timeout SECONDS] \
-    [--auth-timeout SECONDS] [--connections N] [--output-limit BYTES] [--clients-memory BYTES] [--far-resp HOST:PORT|PATH --far-link REQUESTS REPLIES... \
+    [--auth-timeout SECONDS] [--connections N] [--output-limit BYTES] [--clients-memory BYTES] [--server-pid N] [--far-resp HOST:PORT|PATH --far-link REQUESTS REPLIES... \
     [--far-password-file FILE] [--far-timeout SECONDS]] --lane REQUESTS REPLIES [--lane REQUESTS REPLIES]...";
 const FAR_TIMEOUTS: RangeInclusive<u32> = 1..=3600;
 /// The most lanes, and the most links: each has a byte's value as its place in a token.
@@ -29,6 +29,8 @@ pub struct Options {
     pub output_limit: usize,
     /// Bytes that clients may take together, half of them here and half in the lanes.
     pub clients_memory: usize,
+    /// The server's process, whose memory is reported with that of this one.
+    pub server_pid: Option<u32>,
     /// The pipes of each lane: its requests, its replies.
     pub lanes: Vec<(PathBuf, PathBuf)>,
     /// Where the far store is, to which links lead.
@@ -53,6 +55,7 @@ impl Options {
             connections: 10_000,
             output_limit: 1 << 26,
             clients_memory: 1 << 26,
+            server_pid: None,
             lanes: Vec::new(),
             far_resp: None,
             far_password_file: None,
@@ -72,6 +75,7 @@ impl Options {
                 "--connections" => it.connections = read(&name, value()?)?,
                 "--output-limit" => it.output_limit = read(&name, value()?)?,
                 "--clients-memory" => it.clients_memory = read(&name, value()?)?,
+                "--server-pid" => it.server_pid = Some(read(&name, value()?)?),
                 "--lane" => it.lanes.push((value()?.into(), value()?.into())),
                 "--far-resp" => it.far_resp = Some(address(&name, value()?)?),
                 "--far-password-file" => it.far_password_file = Some(value()?.into()),

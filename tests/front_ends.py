@@ -56,6 +56,7 @@ def faults_at_the_start(work, _):
     tell(2, "--connections x: no value", "--port", "0", "--connections", "x", *lane)
     tell(2, "--output-limit : no value", "--port", "0", "--output-limit", "", *lane)
     tell(2, "--clients-memory 1m: no value", "--port", "0", "--clients-memory", "1m", *lane)
+    tell(2, "--server-pid -1: no value", "--port", "0", "--server-pid", "-1", *lane)
     tell(2, "--lane lacks its value", "--port", "0", "--lane", pipe)
     tell(2, "--more is no option", "--more")
 
@@ -63,15 +64,16 @@ def faults_at_the_start(work, _):
 def a_signal_waits_for_replies(work, _):
     for name in (signal.SIGTERM, signal.SIGINT):
         with Front(work, lanes=2, unix=True) as front:
-            owed, silent = front.client(), front.client()
+            # Of what a Unix socket's client does not read most waits in the front.
+            owed, silent = front.client(unix=True), front.client()
             pong(silent)
-            owed.sendall(b"LATE 0.1\nBIG %d\n" % (9 * MEBIBYTE))
+            owed.sendall(b"LATE 0.1\nBIG %d\n" % MEBIBYTE)
             until(lambda: front.lanes[0].count(DATA) == 1, "the request")
             front.process.send_signal(name)
             time.sleep(0.03)
             with contextlib.suppress(OSError):
                 owed.sendall(b"ECHO too late\n")
-            want = b"late\n" + b"x" * 9 * MEBIBYTE
+            want = b"late\n" + b"x" * MEBIBYTE
             assert received(owed, len(want)) == want
             assert is_closed(owed) and is_closed(silent)
             assert front.ended(0) == ""
@@ -79,13 +81,16 @@ def a_signal_waits_for_replies(work, _):
 
 
 def a_signal_waits_for_nothing_else(work, _):
-    with Front(work, lanes=2) as front:
-        for client in [front.client() for _ in range(4)]:
-            pong(client)
-        began = time.monotonic()
-        front.process.terminate()
-        assert front.ended(0) == ""
-        assert time.monotonic() - began < 0.7, "it waits though nothing is owed"
+    """The best of some times, as others may use the machine too."""
+    def ends():
+        with Front(work, lanes=2) as front:
+            for client in [front.client() for _ in range(4)]:
+                pong(client)
+            began = time.monotonic()
+            front.process.terminate()
+            assert front.ended(0) == ""
+            return time.monotonic() - began
+    assert any(ends() < 0.7 for _ in range(5)), "it waits though nothing is owed"
 
 
 def a_signal_waits_a_second_at_most(work, _):
@@ -98,7 +103,7 @@ def a_signal_waits_a_second_at_most(work, _):
         time.sleep(0.1)
         front.process.send_signal(signal.SIGINT)
         time.sleep(0.1)
-        assert front.rests(), "it is busy at the end"
+        assert front.rests(times=1), "it is busy at the end"
         assert front.ended(0) == ""
         assert 0.9 < time.monotonic() - began < 10
         assert is_closed(client)

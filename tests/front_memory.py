@@ -1,5 +1,6 @@
 """Trials of front.py: the memory that clients may take together."""
 import contextlib
+import os
 import random
 import socket
 import struct
@@ -7,7 +8,7 @@ import threading
 import time
 
 from front_guarded import AUTH, NOAUTH, OK, guarded, request
-from front_parts import CLOSE, DATA, HOLDS, MEBIBYTE, PATIENCE, Front, asked, frame, is_closed, pong, received, until
+from front_parts import CLOSE, DATA, HOLDS, MEBIBYTE, PATIENCE, Front, asked, frame, is_closed, pong, received, resident, until
 
 BUDGET = ["--clients-memory", str(16 * MEBIBYTE)]
 HALF = 8 * MEBIBYTE
@@ -32,16 +33,18 @@ def pinging(front):
     thread = threading.Thread(target=ping, daemon=True)
     thread.start()
     yield
+    until(lambda: faults or count[0] > 10, "replies to who asks little")
     stop.set()
     thread.join(PATIENCE)
     assert not faults and not thread.is_alive(), f"who asks little has a fault: {faults}"
-    assert count[0] > 10, count
 
 
 def lazy_client(front):
-    """A client whose socket takes little of what it does not read."""
+    """A client for which the system keeps little of what it does not read: by default that is 3 MiB, and a sender's room grows
+    with the longest segment."""
     client = socket.socket()
     client.setsockopt(socket.SOL_SOCKET, socket.SO_RCVBUF, 4096)
+    client.setsockopt(socket.IPPROTO_TCP, socket.TCP_MAXSEG, 1000)
     client.settimeout(PATIENCE)
     client.connect(("127.0.0.1", int(front.address.rpartition(":")[2])))
     front.clients.append(client)
@@ -52,24 +55,31 @@ def closes(front):
     return sum(it.count(CLOSE) for it in front.lanes)
 
 
+def all_is_answered(front):
+    """Waits until what was sent has been answered, and who was closed for that is known to the lanes."""
+    for _ in range(2):
+        for client in [front.client() for _ in front.lanes]:
+            pong(client)
+
+
 def who_takes_the_most_is_closed(work, _):
     with Front(work, *BUDGET, lanes=2) as front, pinging(front):
         light = [lazy_client(front) for _ in range(4)]
         for client in light:
-            client.sendall(b"BIG %d\n" % (3 * MEBIBYTE))
+            client.sendall(b"BIG 50000\n")
         heavy = [lazy_client(front) for _ in range(40)]
         for turn in range(6):
             for client in heavy:
                 with contextlib.suppress(OSError):
-                    client.sendall(b"BIG %d\n" % MEBIBYTE)
+                    client.sendall(b"BIG 150000\n")
         until(lambda: closes(front) >= 1, "a close")
-        # No more comes once all is answered.
-        time.sleep(0.5)
-        closed = closes(front)
+        all_is_answered(front)
         assert front.most_memory() < HALF + BESIDE, front.most_memory()
-        until(lambda: front.figure(b"clients_closed") == closed, f"how many were closed: {closed}")
-        told = front.figure(b"clients_memory")
-        assert HALF // 2 < told <= HALF + MEBIBYTE, told
+        until(lambda: front.figure(b"clients_closed") == closes(front), "how many were closed")
+        until(lambda: HALF // 2 < front.figure(b"clients_memory") <= HALF + MEBIBYTE, "that the rest is within the bound")
+        # Each has taken more of its share than they have.
+        for client in light:
+            assert received(client, 50_000) == b"x" * 50_000
         pong(front.client())
 
 
@@ -79,17 +89,18 @@ def who_asks_is_not_closed_for_another(work, _):
         lane, clients = front.lanes[0], [lazy_client(front) for _ in range(12)]
         for client in clients:
             pong(client)
-        lane.send(frame(DATA, 0, b"x" * 9 * MEBIBYTE))
+        lane.send(frame(DATA, 0, b"x" * 6 * MEBIBYTE))
         asked_of = []
         for number in range(1, 12):
             if lane.count(CLOSE):
                 break
             asked_of.append(number)
-            lane.send(frame(DATA, number, b"%d" % (number % 10) * 5 * MEBIBYTE))
+            lane.send(frame(DATA, number, b"%d" % (number % 10) * MEBIBYTE))
             pong(clients[11])
         assert [number for kind, number, _ in lane.frames if kind == CLOSE] == [0], "another was closed"
+        assert len(asked_of) >= 2, "it was closed too early"
         for number in asked_of:
-            assert received(clients[number], 5 * MEBIBYTE) == b"%d" % (number % 10) * 5 * MEBIBYTE
+            assert received(clients[number], MEBIBYTE) == b"%d" % (number % 10) * MEBIBYTE
         # So in the half of the lanes.
         lane.send(frame(HOLDS, 1, (5_000_000).to_bytes(8, "big")))
         for number in range(2, 7):
@@ -106,7 +117,7 @@ def many_that_do_not_read_leave_others_be(work, clients):
         for _ in range(min(clients, 400)):
             client = lazy_client(front)
             with contextlib.suppress(OSError):
-                client.sendall(b"BIG %d\n" % MEBIBYTE * 8)
+                client.sendall(b"BIG 50000\n" * 8)
         until(lambda: closes(front) >= 1, "a close")
         for client in small:
             pong(client)
@@ -216,7 +227,7 @@ def what_is_held_of_strangers_counts(work, _):
                 client.sendall(request(b"PING") + long)
         until(lambda: closes(front) >= 1, "a close")
         until(lambda: front.figure(b"clients_closed") == closes(front), "how many were closed")
-        assert HALF // 8 < front.figure(b"clients_memory") <= HALF // 4, front.figure(b"clients_memory")
+        until(lambda: HALF // 8 < front.figure(b"clients_memory") <= HALF // 4, "that the rest is within the bound")
         assert front.most_memory() < HALF // 4 + BESIDE, front.most_memory()
         lane.answers = True
         for client in front.clients:
@@ -233,7 +244,7 @@ def what_is_held_of_strangers_counts(work, _):
 
 def figures_are_told_now_and_then(work, _):
     with Front(work, lanes=2) as front:
-        client = lazy_client(front)
+        client = front.client()
         for _ in range(200):
             client.sendall(b"BIG 100000\n")
             time.sleep(0.01)
@@ -241,10 +252,31 @@ def figures_are_told_now_and_then(work, _):
         assert received(client, 200 * 100_000) == b"x" * 200 * 100_000
         until(lambda: front.figure(b"clients_memory") < 4096, "that nothing waits")
         times = [at for at, _ in front.lanes[0].figures[b"clients_memory"]]
-        assert all(later - at > 0.95 for at, later in zip(times, times[1:])), times
+        assert len(times) <= 2 + times[-1] - times[0], times
         assert not any(front.lanes[1].figures.values()), "the other lane is told too"
         time.sleep(1.2)
         assert len(front.lanes[0].figures[b"clients_memory"]) == len(times), "it is told though nothing changed"
+
+
+def resident_bytes_are_told(work, _):
+    """Those of the front, and with them those of the server where its process is known."""
+    room = bytearray()
+    with Front(work, lanes=2) as alone, Front(work, "--server-pid", str(os.getpid())) as front:
+        def is_told(of, more):
+            return abs(of.figure(b"resident_bytes") - of.memory() - more) <= MEBIBYTE
+        until(lambda: is_told(alone, 0), "the bytes of the front alone")
+        until(lambda: is_told(front, resident(os.getpid())), "the bytes of both")
+        room.extend(b"x" * 64 * MEBIBYTE)
+        until(lambda: front.figure(b"resident_bytes") > 64 * MEBIBYTE and is_told(front, resident(os.getpid())), "what came in")
+        times = [at for at, _ in front.lanes[0].figures[b"resident_bytes"]]
+        assert len(times) <= 2 + times[-1] - times[0], times
+        count = len(alone.lanes[0].figures[b"resident_bytes"])
+        time.sleep(2.5)
+        assert len(alone.lanes[0].figures[b"resident_bytes"]) == count, "it is told though nothing changed"
+        assert not any(alone.lanes[1].figures.values()), "the other lane is told too"
+    # A process that is not there counts for nothing.
+    with Front(work, "--server-pid", str((1 << 22) + 1)) as front:
+        until(lambda: abs(front.figure(b"resident_bytes") - front.memory()) <= MEBIBYTE, "the bytes of the front alone")
 
 
 def sums_are_right_whatever_comes(work, clients):
@@ -291,5 +323,5 @@ def sums_are_right_whatever_comes(work, clients):
 TRIALS = [
     who_takes_the_most_is_closed, who_asks_is_not_closed_for_another, many_that_do_not_read_leave_others_be,
     what_lanes_hold_is_bounded, a_closed_client_counts_no_more, idle_clients_are_kept, who_comes_beyond_it_is_told_so,
-    what_is_held_of_strangers_counts, figures_are_told_now_and_then, sums_are_right_whatever_comes,
+    what_is_held_of_strangers_counts, figures_are_told_now_and_then, resident_bytes_are_told, sums_are_right_whatever_comes,
 ]

@@ -13,9 +13,9 @@ DATA, OPEN, CLOSE, WAKE, LET_IN, LET_OUT, NOTE, HOLDS = range(8)
 HEAD = struct.Struct(">BQI")
 MEBIBYTE = 1 << 20
 # Figures that the first lane is told whenever they change.
-FIGURES = (b"clients_memory ", b"clients_closed ")
-# How long anything may take that has to come.
-PATIENCE = 20
+FIGURES = (b"clients_memory ", b"clients_closed ", b"resident_bytes ")
+# How long anything may take that has to come, also on a machine that has much else to do.
+PATIENCE = 60
 
 
 def frame(kind, connection=0, data=b""):
@@ -29,6 +29,11 @@ def until(is_so, what):
     while not is_so():
         assert time.monotonic() < end, f"it did not come: {what}"
         time.sleep(0.005)
+
+
+def resident(pid):
+    """Bytes of a process that are resident."""
+    return int(Path(f"/proc/{pid}/statm").read_text().split()[1]) * os.sysconf("SC_PAGE_SIZE")
 
 
 class Lane(threading.Thread):
@@ -216,7 +221,7 @@ class Front:
 
     def memory(self):
         """Bytes that are resident."""
-        return int(Path(f"/proc/{self.process.pid}/statm").read_text().split()[1]) * os.sysconf("SC_PAGE_SIZE")
+        return resident(self.process.pid)
 
     def most_memory(self):
         """The most bytes that ever were resident."""
@@ -227,13 +232,16 @@ class Front:
         """The last value that the first lane was told."""
         return next((value for _, value in reversed(self.lanes[0].figures[name])), 0)
 
-    def rests(self):
-        """Says whether it takes next to no processor time in a while."""
+    def rests(self, times=8):
+        """Says whether it takes next to no processor time in a while, once it has done what it still had to do."""
         def ticks():
             return sum(map(int, Path(f"/proc/{self.process.pid}/stat").read_text().rpartition(")")[2].split()[11:13]))
-        before = ticks()
-        time.sleep(0.5)
-        return ticks() - before <= 5
+
+        def is_idle():
+            before = ticks()
+            time.sleep(0.5)
+            return ticks() - before <= 5
+        return any(is_idle() for _ in range(times))
 
 
 def received(client, count):

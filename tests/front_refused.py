@@ -1,6 +1,5 @@
 """Trials of front.py: the system refuses the front memory."""
 import contextlib
-import os
 import random
 import resource
 import select
@@ -65,8 +64,10 @@ def exhaust(front):
     """Has more clients come, of which the lane is not told, until one is refused: no memory is left."""
     front.lanes[0].reads.clear()
     bound(front, 0)
-    while not select.select([front.client()], [], [], 0.002)[0]:
-        assert len(front.clients) < 15_000, "none was refused"
+    with select.epoll() as told:
+        while not told.poll(0.002):
+            assert len(front.clients) < 15_000, "none was refused"
+            told.register(front.client(), select.EPOLLIN)
 
 
 def refused_memory_ends_clients_alone(work, _):
@@ -164,13 +165,6 @@ def closes_are_owed_until_there_is_memory(work, _):
         are_served_again(front)
 
 
-def offer(device, data):
-    """Sends what the link takes."""
-    data = memoryview(data)
-    while data and select.select([], [device.output], [], 0.3)[1]:
-        data = data[os.write(device.output, data):]
-
-
 def refused_memory_closes_a_link(work, _):
     """The store takes nothing, or the device."""
     large = frame(DATA, 1, b"x" * MEBIBYTE) * 24
@@ -179,7 +173,8 @@ def refused_memory_closes_a_link(work, _):
             device, link = front.device, opened(front.device, store, 1, 0)
             exchange(device, link, 1)
             exhaust(front)
-            offer(device, large)
+            # It is closed, and what comes then is passed over.
+            device.sendall(large)
             lives(front)
             assert device.take(1) == (CLOSE, b"")
             # The next connections are made while there is no memory.
@@ -192,7 +187,6 @@ def refused_memory_closes_a_link(work, _):
             device.ask(1, b"much")
             assert received(link, 4) == b"much"
             exhaust(front)
-            link.settimeout(0.5)
             with contextlib.suppress(OSError):
                 link.sendall(large)
             lives(front)

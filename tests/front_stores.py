@@ -7,7 +7,6 @@ import signal
 import socket
 import subprocess
 import threading
-import time
 from pathlib import Path
 
 from front_parts import CLOSE, DATA, HEAD, OPEN, PATIENCE, Front, frame, received, until
@@ -73,6 +72,29 @@ class Device:
             if len(parts) >= count:
                 return bytes(parts)
             self.sendall(frame(WAIT, number))
+
+    def joins(self, links, number):
+        """Opens a number, and gives that of these ends of the store to which it leads. The front gets a spare a moment later than
+        the store has greeted it, and until then it closes the number."""
+        link = None
+        while link is None:
+            self.open(number)
+            self.sendall(frame(DATA, number, b"?"))
+            link = self.reached(links, number)
+        assert received(link, 1) == b"?"
+        return link
+
+    def reached(self, links, number):
+        """The first of these at which something comes, None if the number is closed."""
+        while True:
+            ready = select.select([*links, self.input], [], [], PATIENCE)[0]
+            assert ready, "nothing comes of an open"
+            if ready[0] in links:
+                return ready[0]
+            kind, of, length = HEAD.unpack(self.received(HEAD.size))
+            self.received(length)
+            if (kind, of) == (CLOSE, number):
+                return None
 
     def is_quiet(self, seconds):
         return not select.select([self.input], [], [], seconds)[0]
@@ -204,11 +226,7 @@ def joined(front, store):
 
 def opened(device, store, number, at):
     """Opens a number, and gives the store's end, which is the connection at this place."""
-    link = store.link(at)
-    # The front gets the spare a moment later.
-    time.sleep(0.05)
-    device.open(number)
-    return link
+    return device.joins([store.link(at)], number)
 
 
 def exchange(device, link, number, request=b"a request", reply=b"a reply"):

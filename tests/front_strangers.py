@@ -173,14 +173,14 @@ def who_is_not_let_in_in_time_is_closed(work, _):
                 busy.sendall(b"PING\n")
             time.sleep(0.02)
             assert time.monotonic() - began < PATIENCE, "it was not closed"
-        assert 0.95 < time.monotonic() - began < 4, time.monotonic() - began
+        assert time.monotonic() - began >= 1, time.monotonic() - began
         assert is_closed(silent) and is_closed(ended) and is_closed(half)
         time.sleep(1.5)
         asked(friend, b"PING", b":0\r\n")
+        began = time.monotonic()
         asked(friend, b"RESET", b"+RESET\r\n")
         asked(friend, b"PING", NOAUTH)
-        began = time.monotonic()
-        assert is_closed(friend) and 0.9 < time.monotonic() - began < 4
+        assert is_closed(friend) and time.monotonic() - began >= 1
         until(lambda: not lane.halves, "all closes")
         # A lane that is late is not the client's fault.
         patient, late = front.client(), front.client()

@@ -17,9 +17,11 @@ import server_guards
 import server_keys
 import server_limits
 import server_memory
+import server_refused
 import server_renewal
 import server_room
 import server_slots
+import server_spread
 import server_stores
 import server_strangers
 from server_parts import Farserve, Redis
@@ -79,7 +81,8 @@ def main():
     resource.setrlimit(resource.RLIMIT_NOFILE, (files, files))
     # Threads here wait for each other often, and a switch is 5 ms else.
     sys.setswitchinterval(1e-4)
-    parts = PARTS + [server_ends, server_room, server_slots, server_limits, server_memory, server_renewal, server_stores] * (not is_redis)
+    parts = PARTS + [server_ends, server_room, server_slots, server_limits, server_memory, server_refused, server_renewal, server_spread,
+                     server_stores] * (not is_redis)
     trials = [it for part in parts for it in part.TRIALS if it.__name__ in names or not names]
     tried = Tried(work, is_redis)
     counts = dict(LONG if is_long else SHORT)

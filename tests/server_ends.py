@@ -86,7 +86,9 @@ def makes_room(server, memory):
         assert told == [OK] * 20, told
     peak = server.peak()
     assert peak < memory * SLACK, f"{peak / MEBIBYTE:.1f} MiB were resident"
-    found = {it: told for it, told in zip(names, client.ask_all([("GET", it) for it in names])) if told != NONE}
+    # In pieces whose replies are few enough to wait for a client that is slow.
+    told = [it for at in range(0, len(names), 100) for it in client.ask_all([("GET", it) for it in names[at:at + 100]])]
+    found = {it: reply for it, reply in zip(names, told) if reply != NONE}
     assert len(found) > 500 and all(told == bulk(values[it]) for it, told in found.items()), f"{len(found)} are found, or one is not what was set"
 
     def is_counted():
@@ -258,6 +260,12 @@ def info_tells_who_is_connected(tried, _):
             it.close()
         until(lambda: watcher.info()["connected_clients"] == "1", "the count of who is left")
         assert watcher.info()["total_connections_received"] == "17", watcher.info()
+        # What one of them takes is told, and that it is free again.
+        half = server.client()
+        half.send(request("SET", "k", b"x" * 500_000)[:-100_000])
+        until(lambda: int(watcher.info("memory")["clients_memory"]) > 400_000, "the memory of half a request")
+        half.close()
+        until(lambda: int(watcher.info("memory")["clients_memory"]) < 100_000, "that it is free")
 
 
 def info_tells_what_lies_on_disk(tried, _):

@@ -205,5 +205,20 @@ def a_stranger_asks_for_little(tried, _):
             until(lambda: client.info("clients")["connected_clients"] == "1", "the end of the others")
 
 
+def a_look_at_an_empty_map_is_short(tried, _):
+    """RANDOMKEY and FLUSHALL look at each of 4,194,304 empty buckets, and read none. They took 147 and 226 ms when they did."""
+    with tried.start("--buckets", 4_194_304, memory="1g", far=None) as server, server.client() as client:
+        shortest = {}
+        for _ in range(30):
+            for command, reply in (("RANDOMKEY", NONE), ("FLUSHALL", OK)):
+                began = time.monotonic()
+                assert client.ask(command) == reply
+                shortest[command] = min(shortest.get(command, 60), time.monotonic() - began)
+    # Others may have the processors, so the bound is twice what is promised.
+    assert max(shortest.values()) < 0.1, shortest
+    return ", ".join(f"{command} took {seconds * 1e3:.0f} ms" for command, seconds in shortest.items())
+
+
 TRIALS = [an_mget_has_a_bounded_reply, an_exec_has_a_bounded_reply, other_replies_are_bounded, a_page_of_scan_is_bounded,
-          each_key_is_drawn_as_often_as_it_should, an_expired_key_is_not_drawn, a_stranger_asks_for_little]
+          each_key_is_drawn_as_often_as_it_should, an_expired_key_is_not_drawn, a_stranger_asks_for_little,
+          a_look_at_an_empty_map_is_short]

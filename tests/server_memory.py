@@ -5,10 +5,13 @@ import random
 import threading
 import time
 
+from memory_groups import memory_group
 from server_parts import MEBIBYTE, OK, Client, request, until
 
 # How much of --memory both programs may have at their peaks.
 SLACK = 1.15
+# Bytes of the Python that starts the server.
+PYTHON = 16 * MEBIBYTE
 # A value that is large, which all of these servers take.
 LARGE = 1_000_000
 
@@ -163,11 +166,11 @@ LOADS = [small_values, large_values, long_arrays, long_pages, half_requests, man
          small_unread_replies, many_clients]
 
 
-def stays_within(tried, memory, size, *options):
+def stays_within(tried, memory, size, *options, **others):
     """All loads one after another, and then some at once, beside a client that is to notice nothing."""
     most = memory * MEBIBYTE * SLACK
     told = []
-    with tried.start(*options, memory=f"{memory}m", far=f"far{memory}") as server:
+    with tried.start(*options, memory=f"{memory}m", far=f"far{memory}", **others) as server:
         honest = Honest(server)
         assert server.client().ask("SET", "unread", b"u" * size) == OK
         for load in LOADS:
@@ -215,6 +218,17 @@ def memory_is_what_was_given_of_the_longest_values(tried, _):
     return stays_within(tried, 64, 2_000_000, "--value-limit", "2m")
 
 
+def nobody_is_killed_in_a_memory_group(tried, _):
+    """The system lets all processes of the server have so much together: --memory and a fifth, and what Python has."""
+    memory = 128
+    with memory_group(int(memory * MEBIBYTE * 1.2) + PYTHON) as group:
+        if group is None:
+            return "(skipped: no memory group can be made)"
+        told = stays_within(tried, memory, LARGE, prepare=group.join)
+        assert group.killed() == "0", group.killed()
+        return f"{told}; {group.peak() / MEBIBYTE:.1f} MiB of the group's, with files"
+
+
 TRIALS = [memory_is_what_was_given_of_64_mebibytes, memory_is_what_was_given_of_32_mebibytes, memory_is_what_was_given_of_128_mebibytes,
           memory_is_what_was_given_of_256_mebibytes, memory_is_what_was_given_where_values_are_long,
-          memory_is_what_was_given_of_the_longest_values]
+          memory_is_what_was_given_of_the_longest_values, nobody_is_killed_in_a_memory_group]

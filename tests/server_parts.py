@@ -9,8 +9,8 @@ import time
 from pathlib import Path
 
 ROOT = Path(__file__).resolve().parent.parent
-# How long anything may take that has to come, in seconds.
-PATIENCE = 20
+# How long anything may take that has to come, in seconds, also on a machine that has much else to do.
+PATIENCE = 60
 MEBIBYTE = 1 << 20
 PONG = b"+PONG\r\n"
 OK = b"+OK\r\n"
@@ -132,14 +132,15 @@ def children(pid):
 class Process:
     """A server in a process of its own, with clients of it."""
 
-    def __init__(self, words):
+    def __init__(self, words, prepare=None):
         pipes = {"stdin": subprocess.DEVNULL, "stdout": subprocess.PIPE, "stderr": subprocess.PIPE}
-        self.process = subprocess.Popen([str(it) for it in words], start_new_session=True, **pipes)
+        self.process = subprocess.Popen([str(it) for it in words], start_new_session=True, preexec_fn=prepare, **pipes)
         self.address = None
         self.clients = []
         # What it says is read all along, so that it never waits for it to be.
         self.said = []
-        threading.Thread(target=self.read_said, daemon=True).start()
+        self.reader = threading.Thread(target=self.read_said, daemon=True)
+        self.reader.start()
 
     def read_said(self):
         with contextlib.suppress(ValueError, OSError):
@@ -180,7 +181,7 @@ class Process:
     def ended(self, status):
         """Gives what it said, once it has ended with this status."""
         told = self.process.wait(PATIENCE)
-        time.sleep(0.05)
+        self.reader.join(PATIENCE)
         assert told == status, (told, self.text())
         return self.text()
 
@@ -188,14 +189,14 @@ class Process:
 class Farserve(Process):
     """bin/farserve, with these options behind --memory and a port."""
 
-    def __init__(self, work, *options, memory="64m", far="far"):
+    def __init__(self, work, *options, memory="64m", far="far", prepare=None):
         words = [ROOT / "bin/farserve", "--memory", memory, "--port", 0, *options]
         if far:
             # A name in the folder of the trials, or a path.
             far = Path(work) / far
             far.mkdir(exist_ok=True)
             words += ["--far", far]
-        super().__init__(words)
+        super().__init__(words, prepare)
 
     def __enter__(self):
         limit = threading.Timer(600, self.process.kill)

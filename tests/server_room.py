@@ -143,9 +143,27 @@ def nothing_is_refused_where_keys_may_go_from_a_full_disk(tried, counts):
         return f"{at} small ones, {told}"
 
 
+def what_is_read_stays(tried, _):
+    """1,000 keys are read again and again while 50,000 others are set once, five times as much as there is room for: these go."""
+    size, hot = 2_000, [f"hot{it}" for it in range(1_000)]
+    with tried.start("--policy", "allkeys", memory="64m", far=None) as server:
+        client = server.client()
+        assert client.ask_all([("SET", it, value_of(at, size)) for at, it in enumerate(hot)]) == [OK] * len(hot)
+        for first in range(0, 50_000, 500):
+            asked = [("SET", f"cold{it}", value_of(it, size)) for it in range(first, first + 500)]
+            assert client.ask_all(asked) == [OK] * 500
+            kept = client.number("EXISTS", *hot)
+        evicted, peak = int(client.info("stats")["evicted_keys"]), server.peak()
+        assert evicted > 25_000, f"{evicted} were evicted"
+        assert kept >= 950, f"{kept} of 1,000 were kept"
+        assert peak < 64 * MEBIBYTE * SLACK, f"{peak / MEBIBYTE:.1f} MiB were resident"
+    return f"{kept} of 1,000 were kept, {evicted} were evicted"
+
+
 TRIALS = [
     one_bucket_takes_each_change,
     only_memory_refuses_without_far,
     nothing_is_refused_where_keys_may_go,
     nothing_is_refused_where_keys_may_go_from_a_full_disk,
+    what_is_read_stays,
 ]

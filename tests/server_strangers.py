@@ -4,7 +4,7 @@ import socket
 import time
 from pathlib import Path
 
-from server_parts import MEBIBYTE, NONE, OK, Client, request, until
+from server_parts import MEBIBYTE, NONE, OK, PATIENCE, Client, request, until
 
 PASSWORD = "open sesame"
 NOAUTH = b"-NOAUTH Authentication required.\r\n"
@@ -103,15 +103,15 @@ def who_gives_no_password_in_time_is_closed(tried, _):
     if tried.is_redis:
         return
     with guarded(tried, "--auth-timeout", 1) as server:
-        silent, friend, busy = [server.client() for _ in range(3)]
         began = time.monotonic()
+        silent, friend, busy = [server.client() for _ in range(3)]
         assert friend.ask("AUTH", PASSWORD) == OK
         with contextlib.suppress(OSError, EOFError):
             while True:
                 assert busy.ask("PING") == NOAUTH
-                assert time.monotonic() - began < 10, "it was not closed"
+                assert time.monotonic() - began < PATIENCE, "it was not closed"
                 time.sleep(0.02)
-        assert 0.9 < time.monotonic() - began < 5, time.monotonic() - began
+        assert time.monotonic() - began >= 1, time.monotonic() - began
         assert silent.is_ended()
         time.sleep(1)
         assert friend.ask("GET", "k") == NONE

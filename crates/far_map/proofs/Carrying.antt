@@ -84,6 +84,10 @@ module _ {V : Type 0} where
   pub puts_none : (pass : View V) → PutsEach [] pass pass 0
   puts_none pass = record { put = []; others = []; split = IsPermutation-refl []; all = λ none. IsPermutation-refl []; number = refl; made = sym (append-nil (calls pass)) }
 
+  -- the pass went on, and made no call
+  pub puts_on : (pairs : Pairs V) (old mid new : View V) (refused : ℕ) → PutsEach pairs old mid refused → Goes mid new → PutsEach pairs old new refused
+  puts_on pairs old mid new refused h goes = record { put = h.put; others = h.others; split = h.split; all = h.all; number = goes.number ∙ h.number; made = goes.calls_stay ∙ h.made }
+
   -- one more was put
   put_one : (pairs : Pairs V) (old mid new : View V) (k : List ℕ) (v : V) (refused : ℕ) → PutsEach pairs old mid refused → new.number ≡ mid.number → calls new ≡ calls mid ++ op.Put k v ∷ [] → PutsEach (pairs ++ (k, v) ∷ []) old new refused
   put_one pairs old mid new k v refused h number made =

@@ -27,10 +27,11 @@ fn answer<V: Value, J: Naming, B: QueueNaming, D: Device, R: Wait>(
     ensures none_lost { LosesNone seated.old.caller.limbo seated.old.seat seated.new.caller.limbo seated.new.seat }
 {
     map.before_change(rt, seated);
+    let mut tries = MOST_TRIES;
     for _ in 0..MOST_TRIES {
         match call(rt, alloc, &map.table, &mut seated.caller, ask) {
             Ok(answer) => return Ok(answer),
-            Err(refusal) => match make_room(rt, map, seated, refusal) {
+            Err(refusal) => match make_room(rt, map, seated, refusal, &mut tries) {
                 Ok(()) => {}
                 Err(why) => return Err(why),
             },

@@ -1,5 +1,5 @@
 //! A session as workers see it, without the names of its map.
-ghost use Rattle.std.specs.Prelude.{◌≡◌, ◌<◌, Some, IfOk, IfErr};
+ghost use Rattle.std.specs.Prelude.{◌≡◌, ◌<◌, [], true, false, Some, IfOk, IfErr, IfSome};
 ghost use Rattle.std.specs.Fn.{FnOnceReturnsAt};
 ghost use Rattle.std.specs.List.{FoldsTo};
 ghost use Rattle.table_core.specs.declared.operation.Operation.TheVariants as op;
@@ -7,7 +7,7 @@ ghost use Rattle.table_core.specs.Lent.{lent_value};
 ghost use Rattle.far_object.specs.Encodings.{enc_text};
 ghost use Rattle.far_object.specs.Buckets.{bucket};
 ghost use Rattle.table_core.specs.Logs.{word};
-ghost use Rattle.version_words.specs.Views.{Goes};
+ghost use Rattle.version_words.specs.Views.{Goes, has_object};
 ghost use Rattle.hash_table.specs.States.{IsState};
 ghost use Rattle.far_map.specs.Answers.{Answers, IsRead, IsFound, held_in};
 ghost use Rattle.far_map.specs.Counts.{Counts};
@@ -15,7 +15,7 @@ ghost use Rattle.far_map.specs.Many.{IsGotEach};
 ghost use Rattle.far_map.specs.Refusals.{IsUnread};
 ghost use Rattle.far_map.specs.Removals.{call_of, found_in, IsMet};
 ghost use Rattle.far_map.specs.Updates.{IsUpdated};
-ghost use Rattle.far_map.specs.Visits.{IsBucketVisit, IsVisit};
+ghost use Rattle.far_map.specs.Visits.{AreOfBucket, IsBucketVisit, IsVisit};
 
 use crate::asked::Asked;
 use crate::refusal::Refusal;
@@ -175,6 +175,20 @@ pub trait Calls<V: Value> {
         ensures goes { Goes (shown self.old).pass (shown self.new).pass }
         ensures same { ((shown self.new).limit ≡ (shown self.old).limit) × ((shown self.new).stats ≡ (shown self.old).stats) };
 
+    /// Whether the bucket of this number, counted from 0, has no pair, read from its word alone: no object is read for it. It is no call of
+    /// the map, and is not counted.
+    fn is_empty_at(&mut self, bucket: u32) -> bool
+        requires { bucket < limits.buckets }
+        ensures empty { result ≡ true → AreOfBucket V.enc limits bucket (shown self.new).pass [] }
+        ensures filled { result ≡ false → has_object (word enc_text limits.buckets (shown self.new).pass.front bucket) ≡ true }
+        ensures goes { Goes (shown self.old).pass (shown self.new).pass }
+        ensures same { ((shown self.new).limit ≡ (shown self.old).limit) × ((shown self.new).stats ≡ (shown self.old).stats) };
+
+    /// The bucket whose object is in the frame of this number, counted from 0, if one is, and the frame was not read since this was last asked
+    /// of it. No clause says when none is returned. It is no call of the map, and is not counted.
+    fn unread_in(&self, frame: u32) -> Option<u32>
+        ensures { IfSome result (λ bucket. bucket < limits.buckets) };
+
     /// Where the contents of the key's bucket lie. It is no call of the map, and is not counted.
     fn where_is(&mut self, key: &Text) -> BucketState
         ensures goes { Goes (shown self.old).pass (shown self.new).pass }
@@ -311,6 +325,14 @@ impl<'m, V: Value, J: Naming, B: QueueNaming, D: Device> Calls<V> for Session<'m
         visit: &mut F,
     ) -> Result<(), Refusal> {
         self.visit_one(rt, bucket, visit)
+    }
+
+    fn is_empty_at(&mut self, bucket: u32) -> bool {
+        self.has_no_pair(bucket)
+    }
+
+    fn unread_in(&self, frame: u32) -> Option<u32> {
+        self.unread_bucket(frame)
     }
 
     fn where_is(&mut self, key: &Text) -> BucketState {

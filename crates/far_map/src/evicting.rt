@@ -31,7 +31,7 @@ impl<V: Value, J: Naming, B: QueueNaming, D: Device> FarMap<V, J, B, D> {
             let worked = if self.is_short() {
                 self.turns_by_thread(rt)
             } else {
-                self.collect(rt)
+                self.collect(rt).reclaimed > 0
             };
             if worked {
                 nap = SHORTEST_NAP;

@@ -81,10 +81,11 @@ fn open<'a, V: Value, J: Naming, B: QueueNaming, D: Device, R: Wait>(
     ensures answers { AnswersBy V.enc J.limits map.now.table.limit seated.old.caller.pass seated.new.caller.pass (Get key.now) (held_in (λ s. s.value) result) }
     ensures none_lost { LosesNone seated.old.caller.limbo seated.old.seat seated.new.caller.limbo seated.new.seat }
 {
+    let mut tries = MOST_TRIES;
     for _ in 0..MOST_TRIES {
         match open_near(rt, alloc, &map.table, &mut seated.caller, key) {
             Ok(held) => return Ok(held),
-            Err(refusal) => match make_room(rt, map, seated, refusal) {
+            Err(refusal) => match make_room(rt, map, seated, refusal, &mut tries) {
                 Ok(()) => {}
                 Err(why) => return Err(why),
             },

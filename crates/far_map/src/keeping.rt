@@ -20,7 +20,7 @@ use far_object::Text;
 use hash_table::{Caller, Refusal as TableRefusal};
 use std::sync::Wait;
 use std::sync::atomic::Ordering;
-use swapper::{Evictor, QueueNaming, QueueSeat, RoomMaker, reclaim_oldest};
+use swapper::{Collected, Evictor, QueueNaming, QueueSeat, RoomMaker, reclaim_oldest};
 use version_words::Naming;
 
 /// How many turns are made at most before the evictor is let go: others may wait for it meanwhile.
@@ -120,11 +120,11 @@ impl<V: Value, J: Naming, B: QueueNaming, D: Device> FarMap<V, J, B, D> {
         }
     }
 
-    /// Has spares reclaimed, and says whether one was.
-    pub(crate) fn collect<R: Wait>(&self, rt: &R) -> bool {
+    /// Has spares reclaimed, and says how many were, and whether the device failed.
+    pub(crate) fn collect<R: Wait>(&self, rt: &R) -> Collected {
         let collected = self.evictor.lock(rt).collect(rt, &self.table, &self.queue);
         self.keeps.store(collected.kept > 0, Ordering::SeqCst);
-        collected.reclaimed > 0
+        collected
     }
 
     /// Hands over the spares that the caller's calls have left, as far as the queue has room.

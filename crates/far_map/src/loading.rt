@@ -2,8 +2,11 @@
 //!
 //! # What is lost
 //!
-//! A part of the handover that can't be taken, and a pair whose put is refused, are passed over and counted: a far store may have
-//! lost an object, and a map of many pairs is not to end for one.
+//! A part of the handover that can't be taken, and a pair whose put is refused for good, are passed over and counted: a far store may
+//! have lost an object, and a map of many pairs is not to end for one.
+//!
+//! A put may be refused only for now, since frames wait for old versions that are not reclaimed yet. Where nobody but the loader is
+//! at work nothing else frees them, so it sees to them and puts again.
 ghost use Rattle.std.specs.Prelude.{◌≡◌, [], ◌∷◌, ◌++◌, IfSome, IfNone};
 ghost use Rattle.std.specs.Bool.{OnFalse};
 ghost use Rattle.version_words.specs.Views.{Goes};
@@ -14,6 +17,7 @@ ghost use Rattle.far_map.specs.Views.{View, Pairs};
 use crate::calls::Calls;
 use crate::entering::Newcomer;
 use crate::map::FarMap;
+use crate::refusal::Refusal;
 use crate::stints::Carried;
 use crate::values::Value;
 use far_device::Device;
@@ -22,10 +26,11 @@ use handover::{Handover, Untaken};
 use hash_table::Caller;
 use std::alloc::Global;
 use std::sync::Wait;
+use std::thread::yield_now;
 use swapper::QueueNaming;
 use version_words::Naming;
 
-/// How many times a part is asked for that is refused its memory.
+/// How many times a part is asked for that is refused its memory, and how many further tries a put has.
 const MOST_TRIES: u32 = 1_000;
 
 /// Another part of the pairs, or none of its pairs where it is lost. Where it is refused its memory an object is moved to a device,
@@ -56,29 +61,72 @@ fn next_part<V: Value, S: Calls<V>, D: Device, R: Wait>(
     Some(None)
 }
 
-/// Puts a pair behind others, of which so many were refused, and answers how many are by now.
+/// Whether each further try would be refused for the same reason.
+fn stays(refusal: Refusal) -> bool {
+    matches!(
+        refusal,
+        Refusal::TooLong | Refusal::NamesSpent | Refusal::Damaged
+    )
+}
+
+/// What may help a put that was refused for now: old versions are seen to, and an object is moved to a device.
+fn make_way<V: Value, S: Calls<V>, R: Wait>(rt: &R, me: &mut S)
+    ensures { Goes (S.shown me.old).pass (S.shown me.new).pass }
+{
+    me.settle(rt);
+    let _ = me.evict(rt);
+    yield_now();
+}
+
+/// Puts a pair behind others, of which so many were refused, and answers how many are by now. `tries` says how often the puts that
+/// are refused one after another may still be tried again: all 1,000 times once one is put, so that a map whose pairs find no room
+/// any more is loaded in time.
 fn put_one<V: Value, S: Calls<V>, R: Wait>(
     rt: &R,
     me: &mut S,
     key: &Text,
     value: &V,
     refused: u64,
+    tries: &mut u32,
 ) -> u64
     ensures { (pairs : Pairs V) (first : View V) → PutsEach pairs first (S.shown me.old).pass refused → PutsEach (pairs ++ (key.now, value.now) ∷ []) first (S.shown me.new).pass result }
 {
+    for _ in 0..*tries {
+        match me.put(rt, key, value) {
+            Ok(_before) => {
+                *tries = MOST_TRIES;
+                return refused;
+            }
+            Err(refusal) => {
+                if stays(refusal) {
+                    return refused.saturating_add(1);
+                }
+            }
+        }
+        *tries = tries.saturating_sub(1);
+        make_way(rt, me);
+    }
     match me.put(rt, key, value) {
-        Ok(_before) => refused,
+        Ok(_before) => {
+            *tries = MOST_TRIES;
+            refused
+        }
         Err(_refusal) => refused.saturating_add(1),
     }
 }
 
 /// Puts these pairs, and answers how many were refused.
-fn put_each<V: Value, S: Calls<V>, R: Wait>(rt: &R, me: &mut S, pairs: Vec<(Text, V)>) -> u64
+fn put_each<V: Value, S: Calls<V>, R: Wait>(
+    rt: &R,
+    me: &mut S,
+    pairs: Vec<(Text, V)>,
+    tries: &mut u32,
+) -> u64
     ensures { PutsEach pairs.items (S.shown me.old).pass (S.shown me.new).pass result }
 {
     let mut refused = 0u64;
     for (key, value) in pairs {
-        refused = put_one(rt, me, &key, &value, refused);
+        refused = put_one(rt, me, &key, &value, refused, tries);
     }
     refused
 }
@@ -90,6 +138,7 @@ fn put_part<V: Value, S: Calls<V>, D: Device, R: Wait>(
     me: &mut S,
     rest: &mut Handover<Text, V, D>,
     carried: &mut Carried,
+    tries: &mut u32,
 ) -> bool
     ensures loads { (waited : Pairs V) (first : View V) → IsLoading D.HONEST waited rest.old first (S.shown me.old).pass (lost_of carried.old) → IsLoading D.HONEST waited rest.new first (S.shown me.new).pass (lost_of carried.new) }
     ensures counted { lost_of carried.new ≡ 0 → lost_of carried.old ≡ 0 }
@@ -103,7 +152,7 @@ fn put_part<V: Value, S: Calls<V>, D: Device, R: Wait>(
         return true;
     };
     let count = pairs.len() as u64;
-    let refused = put_each(rt, me, pairs);
+    let refused = put_each(rt, me, pairs, tries);
     carried.pairs = carried.pairs.saturating_add(count.saturating_sub(refused));
     carried.lost_pairs = carried.lost_pairs.saturating_add(refused);
     true
@@ -122,8 +171,9 @@ fn put_all<V: Value, S: Calls<V>, D: Device, R: Wait>(
     ensures counted { lost_of result ≡ 0 → lost_of before ≡ 0 }
 {
     let mut carried = before;
+    let mut tries = MOST_TRIES;
     for _ in rt.forever() {
-        if !put_part(rt, alloc, me, rest, &mut carried) {
+        if !put_part(rt, alloc, me, rest, &mut carried, &mut tries) {
             return carried;
         }
     }

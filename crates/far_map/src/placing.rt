@@ -1,11 +1,12 @@
 //! Where a key's bucket lies, a frame that is emptied on request, and old versions that are seen to. They are no calls of the map.
-ghost use Rattle.std.specs.Prelude.{◌≡◌};
+ghost use Rattle.std.specs.Prelude.{◌≡◌, ◌<◌, [], true, false, IfSome};
 ghost use Rattle.far_object.specs.Encodings.{enc_text};
 ghost use Rattle.far_object.specs.Buckets.{bucket};
 ghost use Rattle.table_core.specs.Logs.{word};
-ghost use Rattle.version_words.specs.Views.{Goes};
+ghost use Rattle.version_words.specs.Views.{Goes, has_object};
 ghost use Rattle.hash_table.specs.States.{IsState};
 ghost use Rattle.far_map.specs.Spares.{LosesNone};
+ghost use Rattle.far_map.specs.Visits.{AreOfBucket};
 
 use crate::keeping::Seated;
 use crate::map::FarMap;
@@ -15,10 +16,11 @@ use crate::session::Session;
 use crate::values::Value;
 use far_device::Device;
 use far_object::Text;
-use hash_table::{BucketState, Caller, Refusal as TableRefusal};
+use hash_table::{BucketState, Caller, FarTable, Refusal as TableRefusal};
 use std::sync::Wait;
 use swapper::QueueNaming;
-use version_words::Naming;
+use table_core::contents_are_map;
+use version_words::{Naming, empty_holds};
 
 /// A turn of the evictor, and whether it emptied a frame. Where another thread was faster it is made again.
 #[tactic(auto, using(hash_table::proofs::Fronts::goes_trans))]
@@ -50,10 +52,11 @@ fn give_up<V: Value, J: Naming, B: QueueNaming, D: Device, R: Wait>(
     ensures goes { Goes seated.old.caller.pass seated.new.caller.pass }
     ensures none_lost { LosesNone seated.old.caller.limbo seated.old.seat seated.new.caller.limbo seated.new.seat }
 {
+    let mut tries = MOST_TRIES;
     for _ in 0..MOST_TRIES {
         match turn(rt, map, &mut seated.caller) {
             Ok(emptied) => return Ok(emptied),
-            Err(refusal) => match make_room(rt, map, seated, refusal) {
+            Err(refusal) => match make_room(rt, map, seated, refusal, &mut tries) {
                 Ok(()) => {}
                 Err(why) => return Err(why),
             },
@@ -62,7 +65,52 @@ fn give_up<V: Value, J: Naming, B: QueueNaming, D: Device, R: Wait>(
     Err(Refusal::Full(Lack::Spare))
 }
 
+/// Whether the bucket's word names no object.
+fn names_nothing<V: Value, J: Naming, D: Device>(
+    table: &FarTable<Text, V, J, D>,
+    caller: &mut Caller<Text, V, J>,
+    bucket: u32,
+) -> bool
+    requires { bucket < J.limits.buckets }
+    ensures empty { result ≡ true → AreOfBucket V.enc J.limits bucket caller.new.pass [] }
+    ensures filled { result ≡ false → has_object (word enc_text J.limits.buckets caller.new.pass.front bucket) ≡ true }
+    ensures goes { Goes caller.old.pass caller.new.pass }
+{
+    empty_holds::<Text, V>();
+    contents_are_map::<Text, V>();
+    match table.state_of(caller, bucket) {
+        BucketState::Empty(_) => true,
+        BucketState::Local(_) => false,
+        BucketState::Far(_) => false,
+    }
+}
+
 impl<'m, V: Value, J: Naming, B: QueueNaming, D: Device> Session<'m, V, J, B, D> {
+    /// Whether the bucket has no pair.
+    pub(crate) fn has_no_pair(&mut self, bucket: u32) -> bool
+        requires { bucket < J.limits.buckets }
+        ensures empty { result ≡ true → AreOfBucket V.enc J.limits bucket self.new.pass [] }
+        ensures filled { result ≡ false → has_object (word enc_text J.limits.buckets self.new.pass.front bucket) ≡ true }
+        ensures goes { Goes self.old.pass self.new.pass }
+        ensures same { (self.new.limit ≡ self.old.limit) × (self.new.stats ≡ self.old.stats) }
+    {
+        names_nothing(&self.map.table, &mut self.seated.caller, bucket)
+    }
+
+    /// The bucket of the frame's object, if nothing has read the frame since this was last asked.
+    pub(crate) fn unread_bucket(&self, frame: u32) -> Option<u32>
+        ensures { IfSome result (λ bucket. bucket < J.limits.buckets) }
+    {
+        let table = &self.map.table;
+        if table.touched(frame) {
+            return None;
+        }
+        match table.frame_seen(frame) {
+            Some((bucket, _)) => Some(bucket),
+            None => None,
+        }
+    }
+
     /// Where the contents of the key's bucket lie.
     pub(crate) fn place(&mut self, key: &Text) -> BucketState
         ensures goes { Goes self.old.pass self.new.pass }

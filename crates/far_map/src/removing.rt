@@ -67,10 +67,11 @@ fn remove_in_room<V: Value, J: Naming, B: QueueNaming, D: Device, R: Wait>(
     ensures none_lost { LosesNone seated.old.caller.limbo seated.old.seat seated.new.caller.limbo seated.new.seat }
 {
     map.before_change(rt, seated);
+    let mut tries = MOST_TRIES;
     for _ in 0..MOST_TRIES {
         match remove_now(rt, alloc, &map.table, &mut seated.caller, key, expected) {
             Ok(removal) => return Ok(removal),
-            Err(refusal) => match make_room(rt, map, seated, refusal) {
+            Err(refusal) => match make_room(rt, map, seated, refusal, &mut tries) {
                 Ok(()) => {}
                 Err(why) => return Err(why),
             },

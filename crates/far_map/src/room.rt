@@ -1,4 +1,10 @@
 //! What is done between two tries of a call.
+//!
+//! # A call is not tried again before there may be room
+//!
+//! Each try of a call reads its bucket, from a device where the object is far. So a call that found no frame waits until one was
+//! emptied or is named as free, and is tried again only then. A name is a hint: another thread may take the frame first. So all that
+//! is done for one call, its tries and its waits, is counted together.
 ghost use Rattle.std.specs.Prelude.{◌≡◌, ◌⊎◌, IfErr};
 ghost use Rattle.far_map.specs.Refusals.{said, IsOfRoom};
 ghost use Rattle.far_map.specs.Spares.{LosesNone};
@@ -18,8 +24,9 @@ use version_words::Naming;
 /// How many further tries a call has.
 pub(crate) const MOST_TRIES: u32 = 1_000;
 
-/// Has a frame emptied. Where that is refused for a reason that stays, so is the call.
-fn empty_frame<V: Value, J: Naming, B: QueueNaming, D: Device, R: Wait>(
+/// Has spares go. Where none did since the device failed, the call is refused for that at once: each further try would ask the
+/// device again. Where none did for another reason, those who read what they name go first.
+fn free_spares<V: Value, J: Naming, B: QueueNaming, D: Device, R: Wait>(
     rt: &R,
     map: &FarMap<V, J, B, D>,
     seated: &mut Seated<V, J, B>,
@@ -28,38 +35,88 @@ fn empty_frame<V: Value, J: Naming, B: QueueNaming, D: Device, R: Wait>(
     ensures none_lost { LosesNone seated.old.caller.limbo seated.old.seat seated.new.caller.limbo seated.new.seat }
     ensures why { IfErr result (IsOfRoom J.limits seated.new.caller.pass.front) }
 {
+    map.settle(rt, seated);
+    let collected = map.collect(rt);
+    if collected.reclaimed > 0 {
+        return Ok(());
+    }
+    if collected.failed {
+        return Err(Refusal::Device);
+    }
+    yield_now();
+    Ok(())
+}
+
+/// Has a frame emptied, and answers whether one was. Where that is refused for a reason that stays, so is the call.
+fn empty_frame<V: Value, J: Naming, B: QueueNaming, D: Device, R: Wait>(
+    rt: &R,
+    map: &FarMap<V, J, B, D>,
+    seated: &mut Seated<V, J, B>,
+) -> Result<bool, Refusal>
+    ensures pass { Goes seated.old.caller.pass seated.new.caller.pass }
+    ensures none_lost { LosesNone seated.old.caller.limbo seated.old.seat seated.new.caller.limbo seated.new.seat }
+    ensures why { IfErr result (IsOfRoom J.limits seated.new.caller.pass.front) }
+{
     match map.empty_frames(rt, seated) {
         Err(TableRefusal::Memory) => Err(Refusal::Memory),
         Err(TableRefusal::Device) => Err(Refusal::Device),
         Err(TableRefusal::NamesSpent) => Err(Refusal::NamesSpent),
-        Ok(true) => Ok(()),
-        _ => {
-            yield_now();
-            Ok(())
-        }
+        Ok(true) => Ok(true),
+        // Frames may wait for spares, and these for a removal that fails.
+        _ => match free_spares(rt, map, seated) {
+            Ok(()) => Ok(false),
+            Err(why) => Err(why),
+        },
     }
 }
 
-/// Makes room after a refusal: a frame where none was free, and spares go where too many wait. Where none was made, those who hold
-/// it, and may wait for this thread's processor, go first. Every other refusal is the call's.
+/// Waits until there may be a frame for the caller, for so many rounds at most, which it counts down. Where none was emptied in one,
+/// those who hold frames, and may wait for this thread's processor, go first.
+fn wait_for_frame<V: Value, J: Naming, B: QueueNaming, D: Device, R: Wait>(
+    rt: &R,
+    map: &FarMap<V, J, B, D>,
+    seated: &mut Seated<V, J, B>,
+    tries: &mut u32,
+) -> Result<(), Refusal>
+    ensures pass { Goes seated.old.caller.pass seated.new.caller.pass }
+    ensures none_lost { LosesNone seated.old.caller.limbo seated.old.seat seated.new.caller.limbo seated.new.seat }
+    ensures why { IfErr result (λ why. (why ≡ said TableRefusal.NoFrame) ⊎ IsOfRoom J.limits seated.new.caller.pass.front why) }
+{
+    for _ in 0..*tries {
+        *tries = tries.saturating_sub(1);
+        match empty_frame(rt, map, seated) {
+            Ok(true) => return Ok(()),
+            Ok(false) => {}
+            Err(why) => return Err(why),
+        }
+        if map.table.has_free() || seated.caller.owns_frame() {
+            return Ok(());
+        }
+    }
+    Err(said(TableRefusal::NoFrame))
+}
+
+/// Makes room after a refusal: a frame where none was free, and spares go where too many wait. `tries` says how often that may still
+/// be done for this call. Every other refusal is the call's.
 pub(crate) fn make_room<V: Value, J: Naming, B: QueueNaming, D: Device, R: Wait>(
     rt: &R,
     map: &FarMap<V, J, B, D>,
     seated: &mut Seated<V, J, B>,
     refusal: TableRefusal,
+    tries: &mut u32,
 ) -> Result<(), Refusal>
     ensures pass { Goes seated.old.caller.pass seated.new.caller.pass }
     ensures none_lost { LosesNone seated.old.caller.limbo seated.old.seat seated.new.caller.limbo seated.new.seat }
     ensures why { IfErr result (λ why. (why ≡ said refusal) ⊎ IsOfRoom J.limits seated.new.caller.pass.front why) }
 {
     match refusal {
-        TableRefusal::NoFrame => empty_frame(rt, map, seated),
+        TableRefusal::NoFrame => wait_for_frame(rt, map, seated, tries),
         TableRefusal::LimboFull => {
-            map.settle(rt, seated);
-            if !map.collect(rt) {
-                yield_now();
+            *tries = tries.saturating_sub(1);
+            match free_spares(rt, map, seated) {
+                Ok(()) => Ok(()),
+                Err(why) => Err(why),
             }
-            Ok(())
         }
         _ => Err(said(refusal)),
     }

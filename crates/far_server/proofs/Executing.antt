@@ -1,90 +1,48 @@
--- Requests that are run one after another, as far as a limit has room for their replies.
-use Rattle.std.proofs.Common.{◌≡◌, inl, inr, ◌<◌, ◌≤◌, suc, ◌+◌, ◌-◌, ℕ, List, [], ◌∷◌, ◌++◌, length, replicate, take, map, slice_index_or, refl, sym, ap, subst, ◌∙◌, arith, append-nil, append_assoc, length-append}
+-- Requests that are run one after another, as far as there is room for their replies.
+use Rattle.std.proofs.Common.{◌≡◌, ◌⊎◌, inl, inr, ◌<◌, ◌≤◌, suc, ◌+◌, ◌-◌, ℕ, List, [], ◌∷◌, ◌++◌, length, drop, map, slice_index_or, refl, sym, ap, subst, ◌∙◌, arith, append_assoc}
 use Rattle.std.specs.List.{flat_map}
-use Rattle.std.proofs.Math.Seq.{take-suc}
-use Rattle.std.proofs.lemmas.List.{length-map, get_or-map, replicate_more}
-use Rattle.std.proofs.lemmas.Grind.{flat_map-append}
+use Rattle.std.proofs.lemmas.List.{length-map, length-drop, get_or-map, drop_more}
 use Rattle.table_core.specs.declared.limits.Limits.{Limits}
-use Rattle.resp.specs.Replies.{Token, Failure, token}
+use Rattle.resp.specs.Replies.{Token, token}
 use Rattle.far_server.specs.declared.queue.Request.{Request}
 use Rattle.far_server.specs.declared.settings.Bounds.{Bounds}
-use Rattle.far_server.specs.Bounds.{longest, too_large}
+use Rattle.far_server.specs.Bounds.{longest}
+use Rattle.stored_keys.specs.declared.DigestKeys.{DigestKeys}
 use Rattle.far_server.specs.Queues.{held}
 use Rattle.far_server.specs.Sessions.{Session}
 use Rattle.far_server.specs.Runs.{IsRequest}
-use Rattle.far_server.specs.Answers.{IsRunOrRefused, AreExecuted}
+use Rattle.far_server.specs.Answers.{AreRefused, AreWithoutMemory, AreExecuted}
 
--- the bytes of replies behind others
-pub len_tokens : (rs first rest : List Token) → rs ≡ first ++ rest → length (flat_map token rs) ≡ length (flat_map token first) + length (flat_map token rest)
-len_tokens rs first rest is = ap (λ (ts : List Token). length (flat_map token ts)) is ∙ (ap (λ (bytes : List ℕ). length bytes) (flat_map-append token first rest) ∙ length-append (flat_map token first) (flat_map token rest))
+-- Whatever becomes of the requests from b on within a limit, all were executed with the replies so far.
+abbrev pub GoesOn : (l : Limits) (digest : DigestKeys) (v : Bounds) (whole : ℕ) (all : List (List (List ℕ))) (limit : ℕ) (left : List (List (List ℕ))) (each : List Token) (a b : Session) → Type 0
+GoesOn l digest v whole all limit left each a b = (rest : List Token) (end : Session) → AreExecuted l digest v limit left rest b end → AreExecuted l digest v whole all (each ++ rest) a end
 
-run_more : (l : Limits) (v : Bounds) (limit : ℕ) (ws : List (List (List ℕ))) (w : List (List ℕ)) (rs first : List Token) (a b c : Session)
-    → AreExecuted l v limit ws rs a b → length (flat_map token rs) + longest v.longest_value ≤ limit → IsRequest l v.longest_value (limit - length (flat_map token rs)) w b c first
-    → AreExecuted l v limit (ws ++ w ∷ []) (rs ++ first) a c
-run_more l v limit [] w rs first a b c before fits asked =
-    let none : length (flat_map token rs) ≡ 0 = ap (λ (ts : List Token). length (flat_map token ts)) before.1 in
-    let whole : limit - length (flat_map token rs) ≡ limit = omega (arith, none) in
-    let there : IsRequest l v.longest_value limit w b c first = subst (λ (n : ℕ). IsRequest l v.longest_value n w b c first) whole asked in
-    let at : IsRequest l v.longest_value limit w a c first = subst (λ (s : Session). IsRequest l v.longest_value limit w s c first) (sym before.0) there in
-    inl (c, first, [], record { fits = omega (arith, none, fits); ran = at }, (refl, refl), ap (λ (ts : List Token). ts ++ first) before.1 ∙ sym (append-nil first))
-run_more l v limit (u ∷ ws) w rs first a b c (inl p) fits asked =
-    let len = len_tokens rs p.1 p.2 p.5 in
-    let left : limit - length (flat_map token rs) ≡ (limit - length (flat_map token p.1)) - length (flat_map token p.2) = omega (arith, len) in
-    inl (
-      p.0,
-      p.1,
-      p.2 ++ first,
-      p.3,
-      run_more l v (limit - length (flat_map token p.1)) ws w p.2 first p.0 b c p.4 (omega (arith, len, fits)) (subst (λ (n : ℕ). IsRequest l v.longest_value n w b c first) left asked),
-      ap (λ (ts : List Token). ts ++ first) p.5 ∙ append_assoc p.1 p.2 first,
-    )
-run_more l v limit (u ∷ ws) w rs first a b c (inr q) fits asked = absurd (omega (arith, q.passes, fits))
+-- one more was run
+pub ran_one : (l : Limits) (digest : DigestKeys) (v : Bounds) (whole : ℕ) (all : List (List (List ℕ))) (limit less : ℕ) (w : List (List ℕ)) (left behind : List (List (List ℕ))) (each first : List Token) (a b c : Session)
+    → left ≡ w ∷ behind → less ≡ limit - length (flat_map token first) → longest v.longest_value ≤ limit → IsRequest l digest v.longest_value limit w b c first
+    → GoesOn l digest v whole all limit left each a b → GoesOn l digest v whole all less behind (each ++ first) a c
+ran_one l digest v whole all limit less w left behind each first a b c is smaller fits ran on rest end next =
+    let there : AreExecuted l digest v (limit - length (flat_map token first)) behind rest c end = subst (λ (n : ℕ). AreExecuted l digest v n behind rest c end) smaller next in
+    let all_left : AreExecuted l digest v limit (w ∷ behind) (first ++ rest) b end = inl (c, first, rest, record { fits = fits; ran = ran }, there, refl) in
+    subst (λ (ts : List Token). AreExecuted l digest v whole all ts a end) (sym (append_assoc each first rest))
+    (on (first ++ rest) end (subst (λ (ws : List (List (List ℕ))). AreExecuted l digest v limit ws (first ++ rest) b end) (sym is) all_left))
 
-refuse_more : (l : Limits) (v : Bounds) (limit : ℕ) (ws : List (List (List ℕ))) (w : List (List ℕ)) (rs : List Token) (a b : Session)
-    → AreExecuted l v limit ws rs a b → limit < length (flat_map token rs) + longest v.longest_value → AreExecuted l v limit (ws ++ w ∷ []) (rs ++ Failure too_large ∷ []) a b
-refuse_more l v limit [] w rs a b before passes =
-    let none : length (flat_map token rs) ≡ 0 = ap (λ (ts : List Token). length (flat_map token ts)) before.1 in
-    inr (record { passes = omega (arith, none, passes); untouched = before.0; reply = ap (λ (ts : List Token). ts ++ Failure too_large ∷ []) before.1 })
-refuse_more l v limit (u ∷ ws) w rs a b (inl p) passes =
-    let len = len_tokens rs p.1 p.2 p.5 in
-    let some : 0 < longest v.longest_value = omega arith in
-    inl (
-      p.0,
-      p.1,
-      p.2 ++ Failure too_large ∷ [],
-      p.3,
-      refuse_more l v (limit - length (flat_map token p.1)) ws w p.2 p.0 b p.4 (omega (arith, len, passes, some)),
-      ap (λ (ts : List Token). ts ++ Failure too_large ∷ []) p.5 ∙ append_assoc p.1 p.2 (Failure too_large ∷ []),
-    )
-refuse_more l v limit (u ∷ ws) w rs a b (inr q) passes =
-    let len = length-append ws (w ∷ []) in
-    let count : length (u ∷ ws) + 1 ≡ length (u ∷ (ws ++ w ∷ [])) = omega (arith, len) in
-    inr (record {
-      passes = q.passes;
-      untouched = q.untouched;
-      reply = ap (λ (ts : List Token). ts ++ Failure too_large ∷ []) q.reply ∙ (replicate_more (length (u ∷ ws)) (Failure too_large) ∙ ap (λ (n : ℕ). replicate n (Failure too_large)) count);
-    })
+-- none of those that are left was
+pub stopped : (l : Limits) (digest : DigestKeys) (v : Bounds) (limit : ℕ) (left : List (List (List ℕ))) (rs : List Token) (a : Session)
+    → 0 < length left → AreRefused l digest v limit (length left) a a rs ⊎ AreWithoutMemory l digest v (length left) a a rs → AreExecuted l digest v limit left rs a a
+stopped l digest v limit [] rs a some why = absurd (omega (arith, some))
+stopped l digest v limit (w ∷ left) rs a some why = inr why
 
--- one request more, of an array of which so many bytes stand before the replies
-pub execute_more : (l : Limits) (v : Bounds) (head used : ℕ) (ws : List (List (List ℕ))) (w : List (List ℕ)) (rs more : List Token) (a b c : Session)
-    → AreExecuted l v (v.longest_reply - head) ws rs a b → used ≡ head + length (flat_map token rs) → IsRunOrRefused l v used w b c more
-    → AreExecuted l v (v.longest_reply - head) (ws ++ w ∷ []) (rs ++ more) a c
-execute_more l v head used ws w rs more a b c before is (inl p) =
-    let left : v.longest_reply - used ≡ (v.longest_reply - head) - length (flat_map token rs) = omega (arith, is) in
-    run_more l v (v.longest_reply - head) ws w rs more a b c before (omega (arith, is, p.0)) (subst (λ (n : ℕ). IsRequest l v.longest_value n w b c more) left p.1)
-execute_more l v head used ws w rs more a b c before is (inr q) =
-    let some : 0 < longest v.longest_value = omega arith in
-    let refused : AreExecuted l v (v.longest_reply - head) (ws ++ w ∷ []) (rs ++ Failure too_large ∷ []) a b = refuse_more l v (v.longest_reply - head) ws w rs a b before (omega (arith, is, q.0, some)) in
-    subst (λ (s : Session). AreExecuted l v (v.longest_reply - head) (ws ++ w ∷ []) (rs ++ more) a s) q.1.0
-    (subst (λ (ts : List Token). AreExecuted l v (v.longest_reply - head) (ws ++ w ∷ []) (rs ++ ts) a b) (sym q.1.1) refused)
-
--- the requests up to the next one
+-- the next of the requests, and those behind it
 pub next_held : (rs : List Request) (all : List (List (List ℕ))) (i : ℕ) (r : Request) → map held rs ≡ all → i < length rs → r ≡ slice_index_or rs i r
-    → take (i + 1) all ≡ take i all ++ held r ∷ []
+    → drop i all ≡ held r ∷ drop (i + 1) all
 next_held rs all i r are lt is =
     let len = length-map rs held in
     let here : slice_index_or (map held rs) i (held r) ≡ held r = get_or-map held rs i r (held r) lt ∙ ap held (sym is) in
     let there : slice_index_or all i (held r) ≡ held r = subst (λ (ws : List (List (List ℕ))). slice_index_or ws i (held r) ≡ held r) are here in
     let lt_all : i < length all = subst (λ (ws : List (List (List ℕ))). i < length ws) are (omega (arith, lt, len)) in
-    let next : i + 1 ≡ suc i = omega arith in
-    ap (λ (n : ℕ). take n all) next ∙ (take-suc all i (held r) lt_all ∙ ap (λ (x : List (List ℕ)). take i all ++ x ∷ []) there)
+    drop_more all i (held r) lt_all ∙ ap (λ (x : List (List ℕ)). x ∷ drop (i + 1) all) there
+
+-- how many are left
+pub left_of : (rs : List Request) (all : List (List (List ℕ))) (i : ℕ) → map held rs ≡ all → length (drop i all) ≡ length rs - i
+left_of rs all i are = length-drop i all ∙ ap (λ (n : ℕ). n - i) (sym (ap (λ (ws : List (List (List ℕ))). length ws) are) ∙ length-map rs held)

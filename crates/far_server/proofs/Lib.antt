@@ -1,6 +1,7 @@
 mod Going
 mod Trying
 mod Pushed
+mod Listing
 mod Held
 mod Several
 mod Swept

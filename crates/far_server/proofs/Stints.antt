@@ -17,6 +17,7 @@ use Rattle.far_server.specs.Services.{Lane, lane_of, Acts}
 use Rattle.far_server.specs.Left.{LeftView, HasStood}
 use Rattle.far_server.specs.Serving.{HasServed, StandsFrom, Knows, IsGoing, GoesOn, Stands, IsStintOfLane, ServesOn}
 use Rattle.far_server.specs.declared.settings.Bounds.{Bounds}
+use Rattle.stored_keys.specs.declared.DigestKeys.{DigestKeys}
 use Rattle.far_server.specs.declared.settings.ServerSettings.{ServerSettings}
 use Rattle.far_server.specs.declared.ending.WorkerEnd.{WorkerEnd}
 use Rattle.far_server.specs.declared.ending.WorkerEnd.TheVariants as worker_end
@@ -48,11 +49,11 @@ module _ {In Out : Type 0} (remaining : In → Option (List ℕ)) (contents : Ou
       let A : Out → Type 0 = λ o. Appends (contents start.output) (contents o) (frames_bytes s.sent) in
       record { came = s.came; sent = s.sent; consumed = subst C (sym in_is) t.0; appended = subst A (sym out_is) t.1; each = s.each; left = s.left; once = s.once }
 
-  module _ (l : Limits) (password : Option (List ℕ)) (bounds : Bounds) (old new : Session) (left : LeftView In Out) (wire : Wire In Out) (views : Views) (y : Lane) (ended : y.session ≡ new)
-      (goes : GoesOnBy (WireTells remaining contents) (Acts l password bounds) left.wire.limits left.wire wire (lane_of password old left.connections) y left.views views) where
+  module _ (l : Limits) (digest : DigestKeys) (password : Option (List ℕ)) (bounds : Bounds) (old new : Session) (left : LeftView In Out) (wire : Wire In Out) (views : Views) (y : Lane) (ended : y.session ≡ new)
+      (goes : GoesOnBy (WireTells remaining contents) (Acts l digest password bounds) left.wire.limits left.wire wire (lane_of password old left.connections) y left.views views) where
     -- the lane left again
     pub leaves_so : (after : LeftView In Out) → after.wire ≡ wire → after.views ≡ views → y ≡ lane_of password y.session after.connections → wire.limits ≡ left.wire.limits
-        → IsGoing remaining contents l password bounds old new left (state.Left after)
+        → IsGoing remaining contents l digest password bounds old new left (state.Left after)
     leaves_so after wire_is views_is knows same = record {
       last = y;
       ended = ended;
@@ -66,7 +67,7 @@ module _ {In Out : Type 0} (remaining : In → Option (List ℕ)) (contents : Ou
     }
 
     -- its requests were at their end
-    pub ends_so : (input : In) (output : Out) → wire.broken ≡ false → input ≡ wire.input → output ≡ wire.output → IsGoing remaining contents l password bounds old new left (state.Ended (worker_end.Lane (Ok (input, output))))
+    pub ends_so : (input : In) (output : Out) → wire.broken ≡ false → input ≡ wire.input → output ≡ wire.output → IsGoing remaining contents l digest password bounds old new left (state.Ended (worker_end.Lane (Ok (input, output))))
     ends_so input output whole in_is out_is = record {
       last = y;
       ended = ended;
@@ -104,8 +105,8 @@ module _ {In Out : Type 0} (remaining : In → Option (List ℕ)) (contents : Ou
         (s.0, s.1, s.2.0, subst P (sym s.2.0) s.2.1)
 
     module _ (l : Limits) (settings : ServerSettings) (old new : Session) (before : WorkerState In Out) (left : LeftView In Out)
-        (from : Begins settings.requests before left) (knew : Knows l settings.password settings.bounds before (lane_of settings.password old left.connections)) where
-      is_stint : (after : WorkerState In Out) → IsGoing remaining contents l settings.password settings.bounds old new left after → IsStintOfLane remaining contents Opens l settings old new before after
+        (from : Begins settings.requests before left) (knew : Knows l settings.digest_keys settings.password settings.bounds before (lane_of settings.password old left.connections)) where
+      is_stint : (after : WorkerState In Out) → IsGoing remaining contents l settings.digest_keys settings.password settings.bounds old new left after → IsStintOfLane remaining contents Opens l settings old new before after
       is_stint after going = record {
         first = lane_of settings.password old left.connections;
         last = going.last;
@@ -121,7 +122,7 @@ module _ {In Out : Type 0} (remaining : In → Option (List ℕ)) (contents : Ou
             (went.0, went.1, stands_kept settings.requests b.0 after marks b.1 (subst S b.2 went.2));
       }
 
-      pub serves_so : (after : WorkerState In Out) → GoesOn remaining contents l settings.password settings.bounds old new left after → ServesOn remaining contents Opens l settings old new before after
+      pub serves_so : (after : WorkerState In Out) → GoesOn remaining contents l settings.digest_keys settings.password settings.bounds old new left after → ServesOn remaining contents Opens l settings old new before after
       serves_so state.Fresh going = is_stint state.Fresh going
       serves_so (state.Left kept) going = is_stint (state.Left kept) going
       serves_so (state.Ended (worker_end.Lane (Ok parts))) going = is_stint (state.Ended (worker_end.Lane (Ok parts))) going

@@ -14,8 +14,11 @@ use Rattle.far_server.specs.declared.settings.Bounds.{Bounds}
 use Rattle.far_server.specs.Sessions.{Session}
 use Rattle.far_server.specs.Queues.{waiting}
 use Rattle.far_server.specs.Logins.{HasLogin, Exceeds}
+use Rattle.far_map.specs.declared.refusal.Refusal.TheVariants as refusal
 use Rattle.far_server.specs.Bounds.{longest, too_large}
+use Rattle.far_server.specs.Refusing.{text_of}
 use Rattle.far_server.specs.Runs.{IsRequest}
+use Rattle.stored_keys.specs.declared.DigestKeys.{DigestKeys}
 
 -- what is known of a connection: whether it may ask, and what waits for EXEC, behind a MULTI
 pub record Known : Type 0 where
@@ -57,11 +60,11 @@ IsHeld before after request rs = ((after ≡ before ++ request ∷ []) × (rs �
 abbrev pub MovesOn : Option (List (List (List ℕ))) → Option (List (List (List ℕ))) → Type 0
 MovesOn before after = (after ≡ before) ⊎ ((after ≡ None) ⊎ ((before ≡ None) × (after ≡ Some [])))
 
-module _ (l : Limits) (b : Bounds) where
+module _ (l : Limits) (digest : DigestKeys) (b : Bounds) where
   -- A request was run where the limit had room for the longest value.
   pub record IsRunWithin (limit : ℕ) (request : List (List ℕ)) (old new : Session) (rs : List Token) : Type 0 where
     pub fits : longest b.longest_value ≤ limit
-    pub ran : IsRequest l b.longest_value limit request old new rs
+    pub ran : IsRequest l digest b.longest_value limit request old new rs
 
   -- None of so many requests was run, since the limit had no room for the longest value: each is answered by the error.
   pub record AreRefused (limit count : ℕ) (old new : Session) (rs : List Token) : Type 0 where
@@ -69,18 +72,18 @@ module _ (l : Limits) (b : Bounds) where
     pub untouched : old ≡ new
     pub reply : rs ≡ replicate count (Failure too_large)
 
-  -- a request behind replies of so many bytes in an array: it was run, or refused
-  abbrev pub IsRunOrRefused : ℕ → List (List ℕ) → Session → Session → List Token → Type 0
-  IsRunOrRefused used request old new rs =
-      ((used + longest b.longest_value ≤ b.longest_reply) × IsRequest l b.longest_value (b.longest_reply - used) request old new rs)
-      ⊎ ((b.longest_reply < used + longest b.longest_value) × ((old ≡ new) × (rs ≡ Failure too_large ∷ [])))
+  -- None of so many requests was run, since the system refused memory for a short reply: each is answered by that error.
+  pub record AreWithoutMemory (count : ℕ) (old new : Session) (rs : List Token) : Type 0 where
+    pub untouched : old ≡ new
+    pub reply : rs ≡ replicate count (Failure (text_of refusal.Memory))
 
-  -- Requests were run one after another within a limit for all replies, which are these; from the first on for which it had no room none was.
+  -- Requests were run one after another within a limit for all replies, which are these; from the first on for which it had no room, or
+  -- there was no memory, none was.
   abbrev pub AreExecuted : ℕ → List (List (List ℕ)) → List Token → Session → Session → Type 0
   AreExecuted limit [] rs old new = (old ≡ new) × (rs ≡ [])
   AreExecuted limit (request ∷ requests) rs old new =
       ((mid : Session) × (first rest : List Token) × IsRunWithin limit request old mid first × AreExecuted (limit - length (flat_map token first)) requests rest mid new × (rs ≡ first ++ rest))
-      ⊎ AreRefused limit (length (request ∷ requests)) old new rs
+      ⊎ (AreRefused limit (length (request ∷ requests)) old new rs ⊎ AreWithoutMemory (length (request ∷ requests)) old new rs)
 
   -- an array of the replies to requests
   abbrev pub AreExecutedEach : List (List (List ℕ)) → List Token → Session → Session → Type 0
@@ -90,7 +93,7 @@ module _ (l : Limits) (b : Bounds) where
   pub record IsRun (before after : Known) (arguments : List (List ℕ)) (old new : Session) (rs : List Token) : Type 0 where
     pub none_before : before.waits ≡ None
     pub none_after : after.waits ≡ None
-    pub ran : IsRequest l b.longest_value b.longest_reply arguments old new rs
+    pub ran : IsRequest l digest b.longest_value b.longest_reply arguments old new rs
 
   -- It waits for EXEC.
   pub record IsQueued (before after : Known) (arguments : List (List ℕ)) (old new : Session) (rs : List Token) : Type 0 where
@@ -118,10 +121,10 @@ module _ (l : Limits) (b : Bounds) where
   abbrev pub IsExecutedOrElse : Known → Known → Session → Session → List Token → Type 0
   IsExecutedOrElse before after old new rs = IsExecuted before after old new rs ⊎ IsElse before after old new
 
-module _ (l : Limits) (b : Bounds) (before after : Known) (arguments : List (List ℕ)) (old new : Session) (rs : List Token) where
+module _ (l : Limits) (digest : DigestKeys) (b : Bounds) (before after : Known) (arguments : List (List ℕ)) (old new : Session) (rs : List Token) where
   -- what became of a request
   abbrev pub Did : Type 0
-  Did = IsRun l b before after arguments old new rs ⊎ (IsQueued l b before after arguments old new rs ⊎ (IsExecuted l b before after old new rs ⊎ IsElse l b before after old new))
+  Did = IsRun l digest b before after arguments old new rs ⊎ (IsQueued l digest b before after arguments old new rs ⊎ (IsExecuted l digest b before after old new rs ⊎ IsElse l digest b before after old new))
 
 -- A request of a connection that has to log in first: who may ask behind it said the password, and what is too large is refused.
 pub record IsRefusedOr (password : Option (List ℕ)) (before after : Known) (arguments : List (List ℕ)) (rs : List Token) : Type 0 where
@@ -130,8 +133,8 @@ pub record IsRefusedOr (password : Option (List ℕ)) (before after : Known) (ar
   pub excess : (text : List ℕ) → Exceeds arguments text → (rs ≡ Failure text ∷ []) × (after ≡ before)
 
 -- Who may ask behind it might before, or need not say a password, or said it; who may not has made no call, and is refused what is too large.
-pub record IsAnswered (l : Limits) (password : Option (List ℕ)) (b : Bounds) (before after : Known) (arguments : List (List ℕ)) (old new : Session) (rs : List Token) : Type 0 where
+pub record IsAnswered (l : Limits) (digest : DigestKeys) (password : Option (List ℕ)) (b : Bounds) (before after : Known) (arguments : List (List ℕ)) (old new : Session) (rs : List Token) : Type 0 where
   pub login : after.passed ≡ true → (before.passed ≡ true) ⊎ HasLogin password arguments
   pub gate : before.passed ≡ false → old ≡ new
   pub excess : before.passed ≡ false → (text : List ℕ) → Exceeds arguments text → (rs ≡ Failure text ∷ []) × (after ≡ before)
-  pub did : Did l b before after arguments old new rs
+  pub did : Did l digest b before after arguments old new rs

@@ -1,5 +1,5 @@
 -- What a command on one key does with its session, and what it replies.
-use Rattle.std.specs.Prelude.{◌≡◌, ◌≢◌, ◌⊎◌, ℕ, Bool, true, false, List, Option, Some, None, Result, Ok, Err}
+use Rattle.std.specs.Prelude.{◌≡◌, ◌≢◌, ◌⊎◌, ◌≤◌, ◌<◌, ℕ, Bool, true, false, List, length, Option, Some, None, Result, Ok, Err}
 use Rattle.table_core.specs.declared.limits.Limits.{Limits}
 use Rattle.table_core.specs.declared.operation.Operation.TheVariants as op
 use Rattle.table_core.specs.Maps.{key_of}
@@ -12,7 +12,9 @@ use Rattle.key_commands.specs.Doing.{Does}
 use Rattle.far_map.specs.declared.refusal.Refusal.{Refusal}
 use Rattle.far_server.specs.Sessions.{Session, Call, Called}
 use Rattle.far_server.specs.Steps.{Steps}
-use Rattle.far_server.specs.Refusing.{IsTold, text_of, overtaken, no_room}
+use Rattle.far_server.specs.Refusing.{IsTold, text_of, overtaken, no_room, key_too_long}
+use Rattle.stored_keys.specs.declared.DigestKeys.{DigestKeys}
+use Rattle.stored_keys.specs.StoredKeys.{stored_key, longest_key}
 
 -- a call on this key that was answered so leaves the map as it was
 abbrev pub IsIdleCall : List ℕ → Call → Result (Option (List ℕ)) Refusal → Type 0
@@ -80,10 +82,16 @@ module _ (l : Limits) (k : List ℕ) where
     IsEnded old new pushed (Ok false) = Idles old new
     IsEnded old new pushed (Err why) = (mid : Session) × Idles old mid × IsStopped why mid new
 
-    -- A command on a key is answered by this token: as it was carried out, by a refusal, since others were faster each time, or for want of room.
-    -- The calls before the last one left the map as it was.
-    abbrev pub IsKeyed : Session → Session → Token → Type 0
-    IsKeyed old new reply = (mid : Session) × Idles old mid × (
+    -- A command on a stored key is answered by this token: as it was carried out, by a refusal, since others were faster each time, or for want
+    -- of room. The calls before the last one left the map as it was.
+    abbrev pub IsOnStored : Session → Session → Token → Type 0
+    IsOnStored old new reply = (mid : Session) × Idles old mid × (
         Carries mid new reply
         ⊎ (((why : Refusal) × (told : Refusal) × IsStopped why mid new × IsTold why told × (reply ≡ Failure (text_of told)))
         ⊎ ((mid ≡ new) × ((reply ≡ Failure overtaken) ⊎ (reply ≡ Failure no_room)))))
+
+-- A command on a client's key is one on its stored key, under these digest keys. Of a key that is too long for one this is told, and no call was made.
+abbrev pub IsKeyed : Limits → DigestKeys → List ℕ → KeyCommand → ℕ → ℕ → Session → Session → Token → Type 0
+IsKeyed l digest k command now most old new reply =
+    ((length k ≤ longest_key) × IsOnStored l (stored_key digest k) command now most old new reply)
+    ⊎ ((longest_key < length k) × Goes old.pass new.pass × (reply ≡ Failure key_too_long))

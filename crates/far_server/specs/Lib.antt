@@ -3,6 +3,7 @@ pub mod Steps
 pub mod Refusing
 pub mod Keyed
 pub mod Bounds
+pub mod Lists
 pub mod Many
 pub mod Flushes
 pub mod Sweeps

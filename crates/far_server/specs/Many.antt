@@ -9,7 +9,10 @@ use Rattle.key_commands.specs.declared.asked.KeyCommand.{KeyCommand}
 use Rattle.key_commands.specs.declared.asked.KeyCommand.TheVariants as ask
 use Rattle.far_server.specs.Sessions.{Session}
 use Rattle.far_server.specs.Keyed.{IsKeyed}
+use Rattle.far_map.specs.declared.refusal.Refusal.TheVariants as refusal
 use Rattle.far_server.specs.Bounds.{longest, too_large}
+use Rattle.far_server.specs.Refusing.{text_of}
+use Rattle.stored_keys.specs.declared.DigestKeys.{DigestKeys}
 
 -- one more, as far as 63 bits tell
 abbrev pub more : ℕ → ℕ
@@ -29,24 +32,24 @@ abbrev pub counted : Bool → ℕ → ℕ
 counted true n = more n
 counted false n = n
 
-module _ (l : Limits) (now most : ℕ) where
+module _ (l : Limits) (digest : DigestKeys) (now most : ℕ) where
   module _ (command : KeyCommand) where
     -- The command was carried out on these keys, one after another, and each replied 1 or 0: so many 1 more than before.
     abbrev pub AreCounted : List (List ℕ) → ℕ → ℕ → Session → Session → Type 0
     AreCounted [] from to old new = (old ≡ new) × (from ≡ to)
-    AreCounted (k ∷ ks) from to old new = (mid : Session) × (r : Token) × (is_one : Bool) × IsKeyed l k command now most old mid r
+    AreCounted (k ∷ ks) from to old new = (mid : Session) × (r : Token) × (is_one : Bool) × IsKeyed l digest k command now most old mid r
         × MatchBool is_one (token r ≡ one) (token r ≡ none) × AreCounted ks (counted is_one from) to mid new
 
     -- the reply is how many replied 1, or the first that is neither 1 nor 0
     abbrev pub IsCountedEach : List (List ℕ) → Session → Session → Token → Type 0
     IsCountedEach ks old new r = ((count : ℕ) × AreCounted ks 0 count old new × (r ≡ Number (pos count)))
-        ⊎ ((before : List (List ℕ)) × (k : List ℕ) × (behind : List (List ℕ)) × (count : ℕ) × (mid : Session) × (ks ≡ before ++ k ∷ behind) × AreCounted before 0 count old mid × IsKeyed l k command now most mid new r)
+        ⊎ ((before : List (List ℕ)) × (k : List ℕ) × (behind : List (List ℕ)) × (count : ℕ) × (mid : Session) × (ks ≡ before ++ k ∷ behind) × AreCounted before 0 count old mid × IsKeyed l digest k command now most mid new r)
 
     -- The command was carried out on these keys, one after another, and these are the replies. Before each there was room for the longest
     -- value within a limit for all.
     abbrev pub AreListed : ℕ → List (List ℕ) → List Token → Session → Session → Type 0
     AreListed limit [] rs old new = (old ≡ new) × (rs ≡ [])
-    AreListed limit (k ∷ ks) rs old new = (longest most ≤ limit) × ((mid : Session) × (r : Token) × (rest : List Token) × IsKeyed l k command now most old mid r
+    AreListed limit (k ∷ ks) rs old new = (longest most ≤ limit) × ((mid : Session) × (r : Token) × (rest : List Token) × IsKeyed l digest k command now most old mid r
         × AreListed (limit - length (token r)) ks rest mid new × (rs ≡ r ∷ rest))
 
     -- an array of the replies
@@ -63,12 +66,21 @@ module _ (l : Limits) (now most : ℕ) where
       pub passes : limit < length (flat_map token (Count (length ks) ∷ each)) + longest most
       pub reply : rs ≡ Failure too_large ∷ []
 
+    -- The error of refused memory in its place: the command was carried out on some keys.
+    pub record IsWithoutMemory (limit : ℕ) (ks : List (List ℕ)) (old new : Session) (rs : List Token) : Type 0 where
+      pub before : List (List ℕ)
+      pub behind : List (List ℕ)
+      pub each : List Token
+      pub split : ks ≡ before ++ behind
+      pub listed : AreListed (limit - length (token (Count (length ks)))) before each old new
+      pub reply : rs ≡ Failure (text_of refusal.Memory) ∷ []
+
     abbrev pub IsListedIfShort : ℕ → List (List ℕ) → Session → Session → List Token → Type 0
-    IsListedIfShort limit ks old new rs = IsListedEach limit ks old new rs ⊎ IsTooLong limit ks old new rs
+    IsListedIfShort limit ks old new rs = IsListedEach limit ks old new rs ⊎ (IsTooLong limit ks old new rs ⊎ IsWithoutMemory limit ks old new rs)
 
   -- a key was set to a value, without options
   abbrev pub IsSet : List ℕ → List ℕ → Session → Session → Token → Type 0
-  IsSet k v old new r = (value : Bor (List ℕ)) × (change : Change) × (value.now ≡ v) × IsKeyed l k (ask.Set value change) now most old new r
+  IsSet k v old new r = (value : Bor (List ℕ)) × (change : Change) × (value.now ≡ v) × IsKeyed l digest k (ask.Set value change) now most old new r
 
   -- keys and values in turn, of which each key was set
   abbrev pub AreSet : List (List ℕ) → Session → Session → Type 0

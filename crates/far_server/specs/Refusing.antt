@@ -22,3 +22,7 @@ no_room = codes "OOM command not allowed when used memory > 'maxmemory'."
 -- where others were faster each time
 abbrev pub overtaken : List ℕ
 overtaken = codes "ERR the key is changed by others all the time"
+
+-- where a key has more bytes than one that is stored
+abbrev pub key_too_long : List ℕ
+key_too_long = codes "ERR key is too long"

@@ -16,31 +16,32 @@ use Rattle.far_server.specs.Sessions.{Session}
 use Rattle.far_server.specs.Keyed.{IsKeyed}
 use Rattle.far_server.specs.Many.{IsCountedEach, IsListedIfShort, IsSetEach}
 use Rattle.far_server.specs.Flushes.{Flushes}
+use Rattle.stored_keys.specs.declared.DigestKeys.{DigestKeys}
 
-module _ (l : Limits) (now most limit : ℕ) where
+module _ (l : Limits) (digest : DigestKeys) (now most limit : ℕ) where
   -- a command on these keys, whose reply is refused where it is longer than the limit
   abbrev pub IsOfKeys : OfKeys → List (List ℕ) → Session → Session → List Token → Type 0
-  IsOfKeys keys.Del ks old new rs = (r : Token) × (rs ≡ r ∷ []) × IsCountedEach l now most ask.Delete ks old new r
-  IsOfKeys keys.Unlink ks old new rs = (r : Token) × (rs ≡ r ∷ []) × IsCountedEach l now most ask.Delete ks old new r
-  IsOfKeys keys.Exists ks old new rs = (r : Token) × (rs ≡ r ∷ []) × IsCountedEach l now most ask.Exists ks old new r
-  IsOfKeys keys.Touch ks old new rs = (r : Token) × (rs ≡ r ∷ []) × IsCountedEach l now most ask.Exists ks old new r
-  IsOfKeys keys.MGet ks old new rs = IsListedIfShort l now most ask.Get limit ks old new rs
+  IsOfKeys keys.Del ks old new rs = (r : Token) × (rs ≡ r ∷ []) × IsCountedEach l digest now most ask.Delete ks old new r
+  IsOfKeys keys.Unlink ks old new rs = (r : Token) × (rs ≡ r ∷ []) × IsCountedEach l digest now most ask.Delete ks old new r
+  IsOfKeys keys.Exists ks old new rs = (r : Token) × (rs ≡ r ∷ []) × IsCountedEach l digest now most ask.Exists ks old new r
+  IsOfKeys keys.Touch ks old new rs = (r : Token) × (rs ≡ r ∷ []) × IsCountedEach l digest now most ask.Exists ks old new r
+  IsOfKeys keys.MGet ks old new rs = IsListedIfShort l digest now most ask.Get limit ks old new rs
 
   -- A command on several keys, or on none: one that asks for no key makes no call of the map.
   abbrev pub IsOther : Command → Session → Session → List Token → Type 0
   IsOther (command.Keys of arguments) old new rs = IsOfKeys of (listed arguments) old new rs
-  IsOther (command.SetMany pairs) old new rs = (r : Token) × (rs ≡ r ∷ []) × IsSetEach l now most (listed pairs) old new r
+  IsOther (command.SetMany pairs) old new rs = (r : Token) × (rs ≡ r ∷ []) × IsSetEach l digest now most (listed pairs) old new r
   IsOther (command.Server server.Flush) old new rs = Flushes l old new
   IsOther c old new rs = Goes old.pass new.pass
 
   -- a command was run, and these are its replies: one, or an array with what is in it
   abbrev pub IsRunAs : Command → Session → Session → List Token → Type 0
-  IsRunAs c old new rs = MatchOption (of_one_key c) (IsOther c old new rs) (λ p. (r : Token) × (rs ≡ r ∷ []) × IsKeyed l p.0.now p.1 now most old new r)
+  IsRunAs c old new rs = MatchOption (of_one_key c) (IsOther c old new rs) (λ p. (r : Token) × (rs ≡ r ∷ []) × IsKeyed l digest p.0.now p.1 now most old new r)
 
   -- the session was not touched, and the reply is an error
   abbrev pub IsFailure : Session → Session → List Token → Type 0
   IsFailure old new rs = (old ≡ new) × ((text : List ℕ) × (rs ≡ Failure text ∷ []))
 
 -- a request of these arguments was run at a time, as the command that they spell, or is none
-abbrev pub IsRequest : Limits → ℕ → ℕ → List (List ℕ) → Session → Session → List Token → Type 0
-IsRequest l most limit arguments old new rs = (now : ℕ) × (((c : Command) × Spells arguments c × IsRunAs l now most limit c old new rs) ⊎ IsFailure l now most limit old new rs)
+abbrev pub IsRequest : Limits → DigestKeys → ℕ → ℕ → List (List ℕ) → Session → Session → List Token → Type 0
+IsRequest l digest most limit arguments old new rs = (now : ℕ) × (((c : Command) × Spells arguments c × IsRunAs l digest now most limit c old new rs) ⊎ IsFailure l digest now most limit old new rs)

@@ -7,6 +7,7 @@ use Rattle.far_server.specs.Sessions.{Session}
 use Rattle.far_server.specs.Answers.{Known, known_at, is_free, unknown, IsAdmission, IsAnswered}
 use Rattle.far_server.specs.declared.connection.Connection.{Connection}
 use Rattle.far_server.specs.declared.settings.Bounds.{Bounds}
+use Rattle.stored_keys.specs.declared.DigestKeys.{DigestKeys}
 
 -- a lane: its session, and what is known of the connection of each number
 pub record Lane : Type 0 where
@@ -17,7 +18,7 @@ pub record Lane : Type 0 where
 abbrev pub lane_of : Option (List ℕ) → Session → List (ℕ × Connection) → Lane
 lane_of password session connections = record { session = session; connections = λ c. known_at connections c (unknown password) }
 
-module _ (l : Limits) (password : Option (List ℕ)) (bounds : Bounds) where
+module _ (l : Limits) (digest : DigestKeys) (password : Option (List ℕ)) (bounds : Bounds) where
   -- nothing is known of the connections
   abbrev pub IsNew : Lane → Type 0
   IsNew lane = (c : ℕ) → lane.connections c ≡ unknown password
@@ -33,7 +34,7 @@ module _ (l : Limits) (password : Option (List ℕ)) (bounds : Bounds) where
   -- what a lane does at a call
   abbrev pub Acts : Lane → Call → Lane → Type 0
   Acts before (Asked c arguments reply next) after =
-      IsAnswered l password bounds (before.connections c) (after.connections c) arguments before.session after.session reply
+      IsAnswered l digest password bounds (before.connections c) (after.connections c) arguments before.session after.session reply
       × IsAdmission (before.connections c).passed (after.connections c).passed next × Leaves c before after
   Acts before (Left c) after = (after.session ≡ before.session) × (after.connections c ≡ unknown password) × Leaves c before after
   Acts before (Opened c address let_in) after = (let_in ≡ true → is_free password ≡ true) × Stays before after

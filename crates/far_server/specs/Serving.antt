@@ -14,6 +14,7 @@ use Rattle.far_server.specs.Services.{Lane, lane_of, IsNew, Acts}
 use Rattle.far_server.specs.Sweeps.{Sweeps}
 use Rattle.far_server.specs.Left.{LeftView}
 use Rattle.far_server.specs.declared.settings.Bounds.{Bounds}
+use Rattle.stored_keys.specs.declared.DigestKeys.{DigestKeys}
 use Rattle.far_server.specs.declared.settings.ServerSettings.{ServerSettings}
 use Rattle.far_server.specs.declared.ending.WorkerEnd.{WorkerEnd}
 use Rattle.far_server.specs.declared.ending.WorkerEnd.TheVariants as worker_end
@@ -30,10 +31,10 @@ module _ {In Out : Type 0} where
   all_ended ends = map state.Ended ends
 
   -- what a lane knows of its connections by what it keeps
-  abbrev pub Knows : Limits → Option (List ℕ) → Bounds → WorkerState In Out → Lane → Type 0
-  Knows l password bounds state.Fresh lane = IsNew l password bounds lane
-  Knows l password bounds (state.Left left) lane = lane ≡ lane_of password lane.session left.connections
-  Knows l password bounds (state.Ended end) lane = ⊤
+  abbrev pub Knows : Limits → DigestKeys → Option (List ℕ) → Bounds → WorkerState In Out → Lane → Type 0
+  Knows l digest password bounds state.Fresh lane = IsNew l digest password bounds lane
+  Knows l digest password bounds (state.Left left) lane = lane ≡ lane_of password lane.session left.connections
+  Knows l digest password bounds (state.Ended end) lane = ⊤
 
 module _ {In Out : Type 0} (remaining : In → Option (List ℕ)) (contents : Out → Option (List ℕ)) where
   -- From this reader and this writer on a lane took frames, and sent frames, to their end: on each connection the requests that came are
@@ -56,17 +57,17 @@ module _ {In Out : Type 0} (remaining : In → Option (List ℕ)) (contents : Ou
 
   -- A stint of a lane that had left a map, by one session, from its first call to its last: wherever its frames began, and whatever was said
   -- since, steps lead to how it stands now, and what is said then are their exchanges, too. What it knows of its connections goes on.
-  pub record IsGoing (l : Limits) (password : Option (List ℕ)) (bounds : Bounds) (old new : Session) (left : LeftView In Out) (after : WorkerState In Out) : Type 0 where
+  pub record IsGoing (l : Limits) (digest : DigestKeys) (password : Option (List ℕ)) (bounds : Bounds) (old new : Session) (left : LeftView In Out) (after : WorkerState In Out) : Type 0 where
     pub last : Lane
     pub ended : last.session ≡ new
-    pub knows : Knows l password bounds after last
+    pub knows : Knows l digest password bounds after last
     pub went_on : (start : Wire In Out) (past : List (Mark Exchange)) → Standing (WireTells remaining contents) left.wire.limits start left.wire left.views past
-        → (steps : List Step) × Run (Acts l password bounds) (lane_of password old left.connections) steps last × StandsFrom left.wire.limits start after (past ++ step_marks steps)
+        → (steps : List Step) × Run (Acts l digest password bounds) (lane_of password old left.connections) steps last × StandsFrom left.wire.limits start after (past ++ step_marks steps)
 
   -- the same where no fault ends it
-  abbrev pub GoesOn : Limits → Option (List ℕ) → Bounds → Session → Session → LeftView In Out → WorkerState In Out → Type 0
-  GoesOn l password bounds old new left (state.Ended (worker_end.Lane (Err why))) = ⊤
-  GoesOn l password bounds old new left after = IsGoing l password bounds old new left after
+  abbrev pub GoesOn : Limits → DigestKeys → Option (List ℕ) → Bounds → Session → Session → LeftView In Out → WorkerState In Out → Type 0
+  GoesOn l digest password bounds old new left (state.Ended (worker_end.Lane (Err why))) = ⊤
+  GoesOn l digest password bounds old new left after = IsGoing l digest password bounds old new left after
 
   module _ (Opens : In → Out → Type 0) where
     -- The same of one that has not begun, by which nothing was said, or whose reader and writer were opened for it.
@@ -81,10 +82,10 @@ module _ {In Out : Type 0} (remaining : In → Option (List ℕ)) (contents : Ou
       pub last : Lane
       pub begun : first.session ≡ old
       pub ended : last.session ≡ new
-      pub knew : Knows l settings.password settings.bounds before first
-      pub knows : Knows l settings.password settings.bounds after last
+      pub knew : Knows l settings.digest_keys settings.password settings.bounds before first
+      pub knows : Knows l settings.digest_keys settings.password settings.bounds after last
       pub went_on : (past : List (Mark Exchange)) → Stands settings.requests before past
-          → (steps : List Step) × Run (Acts l settings.password settings.bounds) first steps last × Stands settings.requests after (past ++ step_marks steps)
+          → (steps : List Step) × Run (Acts l settings.digest_keys settings.password settings.bounds) first steps last × Stands settings.requests after (past ++ step_marks steps)
 
     -- the same where no fault ends it
     abbrev pub ServesOn : Limits → ServerSettings → Session → Session → WorkerState In Out → WorkerState In Out → Type 0

@@ -6,20 +6,23 @@ ghost use Rattle.commands.specs.Arguments.{listed};
 ghost use Rattle.commands.specs.Commands.{Spells};
 ghost use Rattle.commands.specs.declared.command.Command.TheVariants as commands;
 ghost use Rattle.far_server.specs.Queues.{held, waiting};
+ghost use Rattle.far_server.specs.Runs.{IsRequest};
 ghost use Rattle.far_server.specs.Logins.{HasLogin, Exceeds};
-ghost use Rattle.far_server.specs.Answers.{known, waits_in, is_free, IsHeld, MovesOn, IsRunOrRefused, AreExecutedEach, IsExecutedOrElse, Did, IsRefusedOr, IsAnswered};
+ghost use Rattle.far_server.specs.Answers.{known, waits_in, is_free, IsHeld, MovesOn, AreExecutedEach, IsExecutedOrElse, Did, IsRefusedOr, IsAnswered};
 
 use crate::around::{Around, Desk, milliseconds};
-use crate::bound::{may_grow_to, push_too_large};
+use crate::bound::{TOO_LARGE, may_grow_to};
 use crate::connection::Connection;
 use crate::login::{NO_LOGIN, answer_auth, answer_hello, excess_of};
 use crate::queue::{Queue, Request};
+use crate::refusing::text_of;
+use crate::reserve::{errors_of, has_room_for_short, push_failures};
 use crate::running::run;
 use crate::settings::ServerSettings;
 use crate::single::{push_one_failure, push_one_fault, push_one_simple};
 use commands::{Arguments, Command, Fault, Name, OfNothing, ServerCommand, Special, read};
 use far_blob::Blob;
-use far_map::Calls;
+use far_map::{Calls, Refusal};
 use lanes::Next;
 use resp::push_count;
 use std::alloc::{AllocError, Global};
@@ -53,7 +56,7 @@ fn spoils(fault: &Fault<'_>, arguments: usize) -> bool {
     }
 }
 
-/// Has a request wait for EXEC, unless its fault is one that EXEC has no reply for.
+/// Has a request wait for EXEC, unless its fault is one that EXEC has no reply for, or there is no room for it.
 fn wait(
     alloc: Global,
     most: u32,
@@ -67,45 +70,45 @@ fn wait(
     if let Err(fault) = asked {
         if spoils(&fault, request.spans.len()) {
             queue.spoil();
-            return push_one_fault(reply, fault);
+            return push_one_fault(reply, fault, 0);
         }
     }
     if !queue.has_room(request, most) {
         queue.spoil();
         return push_one_failure(reply, FULL_QUEUE);
     }
-    queue.push(alloc, request)?;
-    push_one_simple(reply, b"QUEUED")
+    match queue.push(alloc, request) {
+        Ok(()) => push_one_simple(reply, b"QUEUED"),
+        Err(_) => {
+            queue.spoil();
+            push_one_failure(reply, text_of(Refusal::Memory))
+        }
+    }
 }
 
-/// Runs a request that waited, behind replies of so many bytes, where there is room for one more value: else its reply is an error.
-fn run_within<S: Calls<Blob>, C: Clock, R: Wait>(
+/// Runs a request that waited. Its reply may have `limit` bytes.
+fn run_waiting<S: Calls<Blob>, C: Clock, R: Wait>(
     around: &Around<'_, C, R>,
     me: &mut S,
     connection: &mut Connection,
     desk: &mut Desk,
     request: &Request,
     now: u64,
-    used: usize,
+    limit: usize,
     reply: &mut Vec<u8>,
 ) -> Result<(), AllocError>
-    ensures ran { OnOk result ((rs : List Token) × (reply.new.items ≡ reply.old.items ++ flat_map token rs) × IsRunOrRefused S.limits around.now.settings.now.bounds used (held request.now) (S.shown me.old) (S.shown me.new) rs) }
+    ensures ran { OnOk result ((rs : List Token) × (reply.new.items ≡ reply.old.items ++ flat_map token rs) × IsRequest S.limits around.now.settings.now.digest_keys around.now.settings.now.bounds.longest_value limit (held request.now) (S.shown me.old) (S.shown me.new) rs) }
     ensures queue { connection.new.queue ≡ connection.old.queue }
 {
-    let bounds = around.settings.bounds;
-    if !may_grow_to(bounds.longest_reply as usize, used, bounds.longest_value) {
-        return push_too_large(reply);
-    }
     let request = request.arguments();
     let asked = read(request, now);
-    let limit = bounds.longest_reply as usize - used;
     run(
         around, me, connection, desk, request, asked, now, limit, reply,
     )
 }
 
 /// Runs the requests that wait, one after another: the reply is an array of theirs. From the first on for which a reply's bytes have no
-/// room for one more value none is run, and the reply to each is an error.
+/// room for one more value, or there is no memory for a short reply, none is run, and the reply to each is an error.
 fn execute<S: Calls<Blob>, C: Clock, R: Wait>(
     around: &Around<'_, C, R>,
     me: &mut S,
@@ -115,18 +118,38 @@ fn execute<S: Calls<Blob>, C: Clock, R: Wait>(
     now: u64,
     reply: &mut Vec<u8>,
 ) -> Result<(), AllocError>
-    ensures ran { OnOk result ((rs : List Token) × (reply.new.items ≡ reply.old.items ++ flat_map token rs) × ((each : List Token) × AreExecutedEach S.limits around.now.settings.now.bounds (waiting queue.now) each (S.shown me.old) (S.shown me.new) × (rs ≡ Count (length (waiting queue.now)) ∷ each))) }
+    ensures ran { OnOk result ((rs : List Token) × (reply.new.items ≡ reply.old.items ++ flat_map token rs) × ((each : List Token) × AreExecutedEach S.limits around.now.settings.now.digest_keys around.now.settings.now.bounds (waiting queue.now) each (S.shown me.old) (S.shown me.new) × (rs ≡ Count (length (waiting queue.now)) ∷ each))) }
     ensures queue { connection.new.queue ≡ connection.old.queue }
 {
+    let bounds = around.settings.bounds;
+    let limit = bounds.longest_reply as usize;
     let before = reply.len();
     let requests = queue.requests();
     match push_count(reply, requests.len()) {
         Ok(()) => {}
         Err(refused) => return Err(refused),
     }
-    for request in requests {
+    for at in 0..requests.len() {
+        let left = requests.len() - at;
         let used = reply.len() - before;
-        match run_within(around, me, connection, desk, request, now, used, reply) {
+        if !may_grow_to(limit, used, bounds.longest_value) {
+            return push_failures(reply, left, TOO_LARGE);
+        }
+        desk.beside = errors_of(left - 1);
+        if !has_room_for_short(desk.beside, reply) {
+            return push_failures(reply, left, text_of(Refusal::Memory));
+        }
+        let request = &requests[at];
+        match run_waiting(
+            around,
+            me,
+            connection,
+            desk,
+            request,
+            now,
+            limit - used,
+            reply,
+        ) {
             Ok(()) => {}
             Err(refused) => return Err(refused),
         }
@@ -134,7 +157,7 @@ fn execute<S: Calls<Blob>, C: Clock, R: Wait>(
     Ok(())
 }
 
-/// EXEC.
+/// EXEC. There is room for an error of each request first.
 fn answer_exec<S: Calls<Blob>, C: Clock, R: Wait>(
     around: &Around<'_, C, R>,
     me: &mut S,
@@ -143,7 +166,7 @@ fn answer_exec<S: Calls<Blob>, C: Clock, R: Wait>(
     now: u64,
     reply: &mut Vec<u8>,
 ) -> Result<(), AllocError>
-    ensures { OnOk result ((rs : List Token) × (reply.new.items ≡ reply.old.items ++ flat_map token rs) × IsExecutedOrElse S.limits around.now.settings.now.bounds (known connection.old) (known connection.new) (S.shown me.old) (S.shown me.new) rs) }
+    ensures { OnOk result ((rs : List Token) × (reply.new.items ≡ reply.old.items ++ flat_map token rs) × IsExecutedOrElse S.limits around.now.settings.now.digest_keys around.now.settings.now.bounds (known connection.old) (known connection.new) (S.shown me.old) (S.shown me.new) rs) }
 {
     match connection.queue.take() {
         None => push_one_failure(reply, NO_MULTI_BEFORE_EXEC),
@@ -151,7 +174,12 @@ fn answer_exec<S: Calls<Blob>, C: Clock, R: Wait>(
             if queue.is_spoilt() {
                 return push_one_failure(reply, SPOILT);
             }
-            execute(around, me, connection, desk, &queue, now, reply)
+            if !has_room_for_short(errors_of(queue.requests().len()), reply) {
+                return push_one_failure(reply, text_of(Refusal::Memory));
+            }
+            let done = execute(around, me, connection, desk, &queue, now, reply);
+            desk.beside = 0;
+            done
         }
     }
 }
@@ -213,7 +241,7 @@ fn wait_or_run<S: Calls<Blob>, C: Clock, R: Wait>(
     reply: &mut Vec<u8>,
 ) -> Result<(), AllocError>
     requires { IfOk asked (λ c. Spells (listed request) c) }
-    ensures { OnOk result ((rs : List Token) × (reply.new.items ≡ reply.old.items ++ flat_map token rs) × Did S.limits around.now.settings.now.bounds (known connection.old) (known connection.new) (listed request.entry) (S.shown me.old) (S.shown me.new) rs) }
+    ensures { OnOk result ((rs : List Token) × (reply.new.items ≡ reply.old.items ++ flat_map token rs) × Did S.limits around.now.settings.now.digest_keys around.now.settings.now.bounds (known connection.old) (known connection.new) (listed request.entry) (S.shown me.old) (S.shown me.new) rs) }
 {
     match connection.queue.take() {
         None => {
@@ -243,7 +271,7 @@ fn answer_friend<S: Calls<Blob>, C: Clock, R: Wait>(
     reply: &mut Vec<u8>,
 ) -> Result<(), AllocError>
     requires { IfOk asked (λ c. Spells (listed request) c) }
-    ensures { OnOk result ((rs : List Token) × (reply.new.items ≡ reply.old.items ++ flat_map token rs) × Did S.limits around.now.settings.now.bounds (known connection.old) (known connection.new) (listed request.entry) (S.shown me.old) (S.shown me.new) rs) }
+    ensures { OnOk result ((rs : List Token) × (reply.new.items ≡ reply.old.items ++ flat_map token rs) × Did S.limits around.now.settings.now.digest_keys around.now.settings.now.bounds (known connection.old) (known connection.new) (listed request.entry) (S.shown me.old) (S.shown me.new) rs) }
 {
     match asked {
         Ok(Command::Quit) => push_one_simple(reply, b"OK"),
@@ -314,7 +342,7 @@ fn refuse_or_log_in(
 {
     match asked {
         Ok(command) => answer_stranger(settings, connection, request, command, reply),
-        Err(fault) => push_one_fault(reply, fault),
+        Err(fault) => push_one_fault(reply, fault, 0),
     }
 }
 
@@ -360,7 +388,7 @@ pub(crate) fn answer_request<S: Calls<Blob>, C: Clock, R: Wait>(
     request: Arguments<'_>,
     reply: &mut Vec<u8>,
 ) -> Result<Next, AllocError>
-    ensures { OnOk result ((rs : List Token) × (reply.new.items ≡ reply.old.items ++ flat_map token rs) × IsAnswered S.limits around.now.settings.now.password around.now.settings.now.bounds (known connection.old) (known connection.new) (listed request.entry) (S.shown me.old) (S.shown me.new) rs) }
+    ensures { OnOk result ((rs : List Token) × (reply.new.items ≡ reply.old.items ++ flat_map token rs) × IsAnswered S.limits around.now.settings.now.digest_keys around.now.settings.now.password around.now.settings.now.bounds (known connection.old) (known connection.new) (listed request.entry) (S.shown me.old) (S.shown me.new) rs) }
 {
     let now = milliseconds(around.clock);
     let asked = read(request, now);

@@ -59,6 +59,8 @@ pub(crate) struct Desk {
     pub(crate) bed: Parker,
     /// What RANDOMKEY draws by, once it was asked for.
     pub(crate) draws: Option<SmallRng>,
+    /// How many bytes of room a reply leaves behind itself: EXEC may need them for errors of the requests behind it.
+    pub(crate) beside: usize,
 }
 
 impl Desk {
@@ -75,6 +77,7 @@ impl Desk {
             is_swept: settings.options.evicts,
             bed: Parker::new(),
             draws: None,
+            beside: 0,
         }
     }
 

@@ -1,5 +1,5 @@
 //! What a lane knows of a connection.
-ghost use Rattle.std.specs.Prelude.{◌≡◌, ◌<◌, ◌≤◌, [], None, length, MatchBool, IfOk};
+ghost use Rattle.std.specs.Prelude.{◌≡◌, ◌<◌, ◌≤◌, [], None, length, MatchBool, IfOk, OnErr};
 
 use crate::queue::Queue;
 use std::alloc::{AllocError, Global};
@@ -46,14 +46,16 @@ impl Connection {
     /// It is called so from now on, unless the name is too long: whether it is.
     pub(crate) fn set_name(&mut self, name: &[u8]) -> Result<bool, AllocError>
         ensures named { IfOk result (λ named. MatchBool named ((length name.now ≤ 1024) × (self.new.name.items ≡ name.now)) ((1024 < length name.now) × (self.new.name ≡ self.old.name))) }
+        ensures kept { OnErr result (self.new.name ≡ self.old.name) }
         ensures passed { self.new.passed ≡ self.old.passed }
         ensures queue { self.new.queue ≡ self.old.queue }
     {
         if name.len() > LONGEST_NAME {
             return Ok(false);
         }
-        self.name.clear();
-        self.name.extend_from_slice(name)?;
+        let mut own = Vec::new(*self.name.allocator());
+        own.extend_from_slice(name)?;
+        self.name = own;
         Ok(true)
     }
 }

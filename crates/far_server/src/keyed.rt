@@ -10,11 +10,13 @@ ghost use Rattle.key_commands.specs.declared.asked.Effect.TheVariants as effects
 ghost use Rattle.resp.specs.Replies.{Token, Failure, token};
 ghost use Rattle.key_commands.specs.Doing.{Does};
 ghost use Rattle.table_core.specs.Lent.{lent_value};
-ghost use Rattle.far_server.specs.Keyed.{IsSettled, IsTried, IsEnded, IsKeyed};
+ghost use Rattle.far_server.specs.Keyed.{IsSettled, IsTried, IsEnded, IsOnStored, IsKeyed};
+ghost use Rattle.stored_keys.specs.StoredKeys.{stored_key};
 
 use crate::around::Desk;
 use crate::deadlines::is_over;
-use crate::refusing::{NO_ROOM, OVERTAKEN, text_of, told_as};
+use crate::refusing::{KEY_TOO_LONG, NO_ROOM, OVERTAKEN, text_of, told_as};
+use crate::reserve::has_room_for;
 use crate::room::{has_room, may_grow};
 use crate::tally::{Tally, count};
 use far_blob::Blob;
@@ -24,14 +26,16 @@ use key_commands::{Effect, KeyCommand, apply, is_blind};
 use resp::push_failure;
 use std::alloc::{AllocError, Global};
 use std::sync::Wait;
+use stored_keys::{DigestKeys, LONGEST_KEY, put_stored_key};
 
 /// How often a command is tried while others change its key.
 const MOST_TRIES: u32 = 1_000;
 
-/// What is asked of a key, when, and within which bound.
+/// What is asked of a key, when, and within which bound; and under which digest keys it is stored.
 #[derive(Clone, Copy)]
 pub(crate) struct Asking<'a> {
     pub(crate) command: KeyCommand<'a>,
+    pub(crate) digest_keys: DigestKeys,
     /// In milliseconds since 1970.
     pub(crate) now: u64,
     /// The most bytes of a value.
@@ -39,7 +43,7 @@ pub(crate) struct Asking<'a> {
 }
 
 /// Carries the command out on what was found. After want of memory `reply` has what it had.
-fn apply_to(
+fn apply_found(
     asking: Asking<'_>,
     found: Option<&Blob>,
     stored: &mut Vec<u8>,
@@ -62,6 +66,30 @@ fn apply_to(
     ) {
         Ok(effect) => Ok(effect),
         Err(_) => Err(Refusal::Memory),
+    }
+}
+
+/// The same, if behind its reply there is room for so many bytes.
+fn apply_to(
+    asking: Asking<'_>,
+    found: Option<&Blob>,
+    beside: usize,
+    stored: &mut Vec<u8>,
+    reply: &mut Vec<u8>,
+) -> Result<Effect, Refusal>
+    ensures done { IfOk result (λ effect. (r : Token) × (reply.new.items ≡ reply.old.items ++ token r) × Does asking.entry.command asking.entry.now asking.entry.most (lent_value found.entry) r effect stored.new.items) }
+    ensures kept { OnErr result (reply.new.items ≡ reply.old.items) }
+{
+    let before = reply.len();
+    match apply_found(asking, found, stored, reply) {
+        Ok(effect) => {
+            if has_room_for(beside, reply) {
+                return Ok(effect);
+            }
+            reply.truncate(before);
+            Err(Refusal::Memory)
+        }
+        Err(why) => Err(why),
     }
 }
 
@@ -208,7 +236,8 @@ fn try_once<S: Calls<Blob>, R: Wait>(
         asking.command,
         found.is_some() && !is_expired,
     );
-    match apply_to(asking, found.as_ref(), &mut desk.stored, reply) {
+    let beside = desk.beside;
+    match apply_to(asking, found.as_ref(), beside, &mut desk.stored, reply) {
         Ok(effect) => settle(rt, alloc, me, key, found.as_ref(), is_expired, effect, desk),
         Err(why) => Err(why),
     }
@@ -229,7 +258,8 @@ fn set_blindly<S: Calls<Blob>, R: Wait>(
     if !is_blind(asking.command) {
         return Ok(false);
     }
-    match apply_to(asking, None, &mut desk.stored, reply) {
+    let beside = desk.beside;
+    match apply_to(asking, None, beside, &mut desk.stored, reply) {
         Ok(Effect::Sets) => {}
         Ok(_) => return Ok(false),
         Err(why) => return Err(why),
@@ -276,7 +306,22 @@ fn try_often<S: Calls<Blob>, R: Wait>(
     Ok(false)
 }
 
-/// The command on the key of these bytes.
+/// The stored key of a client's key, which is made where a value is made later.
+pub(crate) fn stored_text(
+    alloc: Global,
+    digest_keys: DigestKeys,
+    key: &[u8],
+    desk: &mut Desk,
+) -> Result<Text, Refusal>
+    ensures { IfOk result (λ text. text ≡ stored_key digest_keys key.now) }
+{
+    match put_stored_key(digest_keys, key, &mut desk.stored) {
+        Ok(()) => text(alloc, desk.stored.as_slice()),
+        Err(_) => Err(Refusal::Memory),
+    }
+}
+
+/// The command on the stored key of this key.
 fn try_key<S: Calls<Blob>, R: Wait>(
     rt: &R,
     alloc: Global,
@@ -286,9 +331,9 @@ fn try_key<S: Calls<Blob>, R: Wait>(
     desk: &mut Desk,
     reply: &mut Vec<u8>,
 ) -> Result<bool, Refusal>
-    ensures { (pushed : List ℕ) × (reply.new.items ≡ reply.old.items ++ pushed) × IsEnded S.limits key.now asking.entry.command asking.entry.now asking.entry.most (S.shown me.old) (S.shown me.new) pushed result }
+    ensures { (pushed : List ℕ) × (reply.new.items ≡ reply.old.items ++ pushed) × IsEnded S.limits (stored_key asking.entry.digest_keys key.now) asking.entry.command asking.entry.now asking.entry.most (S.shown me.old) (S.shown me.new) pushed result }
 {
-    match text(alloc, key) {
+    match stored_text(alloc, asking.digest_keys, key, desk) {
         Ok(key) => try_often(rt, alloc, me, &key, asking, desk, reply),
         Err(why) => Err(why),
     }
@@ -313,7 +358,7 @@ fn answer_now<S: Calls<Blob>, R: Wait>(
     desk: &mut Desk,
     reply: &mut Vec<u8>,
 ) -> Result<(), AllocError>
-    ensures done { OnOk result ((r : Token) × (reply.new.items ≡ reply.old.items ++ token r) × IsKeyed S.limits key.now asking.entry.command asking.entry.now asking.entry.most (S.shown me.old) (S.shown me.new) r) }
+    ensures done { OnOk result ((r : Token) × (reply.new.items ≡ reply.old.items ++ token r) × IsOnStored S.limits (stored_key asking.entry.digest_keys key.now) asking.entry.command asking.entry.now asking.entry.most (S.shown me.old) (S.shown me.new) r) }
     ensures kept { OnErr result (reply.new.items ≡ reply.old.items) }
 {
     let before = reply.len();
@@ -338,7 +383,7 @@ fn answer_in_room<S: Calls<Blob>, R: Wait>(
     desk: &mut Desk,
     reply: &mut Vec<u8>,
 ) -> Result<(), AllocError>
-    ensures done { OnOk result ((r : Token) × (reply.new.items ≡ reply.old.items ++ token r) × IsKeyed S.limits key.now asking.entry.command asking.entry.now asking.entry.most (S.shown me.old) (S.shown me.new) r) }
+    ensures done { OnOk result ((r : Token) × (reply.new.items ≡ reply.old.items ++ token r) × IsOnStored S.limits (stored_key asking.entry.digest_keys key.now) asking.entry.command asking.entry.now asking.entry.most (S.shown me.old) (S.shown me.new) r) }
     ensures kept { OnErr result (reply.new.items ≡ reply.old.items) }
 {
     if has_room(rt, me, desk) {
@@ -346,6 +391,26 @@ fn answer_in_room<S: Calls<Blob>, R: Wait>(
     }
     count(&mut desk.tally.refused_memory);
     push_failure(reply, NO_ROOM)
+}
+
+/// Carries out a command on a key that is short enough to be stored.
+fn answer_short<S: Calls<Blob>, R: Wait>(
+    rt: &R,
+    alloc: Global,
+    me: &mut S,
+    key: &[u8],
+    asking: Asking<'_>,
+    desk: &mut Desk,
+    reply: &mut Vec<u8>,
+) -> Result<(), AllocError>
+    ensures done { OnOk result ((r : Token) × (reply.new.items ≡ reply.old.items ++ token r) × IsOnStored S.limits (stored_key asking.entry.digest_keys key.now) asking.entry.command asking.entry.now asking.entry.most (S.shown me.old) (S.shown me.new) r) }
+    ensures kept { OnErr result (reply.new.items ≡ reply.old.items) }
+{
+    if may_grow(asking.command) {
+        answer_in_room(rt, alloc, me, key, asking, desk, reply)
+    } else {
+        answer_now(rt, alloc, me, key, asking, desk, reply)
+    }
 }
 
 /// Carries out a command on a key, and pushes its reply: one token. After want of memory `reply` has what it had.
@@ -358,12 +423,11 @@ pub(crate) fn answer_key<S: Calls<Blob>, R: Wait>(
     desk: &mut Desk,
     reply: &mut Vec<u8>,
 ) -> Result<(), AllocError>
-    ensures done { OnOk result ((r : Token) × (reply.new.items ≡ reply.old.items ++ token r) × IsKeyed S.limits key.now asking.entry.command asking.entry.now asking.entry.most (S.shown me.old) (S.shown me.new) r) }
+    ensures done { OnOk result ((r : Token) × (reply.new.items ≡ reply.old.items ++ token r) × IsKeyed S.limits asking.entry.digest_keys key.now asking.entry.command asking.entry.now asking.entry.most (S.shown me.old) (S.shown me.new) r) }
     ensures kept { OnErr result (reply.new.items ≡ reply.old.items) }
 {
-    if may_grow(asking.command) {
-        answer_in_room(rt, alloc, me, key, asking, desk, reply)
-    } else {
-        answer_now(rt, alloc, me, key, asking, desk, reply)
+    if key.len() > LONGEST_KEY {
+        return push_failure(reply, KEY_TOO_LONG);
     }
+    answer_short(rt, alloc, me, key, asking, desk, reply)
 }

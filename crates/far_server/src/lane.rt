@@ -48,7 +48,7 @@ fn serve_frames<S: Calls<Blob>, C: Clock, R: Wait, I: BufRead + Drop, O: Write +
 ) -> Result<(Pause, Holds), LaneFault>
     requires { HasStood I.remaining O.contents wire.old holds }
     ensures same_reference { OnOk result (server.new.me.ghost_name ≡ server.old.me.ghost_name) }
-    ensures went_on { IfOk result (λ left. GoesOnBy (WireTells I.remaining O.contents) (Acts S.limits server.old.around.now.settings.now.password server.old.around.now.settings.now.bounds) wire.old.limits wire.old wire.new
+    ensures went_on { IfOk result (λ left. GoesOnBy (WireTells I.remaining O.contents) (Acts S.limits server.old.around.now.settings.now.digest_keys server.old.around.now.settings.now.password server.old.around.now.settings.now.bounds) wire.old.limits wire.old wire.new
         (lane_of server.old.around.now.settings.now.password (S.shown server.old.me.now) server.old.kept.connections.entries) (lane_of server.old.around.now.settings.now.password (S.shown server.new.me.now) server.new.kept.connections.entries) holds left.1) }
     ensures whole { OnOk result (wire.new.broken ≡ false) }
     ensures limits { OnOk result (wire.new.limits ≡ wire.old.limits) }
@@ -62,7 +62,7 @@ fn serve<S: Calls<Blob>, C: Clock, R: Wait, I: BufRead + Drop, O: Write + Drop>(
     me: &mut S,
     left: LeftLane<I, O>,
 ) -> WorkerState<I, O>
-    ensures { GoesOn I.remaining O.contents S.limits around.now.settings.now.password around.now.settings.now.bounds (S.shown me.old) (S.shown me.new) left result }
+    ensures { GoesOn I.remaining O.contents S.limits around.now.settings.now.digest_keys around.now.settings.now.password around.now.settings.now.bounds (S.shown me.old) (S.shown me.new) left result }
 {
     let LeftLane {
         mut wire,

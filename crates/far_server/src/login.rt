@@ -1,14 +1,16 @@
 //! Who may ask.
-ghost use Rattle.std.specs.Prelude.{◌≡◌, ◌⊎◌, ◌++◌, true, List, ℕ, MatchBool, MatchOption, IsTrue, OnOk};
+ghost use Rattle.std.specs.Prelude.{◌≡◌, ◌⊎◌, ◌++◌, true, List, ℕ, MatchBool, MatchOption, IsTrue, OnOk, OnErr};
 ghost use Rattle.std.specs.List.{flat_map};
 ghost use Rattle.resp.specs.Replies.{Token, token};
 ghost use Rattle.commands.specs.Arguments.{listed};
 ghost use Rattle.far_server.specs.Logins.{IsLogin, IsRight, AreShort, HasLong, IsModest, Exceeds};
 
 use crate::connection::Connection;
+use crate::refusing::text_of;
 use crate::settings::ServerSettings;
 use crate::single::{push_one_failure, push_one_simple};
 use commands::{Arguments, Greeting, Login};
+use far_map::Refusal;
 use sha2::{Digest, Sha256};
 use std::alloc::AllocError;
 
@@ -94,6 +96,7 @@ pub(crate) fn answer_auth(
     reply: &mut Vec<u8>,
 ) -> Result<(), AllocError>
     ensures said { OnOk result ((rs : List Token) × (reply.new.items ≡ reply.old.items ++ flat_map token rs)) }
+    ensures kept { OnErr result (reply.new.items ≡ reply.old.items) }
     ensures login { connection.new.passed ≡ true → (connection.old.passed ≡ true) ⊎ IsLogin settings.now.password login.entry.password.now }
     ensures queue { connection.new.queue ≡ connection.old.queue }
 {
@@ -115,6 +118,7 @@ pub(crate) fn answer_hello(
     reply: &mut Vec<u8>,
 ) -> Result<(), AllocError>
     ensures said { OnOk result ((rs : List Token) × (reply.new.items ≡ reply.old.items ++ flat_map token rs)) }
+    ensures kept { OnErr result (reply.new.items ≡ reply.old.items) }
     ensures login { connection.new.passed ≡ true → (connection.old.passed ≡ true) ⊎ IsRight settings.now.password greeting.entry.login }
     ensures queue { connection.new.queue ≡ connection.old.queue }
 {
@@ -128,8 +132,10 @@ pub(crate) fn answer_hello(
         return push_one_failure(reply, NO_LOGIN_OF_HELLO);
     }
     if let Some(name) = greeting.name {
-        if !connection.set_name(name)? {
-            return push_one_failure(reply, LONG_NAME);
+        match connection.set_name(name) {
+            Ok(true) => {}
+            Ok(false) => return push_one_failure(reply, LONG_NAME),
+            Err(_) => return push_one_failure(reply, text_of(Refusal::Memory)),
         }
     }
     server_commands::hello(connection.id, reply)
@@ -142,12 +148,13 @@ pub(crate) fn answer_set_name(
     reply: &mut Vec<u8>,
 ) -> Result<(), AllocError>
     ensures said { OnOk result ((rs : List Token) × (reply.new.items ≡ reply.old.items ++ flat_map token rs)) }
+    ensures kept { OnErr result (reply.new.items ≡ reply.old.items) }
     ensures passed { connection.new.passed ≡ connection.old.passed }
     ensures queue { connection.new.queue ≡ connection.old.queue }
 {
-    if connection.set_name(name)? {
-        push_one_simple(reply, b"OK")
-    } else {
-        push_one_failure(reply, LONG_NAME)
+    match connection.set_name(name) {
+        Ok(true) => push_one_simple(reply, b"OK"),
+        Ok(false) => push_one_failure(reply, LONG_NAME),
+        Err(_) => push_one_failure(reply, text_of(Refusal::Memory)),
     }
 }

@@ -4,22 +4,25 @@ ghost use Rattle.std.specs.List.{flat_map};
 ghost use Rattle.resp.specs.Replies.{Token, Failure, token};
 ghost use Rattle.commands.specs.Arguments.{listed};
 ghost use Rattle.version_words.specs.Views.{Goes};
-ghost use Rattle.far_server.specs.Bounds.{too_large};
 ghost use Rattle.far_server.specs.Keyed.{IsKeyed};
 ghost use Rattle.far_server.specs.Many.{one, none, ok, counted, IsCountedEach, IsListedIfShort, IsSetEach};
 
 use crate::around::Desk;
-use crate::bound::{may_grow_to, push_too_large};
-use crate::keyed::{Asking, answer_key};
+use crate::bound::{TOO_LARGE, may_grow_to};
+use crate::keyed::{Asking, answer_key, stored_text};
+use crate::refusing::text_of;
+use crate::reserve::has_room_for_short;
+use crate::single::push_one_failure;
 use commands::{Arguments, Change, Lifetime, Where};
 use far_blob::Blob;
-use far_map::{Calls, text};
+use far_map::{Calls, Refusal};
 use far_object::Text;
 use hash_table::MOST_PREFETCHED;
 use key_commands::KeyCommand;
 use resp::{push_count, push_number, push_simple};
 use std::alloc::{AllocError, Global};
 use std::sync::Wait;
+use stored_keys::DigestKeys;
 
 /// What a command replies to a key that it counts.
 const ONE: &[u8] = b":1\r\n";
@@ -66,15 +69,21 @@ fn counted(is_one: bool, count: u64) -> u64
     }
 }
 
-/// The next keys, each so many arguments behind the one before: as many as a prefetch takes, and memory is there for.
-fn next_keys(alloc: Global, rest: Arguments<'_>, step: usize) -> Vec<Text> {
+/// The stored keys of the next keys, each so many arguments behind the one before: as many as a prefetch takes, and memory is there for.
+fn next_keys(
+    alloc: Global,
+    rest: Arguments<'_>,
+    step: usize,
+    digest_keys: DigestKeys,
+    desk: &mut Desk,
+) -> Vec<Text> {
     let mut keys = Vec::new(alloc);
     let mut at: usize = 0;
     for _ in 0..MOST_PREFETCHED {
         let Some(key) = rest.get(at) else {
             break;
         };
-        let Ok(key) = text(alloc, key) else {
+        let Ok(key) = stored_text(alloc, digest_keys, key, desk) else {
             break;
         };
         if keys.push(key).is_err() {
@@ -93,13 +102,15 @@ fn look_ahead<S: Calls<Blob>>(
     all: usize,
     step: usize,
     rest: Arguments<'_>,
+    digest_keys: DigestKeys,
+    desk: &mut Desk,
 )
     ensures { Goes (S.shown me.old).pass (S.shown me.new).pass }
 {
     let left = rest.len();
     let is_due = left == all || left % MOST_PREFETCHED.saturating_mul(step).max(1) == 0;
     if is_due && left > step {
-        me.prefetch(next_keys(alloc, rest, step).as_slice());
+        me.prefetch(next_keys(alloc, rest, step, digest_keys, desk).as_slice());
     }
 }
 
@@ -116,10 +127,10 @@ fn answer_next<S: Calls<Blob>, R: Wait>(
     desk: &mut Desk,
     reply: &mut Vec<u8>,
 ) -> Result<(), AllocError>
-    ensures done { OnOk result ((r : Token) × (reply.new.items ≡ reply.old.items ++ token r) × IsKeyed S.limits key.now asking.entry.command asking.entry.now asking.entry.most (S.shown me.old) (S.shown me.new) r) }
+    ensures done { OnOk result ((r : Token) × (reply.new.items ≡ reply.old.items ++ token r) × IsKeyed S.limits asking.entry.digest_keys key.now asking.entry.command asking.entry.now asking.entry.most (S.shown me.old) (S.shown me.new) r) }
     ensures kept { OnErr result (reply.new.items ≡ reply.old.items) }
 {
-    look_ahead(alloc, me, all, step, rest);
+    look_ahead(alloc, me, all, step, rest, asking.digest_keys, desk);
     answer_key(rt, alloc, me, key, asking, desk, reply)
 }
 
@@ -134,7 +145,7 @@ pub(crate) fn count_keys<S: Calls<Blob>, R: Wait>(
     desk: &mut Desk,
     reply: &mut Vec<u8>,
 ) -> Result<(), AllocError>
-    ensures { OnOk result ((r : Token) × (reply.new.items ≡ reply.old.items ++ token r) × IsCountedEach S.limits asking.entry.now asking.entry.most asking.entry.command (listed keys.entry) (S.shown me.old) (S.shown me.new) r) }
+    ensures { OnOk result ((r : Token) × (reply.new.items ≡ reply.old.items ++ token r) × IsCountedEach S.limits asking.entry.digest_keys asking.entry.now asking.entry.most asking.entry.command (listed keys.entry) (S.shown me.old) (S.shown me.new) r) }
 {
     let before = reply.len();
     let mut count: u64 = 0;
@@ -154,16 +165,16 @@ pub(crate) fn count_keys<S: Calls<Blob>, R: Wait>(
     push_number(reply, count as i64)
 }
 
-/// Replies an error in place of the replies to some keys, which are longer than the limit with one more value.
-fn take_back(before: usize, reply: &mut Vec<u8>) -> Result<(), AllocError>
-    ensures { OnOk result (reply.new.items ≡ take before reply.old.items ++ flat_map token (Failure too_large ∷ [])) }
+/// Replies an error in place of the replies to some keys.
+fn take_back(before: usize, text: &[u8], reply: &mut Vec<u8>) -> Result<(), AllocError>
+    ensures { OnOk result (reply.new.items ≡ take before reply.old.items ++ flat_map token (Failure text.now ∷ [])) }
 {
     reply.truncate(before);
-    push_too_large(reply)
+    push_one_failure(reply, text)
 }
 
 /// GET of each key: their replies in an array, of which some may be errors; or the error that the array would be too large, where at some
-/// key `limit` has no room for one more value.
+/// key `limit` has no room for one more value; or that there is no memory, where the system refuses it for a short reply more.
 pub(crate) fn get_keys<S: Calls<Blob>, R: Wait>(
     rt: &R,
     alloc: Global,
@@ -174,7 +185,7 @@ pub(crate) fn get_keys<S: Calls<Blob>, R: Wait>(
     desk: &mut Desk,
     reply: &mut Vec<u8>,
 ) -> Result<(), AllocError>
-    ensures { OnOk result ((rs : List Token) × (reply.new.items ≡ reply.old.items ++ flat_map token rs) × IsListedIfShort S.limits asking.entry.now asking.entry.most asking.entry.command limit (listed keys.entry) (S.shown me.old) (S.shown me.new) rs) }
+    ensures { OnOk result ((rs : List Token) × (reply.new.items ≡ reply.old.items ++ flat_map token rs) × IsListedIfShort S.limits asking.entry.digest_keys asking.entry.now asking.entry.most asking.entry.command limit (listed keys.entry) (S.shown me.old) (S.shown me.new) rs) }
 {
     let before = reply.len();
     match push_count(reply, keys.len()) {
@@ -185,7 +196,10 @@ pub(crate) fn get_keys<S: Calls<Blob>, R: Wait>(
     while let Some((key, behind)) = rest.split_first() {
         let used = reply.len() - before;
         if !may_grow_to(limit, used, asking.most) {
-            return take_back(before, reply);
+            return take_back(before, TOO_LARGE, reply);
+        }
+        if !has_room_for_short(desk.beside, reply) {
+            return take_back(before, text_of(Refusal::Memory), reply);
         }
         match answer_next(rt, alloc, me, key, keys.len(), 1, rest, asking, desk, reply) {
             Ok(()) => {}
@@ -218,12 +232,13 @@ pub(crate) fn set_pairs<S: Calls<Blob>, R: Wait>(
     alloc: Global,
     me: &mut S,
     pairs: Arguments<'_>,
+    digest_keys: DigestKeys,
     now: u64,
     most: u32,
     desk: &mut Desk,
     reply: &mut Vec<u8>,
 ) -> Result<(), AllocError>
-    ensures { OnOk result ((r : Token) × (reply.new.items ≡ reply.old.items ++ token r) × IsSetEach S.limits now most (listed pairs.entry) (S.shown me.old) (S.shown me.new) r) }
+    ensures { OnOk result ((r : Token) × (reply.new.items ≡ reply.old.items ++ token r) × IsSetEach S.limits digest_keys now most (listed pairs.entry) (S.shown me.old) (S.shown me.new) r) }
 {
     let before = reply.len();
     let mut rest = pairs;
@@ -232,7 +247,12 @@ pub(crate) fn set_pairs<S: Calls<Blob>, R: Wait>(
             value,
             change: PLAIN,
         };
-        let asking = Asking { command, now, most };
+        let asking = Asking {
+            command,
+            digest_keys,
+            now,
+            most,
+        };
         match answer_next(
             rt,
             alloc,

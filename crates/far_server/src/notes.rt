@@ -9,13 +9,15 @@ const SYNC: &[u8] = b"sync ";
 
 const SYNCED: &[u8] = b"synced ";
 
-/// What the gateway tells of its clients, each behind a word: how many it refused, how many it closed to keep to the clients' part of
-/// the memory, and how many bytes they have it and the lanes keep.
+/// What the gateway tells, each behind a word: how many clients it refused, how many it closed to keep to the clients' part of the
+/// memory, how many bytes they have it and the lanes keep, and how many bytes of memory it and the server have.
 const REJECTED: &[u8] = b"rejected_connections ";
 
 const EVICTED: &[u8] = b"clients_closed ";
 
 const MEMORY: &[u8] = b"clients_memory ";
+
+const RESIDENT: &[u8] = b"resident_bytes ";
 
 /// The number that this text spells. None where it is no number, or one of more than 64 bits.
 fn number_in(text: &[u8]) -> Option<u64> {
@@ -40,6 +42,7 @@ pub(crate) fn take_note(
         (REJECTED, &told.rejected),
         (EVICTED, &told.evicted),
         (MEMORY, &told.memory),
+        (RESIDENT, &told.resident),
     ] {
         if let Some(number) = text.strip_prefix(word).and_then(number_in) {
             place.store(number, Ordering::SeqCst);

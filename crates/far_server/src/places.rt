@@ -1,17 +1,21 @@
 //! The connections of a lane, each found by its number.
-ghost use Rattle.std.specs.Prelude.{◌≡◌, ◌≢◌, ◌++◌, ℕ, List, Bool, IfOk, OnOk};
+ghost use Rattle.std.specs.Prelude.{◌≡◌, ◌≢◌, ◌++◌, ◌∷◌, [], ℕ, List, Bool, IfOk, OnOk};
 ghost use Rattle.std.specs.List.{flat_map};
-ghost use Rattle.resp.specs.Replies.{Token, token};
+ghost use Rattle.resp.specs.Replies.{Token, Failure, token};
 ghost use Rattle.commands.specs.Arguments.{listed};
+ghost use Rattle.far_server.specs.Logins.{Exceeds};
 ghost use Rattle.far_server.specs.Answers.{Known, known_at, new_known, IsAdmission, IsAnswered};
 
 use crate::answering::answer_request;
 use crate::around::{Around, Desk};
 use crate::connection::Connection;
+use crate::login::excess_of;
+use crate::refusing::text_of;
+use crate::single::push_one_failure;
 use crate::tally::count;
 use commands::Arguments;
 use far_blob::Blob;
-use far_map::Calls;
+use far_map::{Calls, Refusal};
 use lanes::Next;
 use std::alloc::{AllocError, Global};
 use std::collections::BTreeMap;
@@ -57,6 +61,16 @@ pub(crate) fn forget(connections: &mut BTreeMap<u64, Connection>, number: u64) -
     connections.remove(&number).is_some()
 }
 
+/// Refuses a request of a connection that there was no memory for, or for what else is wrong with one of who has to log in first.
+fn refuse(request: Arguments<'_>, reply: &mut Vec<u8>) -> Result<(), AllocError>
+    ensures { OnOk result ((text : List ℕ) × (reply.new.items ≡ reply.old.items ++ flat_map token (Failure text ∷ [])) × ((other : List ℕ) → Exceeds (listed request.entry) other → other ≡ text)) }
+{
+    match excess_of(request) {
+        Some(text) => push_one_failure(reply, text),
+        None => push_one_failure(reply, text_of(Refusal::Memory)),
+    }
+}
+
 /// What the lane does behind a request: whoever might not ask before and may now is let in, and the other way round.
 fn turned(might: bool, may: bool, next: Next) -> Next
     ensures { IsAdmission might may result }
@@ -75,7 +89,7 @@ fn turned(might: bool, may: bool, next: Next) -> Next
     }
 }
 
-/// Answers a request of the connection of this number, which has a place.
+/// Answers a request of the connection of this number. One without a place is closed: there was no memory for it as it came.
 pub(crate) fn answer_at<S: Calls<Blob>, C: Clock, R: Wait>(
     around: &Around<'_, C, R>,
     me: &mut S,
@@ -85,7 +99,7 @@ pub(crate) fn answer_at<S: Calls<Blob>, C: Clock, R: Wait>(
     request: Arguments<'_>,
     reply: &mut Vec<u8>,
 ) -> Result<Next, AllocError>
-    ensures answered { OnOk result ((rs : List Token) × (reply.new.items ≡ reply.old.items ++ flat_map token rs) × ((e : Known) → IsAnswered S.limits around.now.settings.now.password around.now.settings.now.bounds (known_at connections.old.entries number e) (known_at connections.new.entries number e) (listed request.entry) (S.shown me.old) (S.shown me.new) rs)) }
+    ensures answered { OnOk result ((rs : List Token) × (reply.new.items ≡ reply.old.items ++ flat_map token rs) × ((e : Known) → IsAnswered S.limits around.now.settings.now.digest_keys around.now.settings.now.password around.now.settings.now.bounds (known_at connections.old.entries number e) (known_at connections.new.entries number e) (listed request.entry) (S.shown me.old) (S.shown me.new) rs)) }
     ensures told { IfOk result (λ next. (e : Known) → IsAdmission (known_at connections.old.entries number e).passed (known_at connections.new.entries number e).passed next) }
     ensures others { (d : ℕ) (e : Known) → d ≢ number → known_at connections.new.entries d e ≡ known_at connections.old.entries d e }
 {
@@ -98,7 +112,9 @@ pub(crate) fn answer_at<S: Calls<Blob>, C: Clock, R: Wait>(
                 Err(refused) => Err(refused),
             }
         }
-        // The lane opens each connection before it hands a request of it over.
-        None => Err(AllocError),
+        None => match refuse(request, reply) {
+            Ok(()) => Ok(Next::End),
+            Err(refused) => Err(refused),
+        },
     }
 }

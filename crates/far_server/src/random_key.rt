@@ -2,15 +2,16 @@
 //!
 //! Buckets are drawn until one has a key, and one of its keys is drawn. So where most buckets have none or one, each key is drawn about as
 //! often as any other; where a bucket has several, each of them is drawn less often. Nothing is proved of how often.
-ghost use Rattle.std.specs.Prelude.{◌≡◌, ◌<◌, ◌≤◌, ◌++◌, ℕ, List, OnOk};
+ghost use Rattle.std.specs.Prelude.{◌≡◌, ◌<◌, ◌≤◌, ◌++◌, ℕ, List, OnOk, OnErr};
 ghost use Rattle.std.specs.List.{flat_map};
 ghost use Rattle.resp.specs.Replies.{Token, token};
 ghost use Rattle.version_words.specs.Views.{Goes};
+ghost use Rattle.far_server.specs.Lists.{IsToldOne};
 
 use crate::around::{Around, Desk};
 use crate::refusing::text_of;
-use crate::single::{push_one_failure, push_one_nothing, push_one_string};
-use crate::visiting::keys_in;
+use crate::single::{push_one_failure, push_one_nothing};
+use crate::visiting::{keys_in, push_key};
 use far_blob::Blob;
 use far_map::{Calls, Refusal};
 use far_object::Text;
@@ -113,17 +114,18 @@ fn drawn_keys<S: Calls<Blob>, R: Wait>(
     keys_from(rt, alloc, me, first, now)
 }
 
-/// One of the keys, drawn; nothing where there is none.
+/// The client's key of one of the keys, drawn; nothing where there is none.
 fn push_drawn(draws: &mut SmallRng, keys: &[Text], reply: &mut Vec<u8>) -> Result<(), AllocError>
-    ensures { OnOk result ((rs : List Token) × (reply.new.items ≡ reply.old.items ++ flat_map token rs)) }
+    ensures told { OnOk result ((rs : List Token) × (reply.new.items ≡ reply.old.items ++ flat_map token rs) × IsToldOne keys.now rs) }
+    ensures kept { OnErr result (reply.new.items ≡ reply.old.items) }
 {
     match keys.choose(draws) {
-        Some(key) => push_one_string(reply, key.as_bytes()),
+        Some(key) => push_key(reply, key),
         None => push_one_nothing(reply),
     }
 }
 
-/// Answers RANDOMKEY.
+/// Answers RANDOMKEY. After want of memory `reply` has what it had.
 pub(crate) fn answer_random_key<S: Calls<Blob>, C, R: Wait>(
     around: &Around<'_, C, R>,
     me: &mut S,
@@ -133,6 +135,7 @@ pub(crate) fn answer_random_key<S: Calls<Blob>, C, R: Wait>(
 ) -> Result<(), AllocError>
     ensures goes { Goes (S.shown me.old).pass (S.shown me.new).pass }
     ensures said { OnOk result ((rs : List Token) × (reply.new.items ≡ reply.old.items ++ flat_map token rs)) }
+    ensures kept { OnErr result (reply.new.items ≡ reply.old.items) }
 {
     let mut draws = match desk.draws.take() {
         Some(draws) => draws,

@@ -11,6 +11,9 @@ pub(crate) const OVERTAKEN: &[u8] = b"ERR the key is changed by others all the t
 /// The reply where memory is full, and objects can't be swapped out.
 pub(crate) const NO_ROOM: &[u8] = b"OOM command not allowed when used memory > 'maxmemory'.";
 
+/// The reply where a key has more bytes than one that is stored.
+pub(crate) const KEY_TOO_LONG: &[u8] = b"ERR key is too long";
+
 /// How a refusal is told. Where no device keeps anything, that it takes no object means that memory is full.
 pub(crate) fn told_as(why: Refusal, is_far: bool) -> Refusal
     ensures told { IsTold why result }

@@ -1,9 +1,10 @@
 //! A command is run.
-ghost use Rattle.std.specs.Prelude.{◌≡◌, ◌++◌, ℕ, List, OnOk, IfOk};
+ghost use Rattle.std.specs.Prelude.{◌≡◌, ◌++◌, ℕ, List, OnOk, OnErr, IfOk};
 ghost use Rattle.std.specs.List.{flat_map};
 ghost use Rattle.resp.specs.Replies.{Token, token};
 ghost use Rattle.commands.specs.Arguments.{listed};
 ghost use Rattle.commands.specs.Commands.{Spells};
+ghost use Rattle.version_words.specs.Views.{Goes};
 ghost use Rattle.far_server.specs.Runs.{IsOfKeys, IsOther, IsRunAs, IsRequest};
 
 use crate::around::{Around, Desk};
@@ -11,16 +12,21 @@ use crate::connection::Connection;
 use crate::keyed::{Asking, answer_key};
 use crate::many::{count_keys, get_keys, set_pairs};
 use crate::random_key::answer_random_key;
-use crate::single::{push_one_fault, push_one_number, push_one_simple, push_one_string};
+use crate::refusing::text_of;
+use crate::reserve::has_room_for;
+use crate::single::{
+    push_one_failure, push_one_fault, push_one_number, push_one_simple, push_one_string,
+};
 use crate::telling::{answer_server, keys};
 use crate::visiting::{answer_flush, answer_scan};
 use commands::{Arguments, Command, Fault, OfKeys, OfNothing, ServerCommand};
 use far_blob::Blob;
-use far_map::Calls;
+use far_map::{Calls, Refusal};
 use key_commands::{KeyCommand, on_one_key};
 use std::alloc::{AllocError, Global};
 use std::rt::Clock;
 use std::sync::Wait;
+use stored_keys::DigestKeys;
 
 /// A command on these keys.
 fn run_keys<S: Calls<Blob>, R: Wait>(
@@ -29,26 +35,30 @@ fn run_keys<S: Calls<Blob>, R: Wait>(
     me: &mut S,
     of: OfKeys,
     keys: Arguments<'_>,
+    digest_keys: DigestKeys,
     now: u64,
     most: u32,
     limit: usize,
     desk: &mut Desk,
     reply: &mut Vec<u8>,
 ) -> Result<(), AllocError>
-    ensures { OnOk result ((rs : List Token) × (reply.new.items ≡ reply.old.items ++ flat_map token rs) × IsOfKeys S.limits now most limit of (listed keys.entry) (S.shown me.old) (S.shown me.new) rs) }
+    ensures { OnOk result ((rs : List Token) × (reply.new.items ≡ reply.old.items ++ flat_map token rs) × IsOfKeys S.limits digest_keys now most limit of (listed keys.entry) (S.shown me.old) (S.shown me.new) rs) }
 {
     let deletes = Asking {
         command: KeyCommand::Delete,
+        digest_keys,
         now,
         most,
     };
     let looks = Asking {
         command: KeyCommand::Exists,
+        digest_keys,
         now,
         most,
     };
     let gets = Asking {
         command: KeyCommand::Get,
+        digest_keys,
         now,
         most,
     };
@@ -59,6 +69,59 @@ fn run_keys<S: Calls<Blob>, R: Wait>(
         OfKeys::Touch => count_keys(rt, alloc, me, keys, looks, desk, reply),
         OfKeys::MGet => get_keys(rt, alloc, me, keys, gets, limit, desk, reply),
     }
+}
+
+/// A command that changes no key. After want of memory `reply` has what it had.
+fn answer_at_hand<S: Calls<Blob>, C: Clock, R: Wait>(
+    around: &Around<'_, C, R>,
+    me: &mut S,
+    connection: &mut Connection,
+    desk: &mut Desk,
+    command: Command<'_>,
+    now: u64,
+    reply: &mut Vec<u8>,
+) -> Result<(), AllocError>
+    ensures goes { Goes (S.shown me.old).pass (S.shown me.new).pass }
+    ensures said { OnOk result ((rs : List Token) × (reply.new.items ≡ reply.old.items ++ flat_map token rs)) }
+    ensures kept { OnErr result (reply.new.items ≡ reply.old.items) }
+    ensures queue { connection.new.queue ≡ connection.old.queue }
+{
+    match command {
+        Command::Nothing(OfNothing::DbSize) => push_one_number(reply, keys(around)),
+        Command::Nothing(OfNothing::RandomKey) => answer_random_key(around, me, desk, now, reply),
+        Command::Ping(None) => push_one_simple(reply, b"PONG"),
+        Command::Ping(Some(text)) => push_one_string(reply, text),
+        Command::Echo(text) => push_one_string(reply, text),
+        Command::Server(command) => answer_server(around, me, connection, command, now, reply),
+        _ => push_one_simple(reply, b"OK"),
+    }
+}
+
+/// The same; where memory is refused for the reply, or for what it leaves free, the reply is that.
+fn answer_or_refuse<S: Calls<Blob>, C: Clock, R: Wait>(
+    around: &Around<'_, C, R>,
+    me: &mut S,
+    connection: &mut Connection,
+    desk: &mut Desk,
+    command: Command<'_>,
+    now: u64,
+    reply: &mut Vec<u8>,
+) -> Result<(), AllocError>
+    ensures goes { Goes (S.shown me.old).pass (S.shown me.new).pass }
+    ensures said { OnOk result ((rs : List Token) × (reply.new.items ≡ reply.old.items ++ flat_map token rs)) }
+    ensures queue { connection.new.queue ≡ connection.old.queue }
+{
+    let before = reply.len();
+    match answer_at_hand(around, me, connection, desk, command, now, reply) {
+        Ok(()) => {
+            if has_room_for(desk.beside, reply) {
+                return Ok(());
+            }
+            reply.truncate(before);
+        }
+        Err(_) => {}
+    }
+    push_one_failure(reply, text_of(Refusal::Memory))
 }
 
 /// A command on several keys, or on none.
@@ -72,25 +135,42 @@ fn run_other<S: Calls<Blob>, C: Clock, R: Wait>(
     limit: usize,
     reply: &mut Vec<u8>,
 ) -> Result<(), AllocError>
-    ensures ran { OnOk result ((rs : List Token) × (reply.new.items ≡ reply.old.items ++ flat_map token rs) × IsOther S.limits now around.now.settings.now.bounds.longest_value limit command.entry (S.shown me.old) (S.shown me.new) rs) }
+    ensures ran { OnOk result ((rs : List Token) × (reply.new.items ≡ reply.old.items ++ flat_map token rs) × IsOther S.limits around.now.settings.now.digest_keys now around.now.settings.now.bounds.longest_value limit command.entry (S.shown me.old) (S.shown me.new) rs) }
     ensures queue { connection.new.queue ≡ connection.old.queue }
 {
     let (rt, alloc) = (around.rt, around.alloc);
     let most = around.settings.bounds.longest_value;
+    let digest_keys = around.settings.digest_keys;
     match command {
-        Command::Keys(of, keys) => run_keys(rt, alloc, me, of, keys, now, most, limit, desk, reply),
-        Command::SetMany(pairs) => set_pairs(rt, alloc, me, pairs, now, most, desk, reply),
-        Command::Nothing(OfNothing::DbSize) => push_one_number(reply, keys(around)),
-        Command::Nothing(OfNothing::RandomKey) => answer_random_key(around, me, desk, now, reply),
-        Command::Ping(None) => push_one_simple(reply, b"PONG"),
-        Command::Ping(Some(text)) => push_one_string(reply, text),
-        Command::Echo(text) => push_one_string(reply, text),
+        Command::Keys(of, keys) => run_keys(
+            rt,
+            alloc,
+            me,
+            of,
+            keys,
+            digest_keys,
+            now,
+            most,
+            limit,
+            desk,
+            reply,
+        ),
+        Command::SetMany(pairs) => set_pairs(
+            rt,
+            alloc,
+            me,
+            pairs,
+            digest_keys,
+            now,
+            most,
+            desk,
+            reply,
+        ),
         Command::Server(ServerCommand::Scan(scan)) => {
-            answer_scan(rt, alloc, me, scan, now, reply)
+            answer_scan(rt, alloc, me, scan, now, desk.beside, reply)
         }
         Command::Server(ServerCommand::Flush) => answer_flush(rt, alloc, me, desk, reply),
-        Command::Server(command) => answer_server(around, me, connection, command, now, reply),
-        _ => push_one_simple(reply, b"OK"),
+        _ => answer_or_refuse(around, me, connection, desk, command, now, reply),
     }
 }
 
@@ -105,13 +185,18 @@ fn run_command<S: Calls<Blob>, C: Clock, R: Wait>(
     limit: usize,
     reply: &mut Vec<u8>,
 ) -> Result<(), AllocError>
-    ensures ran { OnOk result ((rs : List Token) × (reply.new.items ≡ reply.old.items ++ flat_map token rs) × IsRunAs S.limits now around.now.settings.now.bounds.longest_value limit command.entry (S.shown me.old) (S.shown me.new) rs) }
+    ensures ran { OnOk result ((rs : List Token) × (reply.new.items ≡ reply.old.items ++ flat_map token rs) × IsRunAs S.limits around.now.settings.now.digest_keys now around.now.settings.now.bounds.longest_value limit command.entry (S.shown me.old) (S.shown me.new) rs) }
     ensures queue { connection.new.queue ≡ connection.old.queue }
 {
     match on_one_key(command) {
         Some((key, command)) => {
             let most = around.settings.bounds.longest_value;
-            let asking = Asking { command, now, most };
+            let asking = Asking {
+                command,
+                digest_keys: around.settings.digest_keys,
+                now,
+                most,
+            };
             answer_key(around.rt, around.alloc, me, key, asking, desk, reply)
         }
         None => run_other(around, me, connection, desk, command, now, limit, reply),
@@ -131,12 +216,12 @@ pub(crate) fn run<S: Calls<Blob>, C: Clock, R: Wait>(
     reply: &mut Vec<u8>,
 ) -> Result<(), AllocError>
     requires { IfOk asked (λ c. Spells (listed request) c) }
-    ensures ran { OnOk result ((rs : List Token) × (reply.new.items ≡ reply.old.items ++ flat_map token rs) × IsRequest S.limits around.now.settings.now.bounds.longest_value limit (listed request.entry) (S.shown me.old) (S.shown me.new) rs) }
+    ensures ran { OnOk result ((rs : List Token) × (reply.new.items ≡ reply.old.items ++ flat_map token rs) × IsRequest S.limits around.now.settings.now.digest_keys around.now.settings.now.bounds.longest_value limit (listed request.entry) (S.shown me.old) (S.shown me.new) rs) }
     ensures queue { connection.new.queue ≡ connection.old.queue }
 {
     let _ = request;
     match asked {
         Ok(command) => run_command(around, me, connection, desk, command, now, limit, reply),
-        Err(fault) => push_one_fault(reply, fault),
+        Err(fault) => push_one_fault(reply, fault, desk.beside),
     }
 }

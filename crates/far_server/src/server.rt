@@ -136,16 +136,13 @@ impl<'a, S: Calls<Blob>, C: Clock, R: Wait> Server<'a, S, C, R, Kept> {
 impl<'a, S: Calls<Blob>, C: Clock, R: Wait> Service for Server<'a, S, C, R, Kept> {
     ghost use Rattle.far_server.specs.Services.{lane_of, Acts};
 
-    ghost does = { λ s call t. (t.me.ghost_name ≡ s.me.ghost_name) × (t.around.now ≡ s.around.now) × Acts S.limits s.around.now.settings.now.password s.around.now.settings.now.bounds (lane_of s.around.now.settings.now.password (S.shown s.me.now) s.kept.connections.entries) call (lane_of s.around.now.settings.now.password (S.shown t.me.now) t.kept.connections.entries) };
+    ghost does = { λ s call t. (t.me.ghost_name ≡ s.me.ghost_name) × (t.around.now ≡ s.around.now) × Acts S.limits s.around.now.settings.now.digest_keys s.around.now.settings.now.password s.around.now.settings.now.bounds (lane_of s.around.now.settings.now.password (S.shown s.me.now) s.kept.connections.entries) call (lane_of s.around.now.settings.now.password (S.shown t.me.now) t.kept.connections.entries) };
 
     fn open(&mut self, connection: u64, _address: &[u8]) -> Result<bool, AllocError> {
-        match self.make_place(connection) {
-            Ok(()) => {
-                self.tell();
-                Ok(self.around.settings.password.is_none())
-            }
-            Err(refused) => Err(refused),
-        }
+        // Without memory for its place its first request is refused, and the connection closed.
+        let _ = self.make_place(connection);
+        self.tell();
+        Ok(self.around.settings.password.is_none())
     }
 
     fn answer(
@@ -190,7 +187,11 @@ impl<'a, S: Calls<Blob>, C: Clock, R: Wait> Service for Server<'a, S, C, R, Kept
     }
 
     fn note(&mut self, text: &[u8], reply: &mut Vec<u8>) -> Result<(), AllocError> {
-        take_note(self.around.tallies, text, reply)
+        // An answer that there is no memory for is not sent.
+        if take_note(self.around.tallies, text, reply).is_err() {
+            reply.clear();
+        }
+        Ok(())
     }
 
     fn wake(&mut self) -> Result<Woken, AllocError> {

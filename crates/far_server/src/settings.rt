@@ -3,6 +3,7 @@
 use far_map::Settings;
 use resp::Limits;
 use server_commands::Options;
+use stored_keys::DigestKeys;
 
 /// How many bytes values and replies have at most.
 #[derive(Clone, Copy)]
@@ -33,6 +34,8 @@ pub struct ServerSettings {
     pub far_limit: u64,
     /// The SHA-256 digest of the password, and none where none is asked for.
     pub password: Option<[u8; 32]>,
+    /// Under which the keys of clients are stored, in each map of the server.
+    pub digest_keys: DigestKeys,
     /// What RANDOMKEY draws from; another number for each start.
     pub seed: u64,
     /// What CONFIG GET answers; where it says that keys are evicted, they are.

@@ -1,15 +1,19 @@
 //! Replies of one token.
-ghost use Rattle.std.specs.Prelude.{◌≡◌, ◌++◌, ◌∷◌, [], ℕ, List, OnOk};
+ghost use Rattle.std.specs.Prelude.{◌≡◌, ◌++◌, ◌∷◌, [], ℕ, List, OnOk, OnErr};
 ghost use Rattle.std.specs.List.{flat_map};
 ghost use Rattle.resp.specs.Replies.{Token, Failure, Simple, String, Number, Nothing, token};
 
+use crate::refusing::text_of;
+use crate::reserve::has_room_for;
 use commands::Fault;
+use far_map::Refusal;
 use resp::{push_failure, push_nothing, push_number, push_simple, push_string};
 use std::alloc::AllocError;
 
 pub(crate) fn push_one_failure(reply: &mut Vec<u8>, text: &[u8]) -> Result<(), AllocError>
     ensures exact { OnOk result (reply.new.items ≡ reply.old.items ++ flat_map token (Failure text.now ∷ [])) }
     ensures said { OnOk result ((rs : List Token) × (reply.new.items ≡ reply.old.items ++ flat_map token rs)) }
+    ensures kept { OnErr result (reply.new.items ≡ reply.old.items) }
 {
     push_failure(reply, text)
 }
@@ -17,6 +21,7 @@ pub(crate) fn push_one_failure(reply: &mut Vec<u8>, text: &[u8]) -> Result<(), A
 pub(crate) fn push_one_simple(reply: &mut Vec<u8>, text: &[u8]) -> Result<(), AllocError>
     ensures exact { OnOk result (reply.new.items ≡ reply.old.items ++ flat_map token (Simple text.now ∷ [])) }
     ensures said { OnOk result ((rs : List Token) × (reply.new.items ≡ reply.old.items ++ flat_map token rs)) }
+    ensures kept { OnErr result (reply.new.items ≡ reply.old.items) }
 {
     push_simple(reply, text)
 }
@@ -24,6 +29,7 @@ pub(crate) fn push_one_simple(reply: &mut Vec<u8>, text: &[u8]) -> Result<(), Al
 pub(crate) fn push_one_string(reply: &mut Vec<u8>, bytes: &[u8]) -> Result<(), AllocError>
     ensures exact { OnOk result (reply.new.items ≡ reply.old.items ++ flat_map token (String bytes.now ∷ [])) }
     ensures said { OnOk result ((rs : List Token) × (reply.new.items ≡ reply.old.items ++ flat_map token rs)) }
+    ensures kept { OnErr result (reply.new.items ≡ reply.old.items) }
 {
     push_string(reply, bytes)
 }
@@ -31,6 +37,7 @@ pub(crate) fn push_one_string(reply: &mut Vec<u8>, bytes: &[u8]) -> Result<(), A
 pub(crate) fn push_one_number(reply: &mut Vec<u8>, n: i64) -> Result<(), AllocError>
     ensures exact { OnOk result (reply.new.items ≡ reply.old.items ++ flat_map token (Number n ∷ [])) }
     ensures said { OnOk result ((rs : List Token) × (reply.new.items ≡ reply.old.items ++ flat_map token rs)) }
+    ensures kept { OnErr result (reply.new.items ≡ reply.old.items) }
 {
     push_number(reply, n)
 }
@@ -38,12 +45,28 @@ pub(crate) fn push_one_number(reply: &mut Vec<u8>, n: i64) -> Result<(), AllocEr
 pub(crate) fn push_one_nothing(reply: &mut Vec<u8>) -> Result<(), AllocError>
     ensures exact { OnOk result (reply.new.items ≡ reply.old.items ++ flat_map token (Nothing ∷ [])) }
     ensures said { OnOk result ((rs : List Token) × (reply.new.items ≡ reply.old.items ++ flat_map token rs)) }
+    ensures kept { OnErr result (reply.new.items ≡ reply.old.items) }
 {
     push_nothing(reply)
 }
 
-pub(crate) fn push_one_fault(reply: &mut Vec<u8>, fault: Fault<'_>) -> Result<(), AllocError>
+/// The text of a fault. Behind it there is room for so many bytes: if memory is refused for one of both, the reply is that.
+pub(crate) fn push_one_fault(
+    reply: &mut Vec<u8>,
+    fault: Fault<'_>,
+    beside: usize,
+) -> Result<(), AllocError>
     ensures { OnOk result ((text : List ℕ) × (reply.new.items ≡ reply.old.items ++ flat_map token (Failure text ∷ []))) }
 {
-    server_commands::fault(fault, reply)
+    let before = reply.len();
+    match server_commands::fault(fault, reply) {
+        Ok(()) => {
+            if has_room_for(beside, reply) {
+                return Ok(());
+            }
+            reply.truncate(before);
+        }
+        Err(_) => {}
+    }
+    push_one_failure(reply, text_of(Refusal::Memory))
 }

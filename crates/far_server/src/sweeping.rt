@@ -9,23 +9,16 @@
 //!
 //! Nothing tells where the expired values lie, so a round looks at each bucket, a few at a time. Where a round has met no value with a
 //! deadline, and none was set since it began, there is none to wait for, and no further round begins until one is set.
-//!
-//! # In memory and on disk by turns
-//!
-//! Where memory is full and no device takes an object, a bucket in memory has to go: that alone makes room at once, since what a device
-//! keeps of small objects is no place for a large one. But were these taken alone, old keys would stay on the device for ever. So the
-//! next one is of a device.
 ghost use Rattle.std.specs.Prelude.{◌<◌, Bool, true};
 ghost use Rattle.version_words.specs.Views.{Goes};
 ghost use Rattle.far_server.specs.Sweeps.{IsSweeping, Sweeps};
 
 use crate::around::{Around, Desk, milliseconds};
 use crate::deadlines::{has_deadline, is_over};
-use crate::visiting::{empty_bucket, keys_in};
+use crate::eviction::{Victims, make_room};
 use far_blob::Blob;
 use far_map::{Calls, Refusal};
 use far_object::Text;
-use hash_table::BucketState;
 use std::alloc::Global;
 use std::rt::Clock;
 use std::sync::Wait;
@@ -39,9 +32,6 @@ const DEVICE_READS: u64 = 8;
 /// How many milliseconds a nap has: so some hundredths of a processor go round 4,000,000 buckets in memory in some 80 seconds.
 const NAP: u64 = 5;
 
-/// How many buckets are looked at in a turn for one that is taken out.
-const LOOKS: u32 = 64;
-
 /// Where the sweep has come to.
 #[derive(Drop)]
 pub(crate) struct Hand {
@@ -51,23 +41,18 @@ pub(crate) struct Hand {
     dated: u64,
     /// Whether the round has met one that may expire yet.
     pub(crate) has_met: bool,
-    /// The next bucket that may be evicted, and how many before it had nothing to evict.
-    next_victim: u32,
-    fruitless: u32,
-    /// Whether the next one is to lie on a device.
-    wants_far: bool,
+    /// Where keys are evicted next.
+    pub(crate) victims: Victims,
 }
 
 impl Hand {
-    /// One that waits for the first value with a deadline.
-    pub(crate) fn new(buckets: u32) -> Hand {
+    /// One that waits for the first value with a deadline, in a map of so many buckets and frames.
+    pub(crate) fn new(alloc: Global, buckets: u32, frames: u32) -> Hand {
         Hand {
             next: buckets,
             dated: 0,
             has_met: false,
-            next_victim: 0,
-            fruitless: 0,
-            wants_far: false,
+            victims: Victims::new(alloc, frames),
         }
     }
 }
@@ -184,133 +169,6 @@ pub(crate) fn is_due(hand: &mut Hand, buckets: u32, dated: u64) -> bool {
     true
 }
 
-/// Whether a bucket lies on a device that has this key.
-fn is_on_device<S: Calls<Blob>>(me: &mut S, keys: &[Text]) -> bool
-    ensures { Goes (S.shown me.old).pass (S.shown me.new).pass }
-{
-    match keys.first() {
-        Some(key) => matches!(me.where_is(key), BucketState::Far(_)),
-        None => false,
-    }
-}
-
-/// Takes all keys of a bucket out: whether that was not refused.
-fn evict_keys<S: Calls<Blob>, R: Wait>(
-    rt: &R,
-    alloc: Global,
-    me: &mut S,
-    bucket: u32,
-    desk: &mut Desk,
-) -> bool
-    requires { bucket < S.limits.buckets }
-    ensures { Sweeps S.limits true (S.shown me.old) (S.shown me.new) }
-{
-    let before = desk.tally.lost;
-    let is_empty = empty_bucket(rt, alloc, me, bucket, desk).is_ok();
-    desk.tally.count_evictions(before);
-    is_empty
-}
-
-/// The next bucket that may be evicted, round and round.
-fn next_victim(hand: &mut Hand, buckets: u32) -> u32 {
-    let bucket = if hand.next_victim < buckets {
-        hand.next_victim
-    } else {
-        0
-    };
-    hand.next_victim = bucket.saturating_add(1);
-    bucket
-}
-
-/// No bucket that was looked at is one that is wanted: whether there are some to look at. Few may lie on a device, so the next one may
-/// lie in memory. Where a whole round met none there, the next one is to lie on a device.
-fn look_elsewhere(hand: &mut Hand, buckets: u32) -> bool {
-    let goes_on = hand.wants_far || hand.fruitless < buckets;
-    if hand.wants_far || !goes_on {
-        hand.wants_far = !hand.wants_far;
-        hand.fruitless = 0;
-    }
-    goes_on
-}
-
-/// Takes all keys of the first of the next buckets out that has some, in memory and on a device by turns: whether that was done,
-/// or there are buckets that were not looked at.
-fn evict_bucket<S: Calls<Blob>, C: Clock, R: Wait>(
-    around: &Around<'_, C, R>,
-    me: &mut S,
-    hand: &mut Hand,
-    desk: &mut Desk,
-) -> bool
-    ensures { Sweeps S.limits true (S.shown me.old) (S.shown me.new) }
-{
-    let (rt, alloc) = (around.rt, around.alloc);
-    let buckets = me.buckets();
-    for _ in 0..LOOKS {
-        let bucket = next_victim(hand, buckets);
-        if bucket >= buckets {
-            return false;
-        }
-        hand.fruitless = hand.fruitless.saturating_add(1);
-        let Ok(keys) = keys_in(rt, alloc, me, bucket, 0) else {
-            return look_elsewhere(hand, buckets);
-        };
-        let is_victim = is_on_device(me, &keys) == hand.wants_far || !desk.is_far;
-        if is_victim && !keys.is_empty() {
-            hand.fruitless = 0;
-            hand.wants_far = !hand.wants_far;
-            return evict_keys(rt, alloc, me, bucket, desk);
-        }
-    }
-    look_elsewhere(hand, buckets)
-}
-
-/// Whether there is room in frames.
-#[derive(Clone, Copy)]
-enum Room {
-    Enough,
-    /// Some was made by an object that was swapped out, and more may be wanted.
-    Made,
-    /// No device takes what lies there beyond the bound.
-    Wanting,
-}
-
-/// Looks whether more lies in frames than may, and has an object swapped out if there is a device.
-fn look_for_room<S: Calls<Blob>, C: Clock, R: Wait>(
-    around: &Around<'_, C, R>,
-    me: &mut S,
-    most: u64,
-) -> Room
-    ensures { Goes (S.shown me.old).pass (S.shown me.new).pass }
-{
-    if me.bytes_in_frames() <= most {
-        return Room::Enough;
-    }
-    if !around.settings.is_far {
-        return Room::Wanting;
-    }
-    match me.evict(around.rt) {
-        Ok(true) => Room::Made,
-        Ok(false) => Room::Enough,
-        Err(_) => Room::Wanting,
-    }
-}
-
-/// Makes room where more lies in frames than may: whether there is more to do. Keys go only where no device takes an object.
-pub(crate) fn make_room<S: Calls<Blob>, C: Clock, R: Wait>(
-    around: &Around<'_, C, R>,
-    me: &mut S,
-    hand: &mut Hand,
-    desk: &mut Desk,
-) -> bool
-    ensures { Sweeps S.limits true (S.shown me.old) (S.shown me.new) }
-{
-    match look_for_room(around, me, desk.most_in_frames) {
-        Room::Enough => false,
-        Room::Made => true,
-        Room::Wanting => evict_bucket(around, me, hand, desk),
-    }
-}
-
 /// Looks for expired values where some may be.
 fn expire_next<S: Calls<Blob>, C: Clock, R: Wait>(
     around: &Around<'_, C, R>,
@@ -335,7 +193,7 @@ fn turn_with_room<S: Calls<Blob>, C: Clock, R: Wait>(
 ) -> bool
     ensures { Sweeps S.limits true (S.shown me.old) (S.shown me.new) }
 {
-    if make_room(around, me, hand, desk) {
+    if make_room(around, me, &mut hand.victims, desk) {
         return true;
     }
     expire_next(around, me, hand, desk);
@@ -381,7 +239,7 @@ pub(crate) fn sweep<S: Calls<Blob>, C: Clock, R: Wait>(around: &Around<'_, C, R>
 {
     let mut desk = Desk::new(around.alloc, around.settings);
     desk.begin(around.tallies.told_by(around.lane));
-    let mut hand = Hand::new(me.buckets());
+    let mut hand = Hand::new(around.alloc, me.buckets(), around.settings.map.frames);
     for _ in around.rt.forever() {
         if !around.tallies.is_serving() {
             break;

@@ -137,7 +137,7 @@ impl Tally {
     }
 }
 
-/// What the gateway last told of its clients.
+/// What the gateway last told of its clients, and of the memory of the system.
 #[derive(Drop)]
 pub(crate) struct GatewayTold {
     /// Connections that it refused since its start.
@@ -146,6 +146,8 @@ pub(crate) struct GatewayTold {
     pub(crate) evicted: AtomicU64,
     /// Bytes of what clients have it and the lanes keep.
     pub(crate) memory: AtomicU64,
+    /// Bytes of memory that the gateway and the server have; 0 until it told.
+    pub(crate) resident: AtomicU64,
 }
 
 impl GatewayTold {
@@ -154,6 +156,7 @@ impl GatewayTold {
             rejected: AtomicU64::new(0),
             evicted: AtomicU64::new(0),
             memory: AtomicU64::new(0),
+            resident: AtomicU64::new(0),
         }
     }
 }

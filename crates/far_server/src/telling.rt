@@ -1,5 +1,5 @@
 //! Commands to the server itself, and on a connection.
-ghost use Rattle.std.specs.Prelude.{◌≡◌, ◌⊎◌, ◌++◌, true, ℕ, List, OnOk};
+ghost use Rattle.std.specs.Prelude.{◌≡◌, ◌⊎◌, ◌++◌, true, ℕ, List, OnOk, OnErr};
 ghost use Rattle.std.specs.List.{flat_map};
 ghost use Rattle.resp.specs.Replies.{Token, token};
 ghost use Rattle.far_server.specs.Logins.{AsksToPass};
@@ -37,6 +37,7 @@ fn facts<S: Calls<Blob>, C, R>(around: &Around<'_, C, R>, me: &S, now: u64) -> F
         rejected: around.tallies.gateway.rejected.load(Ordering::SeqCst),
         evicted_clients: around.tallies.gateway.evicted.load(Ordering::SeqCst),
         clients_memory: around.tallies.gateway.memory.load(Ordering::SeqCst),
+        resident_bytes: around.tallies.gateway.resident.load(Ordering::SeqCst),
         most_clients: settings.options.most_clients,
         most_memory: settings.options.most_memory,
         evicts: settings.options.evicts,
@@ -85,6 +86,7 @@ pub(crate) fn answer_server<S: Calls<Blob>, C, R>(
     reply: &mut Vec<u8>,
 ) -> Result<(), AllocError>
     ensures said { OnOk result ((rs : List Token) × (reply.new.items ≡ reply.old.items ++ flat_map token rs)) }
+    ensures kept { OnErr result (reply.new.items ≡ reply.old.items) }
     ensures login { connection.new.passed ≡ true → (connection.old.passed ≡ true) ⊎ AsksToPass around.now.settings.now.password command.entry }
     ensures queue { connection.new.queue ≡ connection.old.queue }
 {
@@ -114,7 +116,8 @@ pub(crate) fn answer_server<S: Calls<Blob>, C, R>(
 }
 
 fn push_name(reply: &mut Vec<u8>, connection: &Connection) -> Result<(), AllocError>
-    ensures { OnOk result ((rs : List Token) × (reply.new.items ≡ reply.old.items ++ flat_map token rs)) }
+    ensures said { OnOk result ((rs : List Token) × (reply.new.items ≡ reply.old.items ++ flat_map token rs)) }
+    ensures kept { OnErr result (reply.new.items ≡ reply.old.items) }
 {
     if connection.name.is_empty() {
         push_one_nothing(reply)

@@ -1,15 +1,17 @@
 //! What is asked of all keys: each bucket is visited by itself.
-ghost use Rattle.std.specs.Prelude.{◌≡◌, ◌<◌, ◌++◌, ◌∷◌, [], ℕ, List, IfOk, OnOk};
+ghost use Rattle.std.specs.Prelude.{◌≡◌, ◌<◌, ◌++◌, ◌∷◌, [], ℕ, List, length, IfOk, OnErr, OnOk};
 ghost use Rattle.std.specs.List.{flat_map};
 ghost use Rattle.resp.specs.Replies.{Token, Count, String, token};
 ghost use Rattle.version_words.specs.Views.{Goes};
 ghost use Rattle.far_server.specs.Flushes.{Flushes};
+ghost use Rattle.far_server.specs.Lists.{told_key, told_keys};
 
 use crate::around::Desk;
 use crate::bound::{FRAMING, MOST_PAGE};
 use crate::deadlines::is_over;
 use crate::refusing::text_of;
-use crate::single::{push_one_failure, push_one_simple};
+use crate::reserve::has_room_for_short;
+use crate::single::{push_one_failure, push_one_simple, push_one_string};
 use commands::{Scan, matches};
 use far_blob::Blob;
 use far_map::{Calls, Refusal};
@@ -18,6 +20,7 @@ use itoa::Buffer;
 use resp::{push_count, push_string};
 use std::alloc::{AllocError, Global};
 use std::sync::Wait;
+use stored_keys::client_key;
 
 /// How many keys SCAN looks at, and how many buckets it visits, at most, whatever its COUNT: others of its lane wait meanwhile. Empty
 /// buckets take little, so it goes on over many.
@@ -25,7 +28,7 @@ const MOST_KEYS: u64 = 1_000;
 
 const MOST_BUCKETS: u32 = 65_536;
 
-/// The keys of a bucket, without those whose value is expired at this time; 0 for all.
+/// The keys of a bucket, without those whose value is expired at this time; 0 for all. An empty one is not read: its word says so.
 pub(crate) fn keys_in<S: Calls<Blob>, R: Wait>(
     rt: &R,
     alloc: Global,
@@ -37,6 +40,9 @@ pub(crate) fn keys_in<S: Calls<Blob>, R: Wait>(
     ensures { Goes (S.shown me.old).pass (S.shown me.new).pass }
 {
     let mut keys = Vec::new(alloc);
+    if me.is_empty_at(bucket) {
+        return Ok(keys);
+    }
     let mut is_short = false;
     let mut visit = |key: Text, value: Blob| {
         if !is_over(&value, now) && keys.push(key).is_err() {
@@ -96,7 +102,7 @@ fn asked_of(alloc: Global, keys: Vec<Text>, scan: Scan<'_>) -> Result<Found, All
     let mut found = Found::new(alloc);
     for key in keys {
         found.looked = found.looked.saturating_add(1);
-        let bytes = key.as_bytes();
+        let bytes = client_key(key.as_bytes());
         let is_wanted = match scan.pattern {
             Some(pattern) => matches(pattern, bytes),
             None => true,
@@ -164,12 +170,20 @@ fn find<S: Calls<Blob>, R: Wait>(
     Ok((0, found))
 }
 
-/// The keys, each as a string.
+/// The client's key of a key of the map, as a string.
+pub(crate) fn push_key(reply: &mut Vec<u8>, stored: &Text) -> Result<(), AllocError>
+    ensures told { OnOk result (reply.new.items ≡ reply.old.items ++ flat_map token (told_key stored.now ∷ [])) }
+    ensures kept { OnErr result (reply.new.items ≡ reply.old.items) }
+{
+    push_one_string(reply, client_key(stored.as_bytes()))
+}
+
+/// The same of each of these.
 fn push_keys(reply: &mut Vec<u8>, keys: &[Text]) -> Result<(), AllocError>
-    ensures { OnOk result ((rs : List Token) × (reply.new.items ≡ reply.old.items ++ flat_map token rs)) }
+    ensures { OnOk result (reply.new.items ≡ reply.old.items ++ flat_map token (told_keys keys.now)) }
 {
     for key in keys {
-        match push_string(reply, key.as_bytes()) {
+        match push_key(reply, key) {
             Ok(()) => {}
             Err(refused) => return Err(refused),
         }
@@ -186,9 +200,9 @@ fn push_head(reply: &mut Vec<u8>, next: &[u8], keys: usize) -> Result<(), AllocE
     push_count(reply, keys)
 }
 
-/// SCAN: the bucket at which the next one goes on, and an array of keys.
+/// SCAN: the bucket at which the next one goes on, and an array of the clients' keys.
 fn push_found(reply: &mut Vec<u8>, next: u32, found: &Found) -> Result<(), AllocError>
-    ensures { OnOk result ((rs : List Token) × (reply.new.items ≡ reply.old.items ++ flat_map token rs)) }
+    ensures { OnOk result ((cursor : List ℕ) × (reply.new.items ≡ reply.old.items ++ flat_map token (Count 2 ∷ String cursor ∷ Count (length found.now.keys.items) ∷ told_keys found.now.keys.items))) }
 {
     let mut digits = Buffer::new();
     match push_head(reply, digits.format(next).as_bytes(), found.keys.len()) {
@@ -201,20 +215,27 @@ fn push_found(reply: &mut Vec<u8>, next: u32, found: &Found) -> Result<(), Alloc
     }
 }
 
-/// Answers SCAN. The cursor is the number of a bucket, so a key that stays is found.
+/// Answers SCAN. The cursor is the number of a bucket, so a key that stays is found. There is room for the whole page, and for so many bytes
+/// behind it, before any of it is written.
 pub(crate) fn answer_scan<S: Calls<Blob>, R: Wait>(
     rt: &R,
     alloc: Global,
     me: &mut S,
     scan: Scan<'_>,
     now: u64,
+    beside: usize,
     reply: &mut Vec<u8>,
 ) -> Result<(), AllocError>
     ensures goes { Goes (S.shown me.old).pass (S.shown me.new).pass }
     ensures said { OnOk result ((rs : List Token) × (reply.new.items ≡ reply.old.items ++ flat_map token rs)) }
 {
     match find(rt, alloc, me, scan, now) {
-        Ok((next, found)) => push_found(reply, next, &found),
+        Ok((next, found)) => {
+            if !has_room_for_short(found.bytes.saturating_add(beside), reply) {
+                return push_one_failure(reply, text_of(Refusal::Memory));
+            }
+            push_found(reply, next, &found)
+        }
         Err(why) => push_one_failure(reply, text_of(why)),
     }
 }
@@ -243,6 +264,23 @@ pub(crate) fn empty_bucket<S: Calls<Blob>, R: Wait>(
     Ok(())
 }
 
+/// The same of a bucket that may well be empty: its word says so.
+fn empty_filled<S: Calls<Blob>, R: Wait>(
+    rt: &R,
+    alloc: Global,
+    me: &mut S,
+    bucket: u32,
+    desk: &mut Desk,
+) -> Result<(), Refusal>
+    requires { bucket < S.limits.buckets }
+    ensures { Flushes S.limits (S.shown me.old) (S.shown me.new) }
+{
+    if me.is_empty_at(bucket) {
+        return Ok(());
+    }
+    empty_bucket(rt, alloc, me, bucket, desk)
+}
+
 fn empty_all<S: Calls<Blob>, R: Wait>(
     rt: &R,
     alloc: Global,
@@ -252,7 +290,7 @@ fn empty_all<S: Calls<Blob>, R: Wait>(
     ensures { Flushes S.limits (S.shown me.old) (S.shown me.new) }
 {
     for bucket in 0..me.buckets() {
-        match empty_bucket(rt, alloc, me, bucket, desk) {
+        match empty_filled(rt, alloc, me, bucket, desk) {
             Ok(()) => {}
             Err(why) => return Err(why),
         }

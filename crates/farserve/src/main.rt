@@ -40,6 +40,7 @@ use std::rt::Files;
 use std::sync::Wait;
 use std::thread::Threads;
 use std::{env, io};
+use stored_keys::DigestKeys;
 use stores::open_stores;
 
 /// The least bytes that a bucket's object may have, and the most: keys that share a bucket share it.
@@ -91,6 +92,7 @@ fn settings(
     sizes: Sizes,
     names: u64,
     password: Option<[u8; 32]>,
+    digest_keys: DigestKeys,
     seed: u64,
 ) -> ServerSettings {
     let value = asked.value_limit;
@@ -118,6 +120,7 @@ fn settings(
         large: sizes.large,
         far_limit: told_limit(asked.far_limit),
         password,
+        digest_keys,
         seed,
         options: Options {
             most_memory: asked.memory,
@@ -270,8 +273,12 @@ where
     };
     let names = asked.names(sizes.buckets)?;
     let _ = warn_of_names(rt, names, sizes.buckets);
+    let digest_keys = DigestKeys {
+        first: drawn(&host)?,
+        second: drawn(&host)?,
+    };
     let seed = drawn(&host)?;
-    let settings = settings(asked, sizes, names, password, seed);
+    let settings = settings(asked, sizes, names, password, digest_keys, seed);
     let usage = FarUsage::new();
     match tier {
         Tier::Nowhere => {

@@ -8,16 +8,22 @@
 //!
 //! # Bytes
 //!
-//! What the two programs take without a map and without clients goes first, then the clients' part, then what lanes work with. Of what
-//! is left a third is for buckets and frames, where nobody says how many, and of the rest four fifths are for the objects in frames.
-//! The last fifth is what malloc loses by rounding and between its free pieces.
+//! What the two programs take without a map and without clients goes first, then the clients' part, then what lanes work with. Then
+//! come buckets and frames, and of the rest four fifths are for the objects in frames. The last fifth is what malloc loses by rounding
+//! and between its free pieces.
+//!
+//! # Buckets
+//!
+//! Where nobody says how many there are, and objects move to devices, a third of what is left is for buckets and frames: what lies on
+//! devices has buckets too. Where all has to lie in memory, each bucket that is not needed leaves less for values. So there is one for
+//! each 512 bytes.
 ghost use Rattle.std.specs.Prelude.{◌≤◌, ◌+◌, ◌*◌, IfSome};
 
 /// Bytes of the program without a map: its code, its stacks, what is read ahead.
-const PROGRAM: u64 = 4 << 20;
+const PROGRAM: u64 = 5 << 20;
 
 /// Bytes of the gateway without clients.
-const GATEWAY: u64 = 3 << 20;
+const GATEWAY: u64 = 4 << 20;
 
 /// The least bytes of the clients' part.
 const LEAST_CLIENTS: u64 = 8 << 20;
@@ -37,8 +43,9 @@ const LANE: u64 = 1 << 20;
 /// Bytes of a bucket, whatever it holds: its word, and a bit of each table beside it.
 const BUCKET: u64 = 9;
 
-/// Bytes of a frame, without its object. Each session has a bit of its own for it beside these.
-const FRAME: u64 = 65;
+/// Bytes of a frame, without its object: the frame, and what the sweep notes of it. Each session has a bit of its own for it beside
+/// these.
+const FRAME: u64 = 66;
 
 /// Bytes of an object in a file: where it lies, and its bucket as its label. There may be one for each bucket.
 const FAR: u64 = 65;
@@ -57,6 +64,9 @@ const MOST_FRAMES: u64 = 4_194_304;
 
 /// The most buckets that are chosen here: a third more frames than these are no more than a map may have.
 const MOST_CHOSEN: u64 = 3_000_000;
+
+/// Bytes of memory for each bucket that is chosen here where no device takes objects.
+const NEAR: u64 = 512;
 
 /// Old versions that wait for the evictor: 256 in its queue, and 320 that it keeps.
 const SPARES: u64 = 576;
@@ -92,21 +102,24 @@ pub enum Tier {
     Store,
 }
 
-/// Bytes of a bucket with its frames, wherever its object lies.
-fn each_of(tier: Tier) -> u64 {
-    let near = BUCKET + FRAME + FRAME / 3;
-    match tier {
-        Tier::Nowhere => near,
-        Tier::Files => near + FAR,
-        Tier::Store => near + STORED,
-    }
+/// Bytes of a bucket with its frames, and with its object on a device, which has so many.
+fn each_of(far: u64) -> u64
+    requires { far ≤ STORED }
+    ensures { 1 ≤ result }
+{
+    BUCKET + FRAME + FRAME / 3 + far
 }
 
-/// As many buckets as a third of the memory holds: enough for small values, and little beside larger ones.
-fn buckets_for(memory: u64, each: u64) -> u64
+/// How many buckets there are for so much memory, where nobody says so: enough for small values, and little beside larger ones.
+fn buckets_for(memory: u64, tier: Tier) -> u64
     ensures { result ≤ MOST_CHOSEN }
 {
-    (memory / 3 / each.max(1)).clamp(1, MOST_CHOSEN)
+    let buckets = match tier {
+        Tier::Nowhere => memory / NEAR,
+        Tier::Files => memory / 3 / each_of(FAR),
+        Tier::Store => memory / 3 / each_of(STORED),
+    };
+    buckets.clamp(1, MOST_CHOSEN)
 }
 
 /// Bytes for what clients have the server keep: an eighth of the memory.
@@ -173,7 +186,7 @@ pub fn divide(
         .checked_sub(work)?;
     let asked = match buckets {
         Some(buckets) => u64::from(buckets),
-        None => buckets_for(left, each_of(tier)),
+        None => buckets_for(left, tier),
     };
     let buckets = asked.min(MOST_FRAMES.checked_sub(waiting)?);
     let needed = buckets + waiting;

@@ -15,9 +15,13 @@ pub(crate) enum Taken {
     Short { missing: usize },
     /// Nothing, and an error was pushed.
     Bad,
-    /// Nothing: there is no memory for where its arguments lie, or for the error.
+    /// Nothing: there is no memory for where its arguments lie, or for a short reply.
     Refused,
 }
+
+/// The room for a reply without which no request is taken: a number, a status, an error or the head of a longer reply has fewer bytes. So a
+/// request whose reply can't be written changes nothing.
+const ROOM: usize = 1 << 10;
 
 /// What a client is told, in Redis' words where it has some.
 fn fault_text(fault: Fault) -> &'static [u8]
@@ -34,8 +38,8 @@ fn fault_text(fault: Fault) -> &'static [u8]
     }
 }
 
-/// Takes a request, and pushes the reply to it. One without arguments gets none. Want of memory is answered only where the service
-/// answers it.
+/// Takes a request if there is room for a short reply, and pushes the reply to it. One without arguments gets none. Want of memory is
+/// answered only where the service answers it.
 pub(crate) fn take_one<S: Service>(
     service: &mut S,
     limits: Limits,
@@ -54,6 +58,9 @@ pub(crate) fn take_one<S: Service>(
             if spans.is_empty() {
                 let next = Next::GoOn;
                 return Ok(Taken::Whole { consumed, next });
+            }
+            if out.reserve(ROOM).is_err() {
+                return Ok(Taken::Refused);
             }
             let next = service.answer(connection, bytes, spans.as_slice(), out)?;
             Ok(Taken::Whole { consumed, next })

@@ -20,6 +20,8 @@ pub struct Facts {
     pub evicted_clients: u64,
     /// Bytes of what clients have the server keep.
     pub clients_memory: u64,
+    /// Bytes of memory that the processes of the server have; 0 if that was not told.
+    pub resident_bytes: u64,
     pub most_clients: u64,
     /// Bytes that the server may have.
     pub most_memory: u64,

@@ -128,6 +128,7 @@ fn push_clients(facts: &Facts, text: &mut Vec<u8>) -> Result<(), AllocError> {
 
 fn push_memory(facts: &Facts, text: &mut Vec<u8>) -> Result<(), AllocError> {
     push_bytes(text, "used_memory", facts.bytes_in_frames)?;
+    push_bytes(text, "used_memory_rss", facts.resident_bytes)?;
     push_numbers(text, &[("clients_memory", facts.clients_memory)])?;
     push_bytes(text, "maxmemory", facts.most_memory)?;
     push_words(text, &[("maxmemory_policy", policy(facts.evicts))])

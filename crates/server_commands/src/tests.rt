@@ -67,6 +67,7 @@ fn facts() -> Facts {
         rejected: 19,
         evicted_clients: 20,
         clients_memory: 65_536,
+        resident_bytes: 123_456_789,
         most_clients: 10_000,
         most_memory: 268_435_456,
         evicts: true,

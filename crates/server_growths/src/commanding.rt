@@ -42,6 +42,7 @@ const FACTS: Facts = Facts {
     rejected: 0,
     evicted_clients: 0,
     clients_memory: 0,
+    resident_bytes: 0,
     most_clients: 6,
     most_memory: 7,
     evicts: true,

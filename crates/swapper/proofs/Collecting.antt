@@ -1,5 +1,5 @@
 -- Spares that are tried one after another.
-use Rattle.std.proofs.Common.{◌≡◌, ℕ, ◌+◌, ◌-◌, ◌^◌, ◌<◌, ◌≤◌, min, List, [], ◌∷◌, ◌++◌, length, refl, ap, sym, ◌∙◌, subst, inl, inr, ◌⊎◌, ⊎_elim, Option, Result, Bool, arith, append_assoc, length-append}
+use Rattle.std.proofs.Common.{◌≡◌, ℕ, ◌+◌, ◌-◌, ◌^◌, ◌<◌, ◌≤◌, min, List, [], ◌∷◌, ◌++◌, length, refl, ap, sym, ◌∙◌, subst, inl, inr, ◌⊎◌, ⊎_elim, Option, Result, Bool, true, false, arith, append_assoc, length-append}
 use Rattle.std.proofs.lemmas.List.{append-nil}
 use mathlib.Core.List.{IsPrefix}
 use Rattle.table_core.specs.declared.event.Event.{Event}
@@ -12,14 +12,18 @@ use Rattle.hash_table.specs.declared.caller.Caller.{Caller}
 use Rattle.hash_table.specs.declared.refusal.Refusal.{Refusal}
 use Rattle.swapper.specs.Meetings.{Asks}
 use Rattle.swapper.proofs.Clocks.{asks_all}
+use Rattle.swapper.specs.declared.evictor.Collected.{Collected}
 use Rattle.swapper.specs.declared.rule.SeatView.{SeatView}
 use Rattle.swapper.specs.Seats.{TakesNext}
 use Rattle.far_object.specs.declared.format.Format.{Format}
-use Rattle.swapper.specs.Evictors.{EvictorView, shown, Works, Tries, Stays, DrawsKept, DrawsOwn, DrawsNext, IsFull, IsDrained, Sifts, AreTold, TakesAll, AreGone, Retries, Tried, Collects, Picks, GivesUp, Turns}
+use Rattle.swapper.specs.Evictors.{EvictorView, shown, Works, Tries, Stays, DrawsKept, DrawsOwn, DrawsNext, IsFull, IsDrained, Sifts, AreTold, TakesAll, AreGone, FailsLast, Retries, Tried, Collects, Collecting, Picks, GivesUp, Turns}
 
 -- counts that are shown add up
 pub shown_more : (a b shown_a shown_b c : ℕ) → shown_a ≡ shown a → shown_b ≡ shown b → c ≡ min (shown_a + shown_b) (2 ^ 64 - 1) → c ≡ shown (a + b)
 shown_more a b shown_a shown_b c x y z = omega (arith, x, y, z)
+
+unlike : (b : Bool) → b ≡ true → b ≡ false → ⊥
+unlike b is other = let t : true ≡ false = sym is ∙ other in cc
 
 module _ {K V : Type 0} where
   pub works_self : (a : EvictorView K V) → Works a a
@@ -72,9 +76,26 @@ module _ {K V : Type 0} where
   takes_one_more [] x v u w h o = (w, subst (λ (y : SeatView (SpareView K V)). TakesNext y x w) h o, refl)
   takes_one_more (y ∷ gone) x v u w h o = (h.0, h.1, takes_one_more gone x h.0 u w h.2 o)
 
+  -- ---- where the device failed
+
+  fails_here : (tried kept new : List (SpareView K V)) (s : SpareView K V) (more : ℕ) (failed : Bool) → Keeps kept s more new → (failed ≡ true → more ≡ 0) → FailsLast failed (tried ++ s ∷ []) new
+  fails_here tried kept new s more false k none = tt
+  fails_here tried kept new s more true (inl e) none = absurd (let z = none refl in let o = e.0 in omega (arith, z, o))
+  fails_here tried kept new s more true (inr e) none = (tried, kept, s, refl, e.1)
+
+  fails_behind : (a b tried kept : List (SpareView K V)) (failed : Bool) → FailsLast failed tried kept → FailsLast failed (a ++ tried) (b ++ kept)
+  fails_behind a b tried kept false h = tt
+  fails_behind a b tried kept true h = (
+    a ++ h.0,
+    b ++ h.1,
+    h.2,
+    ap (λ (l : List (SpareView K V)). a ++ l) h.3 ∙ sym (append_assoc a h.0 (h.2 ∷ [])),
+    ap (λ (l : List (SpareView K V)). b ++ l) h.4 ∙ sym (append_assoc b h.1 (h.2 ∷ [])),
+  )
+
   -- ---- the kept spares
 
-  pub record Retrying (old now : EvictorView K V) (k reclaimed : ℕ) : Type 0 where
+  pub record Retrying (old now : EvictorView K V) (k reclaimed : ℕ) (failed : Bool) : Type 0 where
     pub works : Works old now
     pub gone : List (SpareView K V)
     pub rest : List (SpareView K V)
@@ -84,11 +105,13 @@ module _ {K V : Type 0} where
     pub sifts : Sifts gone sifted
     pub told : AreTold now.pass.front gone
     pub lost : AreGone reclaimed gone sifted
+    pub few : reclaimed < 2 ^ 64
+    pub failing : FailsLast failed gone sifted
     pub count : length gone ≡ k
     pub limbo : now.limbo ≡ old.limbo
     pub seat : now.seat ≡ old.seat
 
-  pub retrying_none : (old : EvictorView K V) → Retrying old old 0 0
+  pub retrying_none : (old : EvictorView K V) → Retrying old old 0 0 false
   retrying_none old = record {
     works = works_self old;
     gone = [];
@@ -99,6 +122,8 @@ module _ {K V : Type 0} where
     sifts = refl;
     told = tt;
     lost = refl;
+    few = omega arith;
+    failing = tt;
     count = refl;
     limbo = refl;
     seat = refl;
@@ -108,10 +133,11 @@ module _ {K V : Type 0} where
   keeps_behind a b new s gone (inl e) = (b, e.1, inl (e.0, refl, e.2))
   keeps_behind a b new s gone (inr e) = (b ++ s ∷ [], e.1 ∙ append_assoc a b (s ∷ []), inr (e.0, refl))
 
-  pub retrying_more : (old now drawn new : EvictorView K V) (s : SpareView K V) (k reclaimed more : ℕ) → k < length old.kept → Retrying old now k reclaimed → DrawsKept now drawn s → Tries drawn new s more → Retrying old new (k + 1) (reclaimed + more)
-  retrying_more old now drawn new s k reclaimed more lt r d t = by r.rest refl
+  pub retrying_more : (old now drawn new : EvictorView K V) (s : SpareView K V) (k reclaimed more sum : ℕ) (was failed : Bool) → k < length old.kept → k + 1 < 2 ^ 64 → Retrying old now k reclaimed was → DrawsKept now drawn s → Tries drawn new s more → (failed ≡ true → more ≡ 0)
+      → sum ≡ min (reclaimed + more) (2 ^ 64 - 1) → Retrying old new (k + 1) sum failed
+  retrying_more old now drawn new s k reclaimed more sum was failed lt few r d t none adds = by r.rest refl
     where
-      by : (rest : List (SpareView K V)) → r.rest ≡ rest → Retrying old new (k + 1) (reclaimed + more)
+      by : (rest : List (SpareView K V)) → r.rest ≡ rest → Retrying old new (k + 1) sum failed
       by [] e = absurd (let n = ap length r.all in let z = ap length e in omega (arith, n, z, lt, r.count, length-append r.gone r.rest))
       by (x ∷ rest) e =
           let whole : s ∷ drawn.kept ≡ x ∷ (rest ++ r.sifted) = sym d.kept ∙ (r.here ∙ ap (λ (l : List (SpareView K V)). l ++ r.sifted) e) in
@@ -127,55 +153,62 @@ module _ {K V : Type 0} where
             here = k'.1;
             sifts = sifts_push r.gone r.sifted k'.0 s more r.sifts k'.2;
             told = told_push new.pass.front r.gone s (told_later now.pass.front new.pass.front (works_trans d.works t.works).goes.grows r.gone r.told) t.told;
-            lost = gone_push r.gone r.sifted k'.0 s reclaimed more r.lost k'.2;
+            lost = (let all = gone_push r.gone r.sifted k'.0 s reclaimed more r.lost k'.2 in omega (arith, all, adds, few, r.lost, r.count, length-append r.gone (s ∷ [])));
+            few = omega (arith, adds);
+            failing = fails_here r.gone r.sifted k'.0 s more failed k'.2 none;
             count = omega (arith, r.count, length-append r.gone (s ∷ []));
             limbo = t.limbo ∙ (d.limbo ∙ r.limbo);
             seat = t.seat ∙ (d.seat ∙ r.seat);
           }
 
-  pub retrying_few : (old now : EvictorView K V) (k reclaimed : ℕ) → Retrying old now k reclaimed → reclaimed ≤ k
-  retrying_few old now k reclaimed r = omega (arith, r.lost, r.count)
-
-  pub tries_few : (old new : EvictorView K V) (s : SpareView K V) (more : ℕ) → Tries old new s more → more ≤ 1
-  tries_few old new s more t = ⊎_elim (λ e. omega (arith, e.0)) (λ e. omega (arith, e.0)) t.kept
-
-  retrying_some : (old now : EvictorView K V) (k reclaimed : ℕ) → k < length old.kept → Retrying old now k reclaimed → now.kept ≡ [] → ⊥
-  retrying_some old now k reclaimed lt r e =
+  retrying_some : (old now : EvictorView K V) (k reclaimed : ℕ) (failed : Bool) → k < length old.kept → Retrying old now k reclaimed failed → now.kept ≡ [] → ⊥
+  retrying_some old now k reclaimed failed lt r e =
       let n = ap length r.all in
       let m = ap length (sym e ∙ r.here) in
       omega (arith, n, m, lt, r.count, length-append r.gone r.rest, length-append r.rest r.sifted)
 
-  pub retried_early : (old now new : EvictorView K V) (k reclaimed : ℕ) → k < length old.kept → Retrying old now k reclaimed → (now.kept ≡ []) × Stays now new → Retries old new reclaimed
-  retried_early old now new k reclaimed lt r s = absurd (retrying_some old now k reclaimed lt r s.0)
+  pub retried_early : (old now new : EvictorView K V) (k reclaimed : ℕ) (failed : Bool) → k < length old.kept → Retrying old now k reclaimed failed → (now.kept ≡ []) × Stays now new → Retries old new reclaimed failed
+  retried_early old now new k reclaimed failed lt r s = absurd (retrying_some old now k reclaimed failed lt r s.0)
 
-  pub retried : (old now : EvictorView K V) (k reclaimed : ℕ) → k ≡ length old.kept → Retrying old now k reclaimed → Retries old now reclaimed
-  retried old now k reclaimed all r = by r.rest refl
+  retried_so : (old now : EvictorView K V) (k reclaimed : ℕ) (failed : Bool) (r : Retrying old now k reclaimed failed) → (failed ≡ false → r.rest ≡ []) → Retries old now reclaimed failed
+  retried_so old now k reclaimed failed r whole = record {
+    works = r.works;
+    tried = r.gone;
+    left = r.rest;
+    all = r.all;
+    whole = whole;
+    added = r.sifted;
+    kept = r.here;
+    told = r.told;
+    sifted = r.sifts;
+    count = r.lost;
+    few = r.few;
+    failing = r.failing;
+    limbo = r.limbo;
+    seat = r.seat;
+  }
+
+  pub retried_failed : (old now : EvictorView K V) (k reclaimed : ℕ) (failed : Bool) → failed ≡ true → Retrying old now k reclaimed failed → Retries old now reclaimed failed
+  retried_failed old now k reclaimed failed is r = retried_so old now k reclaimed failed r (λ other. absurd (unlike failed is other))
+
+  pub retried : (old now : EvictorView K V) (k reclaimed : ℕ) (failed : Bool) → k ≡ length old.kept → Retrying old now k reclaimed failed → Retries old now reclaimed failed
+  retried old now k reclaimed failed all r = retried_so old now k reclaimed failed r (λ _. by r.rest refl)
     where
-      by : (rest : List (SpareView K V)) → r.rest ≡ rest → Retries old now reclaimed
-      by [] e =
-          let from : r.gone ≡ old.kept = sym (r.all ∙ (ap (λ (l : List (SpareView K V)). r.gone ++ l) e ∙ append-nil r.gone)) in
-          let to : r.sifted ≡ now.kept = sym (r.here ∙ ap (λ (l : List (SpareView K V)). l ++ r.sifted) e) in
-          record {
-            works = r.works;
-            told = subst (λ (l : List (SpareView K V)). AreTold now.pass.front l) from r.told;
-            kept = subst (λ (p : List (SpareView K V) × List (SpareView K V)). Sifts p.0 p.1) (λ i. (from i, to i)) r.sifts;
-            count = subst (λ (p : List (SpareView K V) × List (SpareView K V)). AreGone reclaimed p.0 p.1) (λ i. (from i, to i)) r.lost;
-            limbo = r.limbo;
-            seat = r.seat;
-          }
+      by : (rest : List (SpareView K V)) → r.rest ≡ rest → r.rest ≡ []
+      by [] e = e
       by (x ∷ rest) e = absurd (let n = ap length r.all in let z = ap length e in omega (arith, n, z, all, r.count, length-append r.gone r.rest))
 
   -- ---- its own limbo, and the queue
 
-  pub tried_none : (old : EvictorView K V) → Tried old old [] [] 0
-  tried_none old = record { works = works_self old; added = []; kept = sym (append-nil old.kept); told = tt; sifted = refl; gone = 0; count = refl; tells = refl; limbo = refl; seat = refl }
+  pub tried_none : (old : EvictorView K V) → Tried old old [] [] 0 false
+  tried_none old = record { works = works_self old; added = []; kept = sym (append-nil old.kept); told = tt; sifted = refl; gone = 0; count = refl; tells = refl; failing = tt; limbo = refl; seat = refl }
 
   keeps_added : (a b old new : List (SpareView K V)) (s : SpareView K V) (gone : ℕ) → old ≡ a ++ b → Keeps old s gone new → (c : List (SpareView K V)) × (new ≡ a ++ c) × Keeps b s gone c
   keeps_added a b old new s gone e k = keeps_behind a b new s gone (subst (λ (l : List (SpareView K V)). Keeps l s gone new) e k)
 
-  pub tried_own : (old now drawn new : EvictorView K V) (s : SpareView K V) (reclaimed more sum : ℕ) → (went : List (SpareView K V)) × Tried old now went [] reclaimed → DrawsOwn now drawn s → Tries drawn new s more
-      → sum ≡ min (reclaimed + more) (2 ^ 64 - 1) → (went : List (SpareView K V)) × Tried old new went [] sum
-  tried_own old now drawn new s reclaimed more sum (went, r) d t is =
+  pub tried_own : (old now drawn new : EvictorView K V) (s : SpareView K V) (reclaimed more sum : ℕ) (was failed : Bool) → (went : List (SpareView K V)) × Tried old now went [] reclaimed was → DrawsOwn now drawn s → Tries drawn new s more → (failed ≡ true → more ≡ 0)
+      → sum ≡ min (reclaimed + more) (2 ^ 64 - 1) → (went : List (SpareView K V)) × Tried old new went [] sum failed
+  tried_own old now drawn new s reclaimed more sum was failed (went, r) d t none is =
       let k = keeps_added old.kept r.added drawn.kept new.kept s more (d.kept ∙ r.kept) t.kept in
       let before : Sifts went r.added = subst (λ (l : List (SpareView K V)). Sifts l r.added) (append-nil went) r.sifted in
       let told : AreTold now.pass.front went = subst (λ (l : List (SpareView K V)). AreTold now.pass.front l) (append-nil went) r.told in
@@ -191,14 +224,15 @@ module _ {K V : Type 0} where
           gone = r.gone + more;
           count = subst (λ (l : List (SpareView K V)). AreGone (r.gone + more) l k.0) (sym (append-nil (went ++ s ∷ []))) (gone_push went r.added k.0 s r.gone more lost k.2);
           tells = shown_more r.gone more reclaimed more sum r.tells (keeps_shown r.added k.0 s more k.2) is;
+          failing = subst (λ (l : List (SpareView K V)). FailsLast failed l k.0) (sym (append-nil (went ++ s ∷ []))) (fails_here went r.added k.0 s more failed k.2 none);
           limbo = r.limbo ∙ (ap (λ (l : List (SpareView K V)). went ++ l) (d.limbo ∙ ap (λ (l : List (SpareView K V)). s ∷ l) (sym t.limbo)) ∙ sym (append_assoc went (s ∷ []) new.limbo));
           seat = t.seat ∙ (d.seat ∙ r.seat);
         },
       )
 
-  pub tried_next : (old now drawn new : EvictorView K V) (s : SpareView K V) (reclaimed more sum : ℕ) → (taken : List (SpareView K V)) × Tried old now [] taken reclaimed → DrawsNext now drawn s → Tries drawn new s more
-      → sum ≡ min (reclaimed + more) (2 ^ 64 - 1) → (taken : List (SpareView K V)) × Tried old new [] taken sum
-  tried_next old now drawn new s reclaimed more sum (taken, r) d t is =
+  pub tried_next : (old now drawn new : EvictorView K V) (s : SpareView K V) (reclaimed more sum : ℕ) (was failed : Bool) → (taken : List (SpareView K V)) × Tried old now [] taken reclaimed was → DrawsNext now drawn s → Tries drawn new s more → (failed ≡ true → more ≡ 0)
+      → sum ≡ min (reclaimed + more) (2 ^ 64 - 1) → (taken : List (SpareView K V)) × Tried old new [] taken sum failed
+  tried_next old now drawn new s reclaimed more sum was failed (taken, r) d t none is =
       let k = keeps_added old.kept r.added drawn.kept new.kept s more (d.kept ∙ r.kept) t.kept in (
         taken ++ s ∷ [],
         record {
@@ -210,14 +244,15 @@ module _ {K V : Type 0} where
           gone = r.gone + more;
           count = gone_push taken r.added k.0 s r.gone more r.count k.2;
           tells = shown_more r.gone more reclaimed more sum r.tells (keeps_shown r.added k.0 s more k.2) is;
+          failing = fails_here taken r.added k.0 s more failed k.2 none;
           limbo = r.limbo ∙ sym (t.limbo ∙ d.limbo);
           seat = takes_one_more taken s old.seat now.seat new.seat r.seat (subst (λ (v : SeatView (SpareView K V)). TakesNext now.seat s v) (sym t.seat) d.seat);
         },
       )
 
   -- one that draws nothing more
-  tried_stays : (old now new : EvictorView K V) (went taken : List (SpareView K V)) (reclaimed : ℕ) → Tried old now went taken reclaimed → Stays now new → Tried old new went taken reclaimed
-  tried_stays old now new went taken reclaimed r s = record {
+  tried_stays : (old now new : EvictorView K V) (went taken : List (SpareView K V)) (reclaimed : ℕ) (failed : Bool) → Tried old now went taken reclaimed failed → Stays now new → Tried old new went taken reclaimed failed
+  tried_stays old now new went taken reclaimed failed r s = record {
     works = works_trans r.works s.works;
     added = r.added;
     kept = s.kept ∙ r.kept;
@@ -226,15 +261,16 @@ module _ {K V : Type 0} where
     gone = r.gone;
     count = r.count;
     tells = r.tells;
+    failing = r.failing;
     limbo = r.limbo ∙ ap (λ (l : List (SpareView K V)). went ++ l) (sym s.limbo);
     seat = subst (λ (v : SeatView (SpareView K V)). TakesAll old.seat taken v) (sym s.seat) r.seat;
   }
 
-  pub tried_empty : (old now new : EvictorView K V) (reclaimed : ℕ) → (went : List (SpareView K V)) × Tried old now went [] reclaimed → (now.limbo ≡ []) × Stays now new → (went : List (SpareView K V)) × Tried old new went [] reclaimed
-  tried_empty old now new reclaimed (went, r) s = (went, tried_stays old now new went [] reclaimed r s.1)
+  pub tried_empty : (old now new : EvictorView K V) (reclaimed : ℕ) (failed : Bool) → (went : List (SpareView K V)) × Tried old now went [] reclaimed failed → (now.limbo ≡ []) × Stays now new → (went : List (SpareView K V)) × Tried old new went [] reclaimed failed
+  tried_empty old now new reclaimed failed (went, r) s = (went, tried_stays old now new went [] reclaimed failed r s.1)
 
-  pub tried_drained : (old now new : EvictorView K V) (reclaimed : ℕ) → (taken : List (SpareView K V)) × Tried old now [] taken reclaimed → IsDrained now.seat × Stays now new → (taken : List (SpareView K V)) × Tried old new [] taken reclaimed
-  tried_drained old now new reclaimed (taken, r) s = (taken, tried_stays old now new [] taken reclaimed r s.1)
+  pub tried_drained : (old now new : EvictorView K V) (reclaimed : ℕ) (failed : Bool) → (taken : List (SpareView K V)) × Tried old now [] taken reclaimed failed → IsDrained now.seat × Stays now new → (taken : List (SpareView K V)) × Tried old new [] taken reclaimed failed
+  tried_drained old now new reclaimed failed (taken, r) s = (taken, tried_stays old now new [] taken reclaimed failed r s.1)
 
   pub stopped_empty : (now new : EvictorView K V) → (now.limbo ≡ []) × Stays now new → IsFull new ⊎ (new.limbo ≡ [])
   stopped_empty now new s = inr (s.1.limbo ∙ s.0)
@@ -244,35 +280,36 @@ module _ {K V : Type 0} where
 
   -- ---- all three
 
-  pub collected : (old a b new : EvictorView K V) (x y z : ℕ) → Retries old a x → (went : List (SpareView K V)) × Tried a b went [] y → IsFull b ⊎ (b.limbo ≡ []) → (taken : List (SpareView K V)) × Tried b new [] taken z → IsFull new ⊎ IsDrained new.seat
-      → (gone : ℕ) × Collects old new gone × ((sum total : ℕ) → x < 2 ^ 64 → sum ≡ min (x + y) (2 ^ 64 - 1) → total ≡ min (sum + z) (2 ^ 64 - 1) → total ≡ shown gone)
-  collected old a b new x y z r (went, o) own (taken, q) next = (
-    x + (o.gone + q.gone),
-    record {
+  collected : (old a b new : EvictorView K V) (x y z : ℕ) (f g h : Bool) (answer : Collected) (r : Retries old a x f) (own : (went : List (SpareView K V)) × Tried a b went [] y g) (next : (taken : List (SpareView K V)) × Tried b new [] taken z h)
+      → FailsLast answer.failed (r.tried ++ (own.0 ++ next.0)) (r.added ++ (own.1.added ++ next.1.added)) → (r.left ≡ []) ⊎ ((own.0 ≡ []) × (next.0 ≡ [])) → (answer.failed ≡ false → r.left ≡ [])
+      → (answer.failed ≡ false → IsFull new ⊎ ((new.limbo ≡ []) × IsDrained new.seat)) → x < 2 ^ 64 → answer.reclaimed ≡ min (min (x + y) (2 ^ 64 - 1) + z) (2 ^ 64 - 1) → answer.kept ≡ length new.kept → Collecting old new answer
+  collected old a b new x y z f g h answer r (went, o) (taken, q) failing first whole stopped few is count = record {
+    gone = x + (o.gone + q.gone);
+    collects = record {
       works = works_trans r.works (works_trans o.works q.works);
+      again = r.tried;
+      left = r.left;
       went = went;
       taken = taken;
+      all = r.all;
       limbo = sym r.limbo ∙ (o.limbo ∙ ap (λ (l : List (SpareView K V)). went ++ l) q.limbo);
       seat = subst (λ (v : SeatView (SpareView K V)). TakesAll v taken new.seat) (o.seat ∙ r.seat) q.seat;
-      told = told_append new.pass.front old.kept (went ++ taken) (told_later a.pass.front new.pass.front (works_trans o.works q.works).goes.grows old.kept r.told)
+      told = told_append new.pass.front r.tried (went ++ taken) (told_later a.pass.front new.pass.front (works_trans o.works q.works).goes.grows r.tried r.told)
           (told_append new.pass.front went taken (told_later b.pass.front new.pass.front q.works.goes.grows went told) q.told);
-      kept = subst (λ (l : List (SpareView K V)). Sifts (old.kept ++ (went ++ taken)) l) kept (sifts_append old.kept a.kept (went ++ taken) (o.added ++ q.added) r.kept (sifts_append went o.added taken q.added sifted q.sifted));
-      count = subst (λ (l : List (SpareView K V)). AreGone (x + (o.gone + q.gone)) (old.kept ++ (went ++ taken)) l) kept
-          (gone_append old.kept a.kept (went ++ taken) (o.added ++ q.added) x (o.gone + q.gone) r.count (gone_append went o.added taken q.added o.gone q.gone lost q.count));
-      stopped = ⊎_elim
-          (λ full. inl full)
-          (λ drained. ⊎_elim
-          (λ full. inl (let n = ap length q.kept in let room = q.works.room in omega (arith, full, n, room, length-append b.kept q.added)))
-          (λ none. inr (sym q.limbo ∙ none, drained))
-          own)
-          next;
-    },
-    λ sum total few is at. omega (arith, few, is, at, o.tells, q.tells),
-  )
+      added = r.added ++ (o.added ++ q.added);
+      kept = q.kept ∙ (ap (λ (l : List (SpareView K V)). l ++ q.added) (o.kept ∙ ap (λ (l : List (SpareView K V)). l ++ o.added) r.kept)
+          ∙ (append_assoc (r.left ++ r.added) o.added q.added ∙ append_assoc r.left r.added (o.added ++ q.added)));
+      sifted = sifts_append r.tried r.added (went ++ taken) (o.added ++ q.added) r.sifted (sifts_append went o.added taken q.added sifted q.sifted);
+      count = gone_append r.tried r.added (went ++ taken) (o.added ++ q.added) x (o.gone + q.gone) r.count (gone_append went o.added taken q.added o.gone q.gone lost q.count);
+      failing = failing;
+      first = first;
+      whole = whole;
+      stopped = stopped;
+    };
+    reclaimed = omega (arith, few, is, o.tells, q.tells);
+    kept = count;
+  }
     where
-      kept : a.kept ++ (o.added ++ q.added) ≡ new.kept
-      kept = sym (q.kept ∙ (ap (λ (l : List (SpareView K V)). l ++ q.added) o.kept ∙ append_assoc a.kept o.added q.added))
-
       sifted : Sifts went o.added
       sifted = subst (λ (l : List (SpareView K V)). Sifts l o.added) (append-nil went) o.sifted
 
@@ -282,6 +319,49 @@ module _ {K V : Type 0} where
       lost : AreGone o.gone went o.added
       lost = subst (λ (l : List (SpareView K V)). AreGone o.gone l o.added) (append-nil went) o.count
 
+  -- the device failed at a spare that was kept
+  pub collected_kept : (old new : EvictorView K V) (x : ℕ) (f : Bool) (answer : Collected) → Retries old new x f → f ≡ true → answer.failed ≡ f → x < 2 ^ 64 → answer.reclaimed ≡ x → answer.kept ≡ length new.kept → Collecting old new answer
+  unfolding tried_none
+  collected_kept old new x f answer r is same few sum count =
+      collected old new new new x 0 0 f false false answer r ([], tried_none new) ([], tried_none new) failing (inr (refl, refl)) (λ other. absurd (unlike answer.failed (same ∙ is) other)) (λ other. absurd (unlike answer.failed (same ∙ is) other)) few
+      (omega (arith, few, sum)) count
+    where
+      failing : FailsLast answer.failed (r.tried ++ []) (r.added ++ [])
+      failing = subst (λ (p : List (SpareView K V) × List (SpareView K V)). FailsLast answer.failed p.0 p.1) (λ i. (sym (append-nil r.tried) i, sym (append-nil r.added) i)) (subst (λ (b : Bool). FailsLast b r.tried r.added) (sym same) r.failing)
+
+  -- it failed at one of its own limbo
+  pub collected_own : (old a new : EvictorView K V) (x y : ℕ) (f g : Bool) (answer : Collected) → Retries old a x f → f ≡ false → (went : List (SpareView K V)) × Tried a new went [] y g → g ≡ true → answer.failed ≡ g → x < 2 ^ 64
+      → answer.reclaimed ≡ min (x + y) (2 ^ 64 - 1) → answer.kept ≡ length new.kept → Collecting old new answer
+  unfolding tried_none
+  collected_own old a new x y f g answer r before (went, o) is same few sum count =
+      collected old a new new x y 0 f g false answer r (went, o) ([], tried_none new) failing (inl (r.whole before)) (λ other. r.whole before) (λ other. absurd (unlike answer.failed (same ∙ is) other)) few (omega (arith, few, sum)) count
+    where
+      behind : FailsLast answer.failed (r.tried ++ (went ++ [])) (r.added ++ o.added)
+      behind = fails_behind r.tried r.added (went ++ []) o.added answer.failed (subst (λ (b : Bool). FailsLast b (went ++ []) o.added) (sym same) o.failing)
+
+      failing : FailsLast answer.failed (r.tried ++ (went ++ [])) (r.added ++ (o.added ++ []))
+      failing = subst (λ (l : List (SpareView K V)). FailsLast answer.failed (r.tried ++ (went ++ [])) (r.added ++ l)) (sym (append-nil o.added)) behind
+
+  -- it failed at one of the queue, or did not fail
+  pub collected_next : (old a b new : EvictorView K V) (x y z : ℕ) (f g h : Bool) (answer : Collected) → Retries old a x f → f ≡ false → (went : List (SpareView K V)) × Tried a b went [] y g → g ≡ false → (g ≡ false → IsFull b ⊎ (b.limbo ≡ []))
+      → (taken : List (SpareView K V)) × Tried b new [] taken z h → (h ≡ false → IsFull new ⊎ IsDrained new.seat) → answer.failed ≡ h → x < 2 ^ 64 → answer.reclaimed ≡ min (min (x + y) (2 ^ 64 - 1) + z) (2 ^ 64 - 1) → answer.kept ≡ length new.kept
+      → Collecting old new answer
+  collected_next old a b new x y z f g h answer r before (went, o) own_before own (taken, q) next same few sum count =
+      collected old a b new x y z f g h answer r (went, o) (taken, q) failing (inl (r.whole before)) (λ _. r.whole before) stopped few sum count
+    where
+      failing : FailsLast answer.failed (r.tried ++ (went ++ taken)) (r.added ++ (o.added ++ q.added))
+      failing = fails_behind r.tried r.added (went ++ taken) (o.added ++ q.added) answer.failed
+          (fails_behind went o.added taken q.added answer.failed (subst (λ (x : Bool). FailsLast x taken q.added) (sym same) q.failing))
+
+      stopped : answer.failed ≡ false → IsFull new ⊎ ((new.limbo ≡ []) × IsDrained new.seat)
+      stopped is = ⊎_elim
+          (λ full. inl full)
+          (λ drained. ⊎_elim
+          (λ full. inl (let n = ap length q.kept in let room = q.works.room in omega (arith, full, n, room, length-append b.kept q.added)))
+          (λ none. inr (sym q.limbo ∙ none, drained))
+          (own own_before))
+          (next (sym same ∙ is))
+
   -- ---- a turn
 
   -- what the caller does where frames are asked through it
@@ -289,8 +369,8 @@ module _ {K V : Type 0} where
   asked_goes {J} count hand n s t = asks_all (λ (a b : Caller K V J). Goes a.pass b.pass × (b.limbo ≡ a.limbo)) (λ f a b. Goes a.pass b.pass × (b.limbo ≡ a.limbo)) count hand
       (λ a. (goes_self a.pass, refl)) (λ a b c g h. (goes_trans g.0 h.0, h.1 ∙ g.1)) (λ f a b g. g) n s t
 
-  pub turns_collect : (old new : EvictorView K V) (gone : ℕ) → Collects old new gone → Turns old new
-  turns_collect old new gone c = record { goes = c.works.goes; count = ap (λ (k : _). length k.marks) c.works.clock; room = c.works.room }
+  pub turns_collect : (old new : EvictorView K V) (gone : ℕ) (failed : Bool) → Collects old new gone failed → Turns old new
+  turns_collect old new gone failed c = record { goes = c.works.goes; count = ap (λ (k : _). length k.marks) c.works.clock; room = c.works.room }
 
   pub turns_pick : (old new : EvictorView K V) (v : Option ℕ) → Picks old new v → Turns old new
   turns_pick old new v p = record { goes = p.goes; count = p.walked.swept.count_stays; room = p.room }

@@ -1,5 +1,5 @@
 -- What an evictor does: where spares go, and whom it gives up.
-use Rattle.std.specs.Prelude.{◌≡◌, ℕ, ◌+◌, ◌-◌, ◌^◌, ◌<◌, ◌≤◌, min, Bool, false, List, [], ◌∷◌, ◌++◌, ◌⊎◌, length, Option, Some, None, Result, Ok, Err, IfOk, IfErr, IfSome, IfNone, ⊤}
+use Rattle.std.specs.Prelude.{◌≡◌, ℕ, ◌+◌, ◌-◌, ◌^◌, ◌<◌, ◌≤◌, min, Bool, false, true, List, [], ◌∷◌, ◌++◌, ◌⊎◌, length, Option, Some, None, Result, Ok, Err, IfOk, IfErr, IfSome, IfNone, ⊤}
 use mathlib.Core.List.{IsPrefix}
 use Rattle.far_object.specs.declared.format.Format.{Format}
 use Rattle.table_core.specs.declared.event.Event.{Event}
@@ -106,17 +106,30 @@ module _ {K V : Type 0} where
   abbrev pub AreGone : ℕ → List (SpareView K V) → List (SpareView K V) → Type 0
   AreGone gone ss kept = gone + length kept ≡ length ss
 
-  -- the kept spares were tried, each once
-  pub record Retries (old new : EvictorView K V) (reclaimed : ℕ) : Type 0 where
+  -- where the device failed, it did so at the spare that was tried last, which is kept behind the others
+  abbrev pub FailsLast : Bool → List (SpareView K V) → List (SpareView K V) → Type 0
+  FailsLast false tried kept = ⊤
+  FailsLast true tried kept = (before : List (SpareView K V)) × (others : List (SpareView K V)) × (s : SpareView K V) × (tried ≡ before ++ s ∷ []) × (kept ≡ others ++ s ∷ [])
+
+  -- the kept spares were tried from the oldest on, each once, and all of them where the device did not fail. Those that were left stay before those that came back
+  pub record Retries (old new : EvictorView K V) (reclaimed : ℕ) (failed : Bool) : Type 0 where
     pub works : Works old new
-    pub told : AreTold new.pass.front old.kept
-    pub kept : Sifts old.kept new.kept
-    pub count : AreGone reclaimed old.kept new.kept
+    pub tried : List (SpareView K V)
+    pub left : List (SpareView K V)
+    pub all : old.kept ≡ tried ++ left
+    pub whole : failed ≡ false → left ≡ []
+    pub added : List (SpareView K V)
+    pub kept : new.kept ≡ left ++ added
+    pub told : AreTold new.pass.front tried
+    pub sifted : Sifts tried added
+    pub count : AreGone reclaimed tried added
+    pub few : reclaimed < 2 ^ 64
+    pub failing : FailsLast failed tried added
     pub limbo : new.limbo ≡ old.limbo
     pub seat : new.seat ≡ old.seat
 
   -- these of its own limbo and these of the queue were tried, each once, behind those that are kept
-  pub record Tried (old new : EvictorView K V) (went taken : List (SpareView K V)) (reclaimed : ℕ) : Type 0 where
+  pub record Tried (old new : EvictorView K V) (went taken : List (SpareView K V)) (reclaimed : ℕ) (failed : Bool) : Type 0 where
     pub works : Works old new
     pub added : List (SpareView K V)
     pub kept : new.kept ≡ old.kept ++ added
@@ -125,25 +138,36 @@ module _ {K V : Type 0} where
     pub gone : ℕ
     pub count : AreGone gone (went ++ taken) added
     pub tells : reclaimed ≡ shown gone
+    pub failing : FailsLast failed (went ++ taken) added
     pub limbo : old.limbo ≡ went ++ new.limbo
     pub seat : TakesAll old.seat taken new.seat
 
-  -- a collecting loses no spare: each that it kept, each of these of its limbo, and each of these of the queue was tried, and was reclaimed or is kept, in order. It ends where there is room for no more, or nothing is left
-  pub record Collects (old new : EvictorView K V) (gone : ℕ) : Type 0 where
+  -- a collecting loses no spare: each of these that it kept, each of these of its limbo, and each of these of the queue was tried, and was reclaimed or is kept, in order.
+  -- It tries all that it kept, and ends where there is room for no more, or nothing is left. Only where the device failed, which was at the last that it tried, it ends before:
+  -- then some that it kept may be left, before it tried any other, and stay before those that came back
+  pub record Collects (old new : EvictorView K V) (gone : ℕ) (failed : Bool) : Type 0 where
     pub works : Works old new
+    pub again : List (SpareView K V)
+    pub left : List (SpareView K V)
     pub went : List (SpareView K V)
     pub taken : List (SpareView K V)
+    pub all : old.kept ≡ again ++ left
     pub limbo : old.limbo ≡ went ++ new.limbo
     pub seat : TakesAll old.seat taken new.seat
-    pub told : AreTold new.pass.front (old.kept ++ (went ++ taken))
-    pub kept : Sifts (old.kept ++ (went ++ taken)) new.kept
-    pub count : AreGone gone (old.kept ++ (went ++ taken)) new.kept
-    pub stopped : IsFull new ⊎ ((new.limbo ≡ []) × IsDrained new.seat)
+    pub told : AreTold new.pass.front (again ++ (went ++ taken))
+    pub added : List (SpareView K V)
+    pub kept : new.kept ≡ left ++ added
+    pub sifted : Sifts (again ++ (went ++ taken)) added
+    pub count : AreGone gone (again ++ (went ++ taken)) added
+    pub failing : FailsLast failed (again ++ (went ++ taken)) added
+    pub first : (left ≡ []) ⊎ ((went ≡ []) × (taken ≡ []))
+    pub whole : failed ≡ false → left ≡ []
+    pub stopped : failed ≡ false → IsFull new ⊎ ((new.limbo ≡ []) × IsDrained new.seat)
 
-  -- the same, and the answer tells how many were reclaimed and how many are kept
+  -- the same, and the answer tells how many were reclaimed, how many are kept, and whether the device failed
   pub record Collecting (old new : EvictorView K V) (answer : Collected) : Type 0 where
     pub gone : ℕ
-    pub collects : Collects old new gone
+    pub collects : Collects old new gone answer.failed
     pub reclaimed : answer.reclaimed ≡ shown gone
     pub kept : answer.kept ≡ length new.kept
 
@@ -208,10 +232,12 @@ module _ {K V : Type 0} (ek : K → List ℕ) (ev : V → List ℕ) (l : Limits)
     pub victim : Option ℕ
     pub first : ℕ
     pub second : ℕ
-    pub collects : Collects old collected first
+    pub first_failed : Bool
+    pub second_failed : Bool
+    pub collects : Collects old collected first first_failed
     pub picks : Picks collected picked victim
     pub gives_up : GivesUpVictim picked given_up victim answer.evicted
-    pub collects_again : Collects given_up new second
+    pub collects_again : Collects given_up new second second_failed
     pub reclaimed : answer.reclaimed ≡ shown (first + second)
     pub kept : answer.kept ≡ length new.kept
 
@@ -221,6 +247,7 @@ module _ {K V : Type 0} (ek : K → List ℕ) (ev : V → List ℕ) (l : Limits)
     pub picked : EvictorView K V
     pub victim : ℕ
     pub first : ℕ
-    pub collects : Collects old collected first
+    pub failed : Bool
+    pub collects : Collects old collected first failed
     pub picks : Picks collected picked (Some victim)
     pub gives_up : GivesUp picked new victim (Err refusal)

@@ -26,11 +26,12 @@ use std::marker::Model;
 use std::sync::Wait;
 use version_words::{Mark, Naming, Spare};
 
-/// How many spares a collecting had reclaimed, and how many are kept.
+/// How many spares a collecting had reclaimed, how many are kept, and whether it ended since the device failed.
 #[derive(Clone, Copy, Debug, PartialEq, Eq)]
 pub struct Collected {
     pub reclaimed: u64,
     pub kept: u64,
+    pub failed: bool,
 }
 
 /// Whether a turn swapped a frame out, how many spares it had reclaimed, and how many are kept.
@@ -131,6 +132,9 @@ impl<K: FarObject, V: FarObject, J: Naming, B: QueueNaming> Evictor<K, V, J, B> 
     /// Has each kept spare reclaimed once, then those of its own limbo and of the queue while there is room to keep one
     /// more. What comes back, since a reader is there, the device failed or a growth was refused, is kept behind the
     /// others. It never refuses, and takes no memory of its own.
+    ///
+    /// Once the device failed it is not asked again: the collecting ends, and `failed` says so. Kept spares that were not tried
+    /// by then are the first that the next collecting tries.
     pub fn collect<D: Device, R: Wait>(
         &mut self,
         rt: &R,
@@ -140,12 +144,15 @@ impl<K: FarObject, V: FarObject, J: Naming, B: QueueNaming> Evictor<K, V, J, B> 
         ensures { Collecting self.old self.new result }
     {
         let again = self.retry(rt, table);
-        let own = self.empty_limbo(rt, table);
-        let others = self.empty_queue(rt, table, queue);
-        Collected {
-            reclaimed: again.saturating_add(own).saturating_add(others),
-            kept: self.kept_len(),
+        if again.failed {
+            return self.collected(again);
         }
+        let own = again.and(self.empty_limbo(rt, table));
+        if own.failed {
+            return self.collected(own);
+        }
+        let all = own.and(self.empty_queue(rt, table, queue));
+        self.collected(all)
     }
 
     /// Collects, gives one frame up by second chance, and collects again. `evicted` says whether a frame was swapped out.

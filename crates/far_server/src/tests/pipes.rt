@@ -9,6 +9,7 @@ use std::process::Abort;
 use std::rt::Clock;
 use std::sync::Wait;
 use std::thread::Threads;
+use stored_keys::DigestKeys;
 
 /// Bytes of a frame before those that it brings.
 const HEAD: usize = 13;
@@ -60,6 +61,10 @@ pub fn settings(lanes: u32) -> ServerSettings {
         large: 10,
         far_limit: 0,
         password: None,
+        digest_keys: DigestKeys {
+            first: 1,
+            second: 2,
+        },
         seed: 1,
         options: Options {
             most_memory: 1 << 24,

@@ -1,8 +1,9 @@
 //! What the sweep takes out, and what it leaves.
 use super::pipes::settings;
 use crate::around::{Around, Desk};
+use crate::eviction::{Victims, make_room};
 use crate::renewal::Renewal;
-use crate::sweeping::{Hand, expire, expire_in, is_due, make_room, sweep};
+use crate::sweeping::{Hand, expire, expire_in, is_due, sweep};
 use crate::tally::Tallies;
 use crate::turns::Turns;
 use crate::{FarUsage, ServerSettings};
@@ -66,6 +67,8 @@ enum Trial {
     Unread,
     /// There is more in frames than may be.
     Full,
+    /// The same, after two of three keys were read.
+    Used,
     /// All lanes have ended.
     Ended,
 }
@@ -125,15 +128,8 @@ impl<C> Sweeping<'_, C> {
         let key = text(alloc, b"a")?;
         let is_gone = expire(rt, me, &key, &old, 150, desk)?;
         let left = there(rt, alloc, me, KEYS.as_slice())?;
-        let lost = small(desk.tally.lost);
-        Ok([
-            u32::from(is_gone),
-            left,
-            lost,
-            small(desk.tally.expired),
-            0,
-            0,
-        ])
+        let (lost, expired) = (small(desk.tally.lost), small(desk.tally.expired));
+        Ok([u32::from(is_gone), left, lost, expired, 0, 0])
     }
 
     fn unread<S: Calls<Blob>, R: Wait>(
@@ -151,14 +147,8 @@ impl<C> Sweeping<'_, C> {
         let refused = expire_in(rt, alloc, me, 0, 150, desk);
         let is_device = matches!(refused, Err(Refusal::Device));
         let left = there(rt, alloc, me, KEYS.as_slice())?;
-        Ok([
-            u32::from(is_out),
-            u32::from(is_device),
-            left,
-            small(desk.tally.lost),
-            0,
-            0,
-        ])
+        let lost = small(desk.tally.lost);
+        Ok([u32::from(is_out), u32::from(is_device), left, lost, 0, 0])
     }
 }
 
@@ -172,12 +162,12 @@ impl<C: Clock> Sweeping<'_, C> {
         for key in KEYS {
             set(around.rt, around.alloc, me, key, 0)?;
         }
-        let mut hand = Hand::new(me.buckets());
-        let first = make_room(around, me, &mut hand, desk);
+        let mut victims = Victims::new(around.alloc, self.settings.map.frames);
+        let first = make_room(around, me, &mut victims, desk);
         let evicted = small(desk.tally.evicted);
         let mut turns = 1u32;
         for _ in 0..100 {
-            if !make_room(around, me, &mut hand, desk) {
+            if !make_room(around, me, &mut victims, desk) {
                 break;
             }
             turns = turns.saturating_add(1);
@@ -191,6 +181,37 @@ impl<C: Clock> Sweeping<'_, C> {
             small(desk.tally.lost),
             turns,
         ])
+    }
+
+    /// For each of the keys, which are there after the others were read, and room was made.
+    fn used<S: Calls<Blob>, R: Wait>(
+        &self,
+        around: &Around<'_, C, R>,
+        me: &mut S,
+        desk: &mut Desk,
+    ) -> Result<Told, Refusal> {
+        let (mut told, frames) = ([0; 6], self.settings.map.frames);
+        for (left, unused) in told.iter_mut().zip(KEYS) {
+            for key in KEYS {
+                set(around.rt, around.alloc, me, key, 0)?;
+            }
+            // What was read before is forgotten.
+            for frame in 0..frames {
+                let _ = me.unread_in(frame);
+            }
+            for key in KEYS.into_iter().filter(|key| *key != unused) {
+                me.contains(around.rt, &text(around.alloc, key)?)?;
+            }
+            let mut victims = Victims::new(around.alloc, frames);
+            // Rounds of the hand, of which each takes some turns.
+            for _ in 0..16 {
+                if !make_room(around, me, &mut victims, desk) {
+                    break;
+                }
+            }
+            *left = there(around.rt, around.alloc, me, KEYS.as_slice())?;
+        }
+        Ok(told)
     }
 }
 
@@ -224,6 +245,7 @@ impl<C: Clock + Sync> Work<Blob> for Sweeping<'_, C> {
             Trial::Replaced => self.replaced(rt, alloc, me, &mut desk),
             Trial::Unread => self.unread(rt, alloc, me, &mut desk),
             Trial::Full => self.full(&around, me, &mut desk),
+            Trial::Used => self.used(&around, me, &mut desk),
             Trial::Ended => {
                 self.tallies.leave();
                 set(rt, alloc, me, b"a", 1)?;
@@ -310,6 +332,27 @@ fn keys_go_where_no_device_keeps_any(rt: HostRuntime) {
 }
 
 #[test]
+fn keys_that_are_read_stay(rt: HostRuntime) {
+    let alloc = rt.alloc();
+    let device = FakeDevice::new(alloc);
+    let map = Settings {
+        bytes: 15_000,
+        ..Settings::new(64, 128, 1 << 16)
+    };
+    let said = told(&rt, alloc, map, false, device, Trial::Used);
+    assert_eq!(&rt; said, [0b011, 0b101, 0b110, 0, 0, 0]);
+}
+
+#[test]
+fn what_is_new_in_a_frame_stays_for_a_round(rt: HostRuntime) {
+    let mut victims = Victims::new(rt.alloc(), 2);
+    assert!(&rt; !victims.meet(1, 7));
+    assert!(&rt; victims.meet(1, 7));
+    assert!(&rt; !victims.meet(1, 7));
+    assert!(&rt; !victims.meet(1, 8));
+}
+
+#[test]
 fn objects_go_to_a_device_first(rt: HostRuntime) {
     let alloc = rt.alloc();
     // It fails while the session itself swaps out, and no longer then.
@@ -342,7 +385,7 @@ fn the_sweep_ends_with_the_lanes(rt: HostRuntime) {
 
 #[test]
 fn a_round_is_due_while_values_have_deadlines(rt: HostRuntime) {
-    let mut hand = Hand::new(2);
+    let mut hand = Hand::new(rt.alloc(), 2, 8);
     assert!(&rt; !is_due(&mut hand, 2, 0));
     assert!(&rt; is_due(&mut hand, 2, 1));
     hand.next = 1;

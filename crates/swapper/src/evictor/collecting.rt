@@ -1,18 +1,38 @@
-//! Spares are tried one after another.
-ghost use Rattle.std.specs.Prelude.{◌≡◌, ◌<◌, ◌≤◌, ◌⊎◌, [], List, length, MatchBool, MatchOption, IfErr, OnOk};
+//! Spares are tried one after another, until the device fails: it is not asked again in this collecting.
+ghost use Rattle.std.specs.Prelude.{◌≡◌, ◌+◌, ◌-◌, ◌^◌, ◌<◌, ◌≤◌, ◌⊎◌, [], List, length, min, false, true, MatchBool, MatchOption, IfErr, OnOk};
 ghost use mathlib.Core.List.{IsPrefix};
 ghost use Rattle.version_words.specs.Views.{Goes, SpareView};
 ghost use Rattle.hash_table.specs.Reclaims.{WasTried, IsReclaimed};
 ghost use Rattle.swapper.specs.Evictors.{Tries, Stays, DrawsKept, DrawsOwn, DrawsNext, IsFull, IsDrained, Retries, Tried};
 
-use super::Evictor;
+use super::{Collected, Evictor};
 use crate::naming::QueueNaming;
 use crate::queue::SpareQueue;
 use far_device::Device;
 use far_object::FarObject;
-use hash_table::{Caller, FarTable};
+use hash_table::{Caller, FarTable, ReclaimFault};
 use std::sync::Wait;
 use version_words::{Naming, Spare};
+
+/// How many of the spares that were tried were reclaimed, and whether the device failed at the last one.
+#[derive(Clone, Copy)]
+pub(super) struct Attempts {
+    pub(super) reclaimed: u64,
+    pub(super) failed: bool,
+}
+
+impl Attempts {
+    // These, and the next that were made.
+    pub(super) fn and(self, next: Attempts) -> Attempts
+        ensures reclaimed { result.reclaimed ≡ min (self.reclaimed + next.reclaimed) (2 ^ 64 - 1) }
+        ensures failed { result.failed ≡ next.failed }
+    {
+        Attempts {
+            reclaimed: self.reclaimed.saturating_add(next.reclaimed),
+            failed: next.failed,
+        }
+    }
+}
 
 // The table's `reclaim`, of which only what every collecting rests on is said: of a spare that comes back nothing else is
 // known, so that it can't be let go.
@@ -21,17 +41,17 @@ fn reclaim<K: FarObject, V: FarObject, J: Naming, D: Device, R: Wait>(
     table: &FarTable<K, V, J, D>,
     caller: &mut Caller<K, V, J>,
     spare: Spare<K, V, J>,
-) -> Result<(), Spare<K, V, J>>
+) -> Result<(), (Spare<K, V, J>, ReclaimFault)>
     ensures goes { Goes caller.old.pass caller.new.pass }
     ensures limbo { caller.new.limbo ≡ caller.old.limbo }
     ensures told { IsPrefix spare.front caller.new.pass.front }
     ensures tried { WasTried spare }
     ensures reclaimed { OnOk result (IsReclaimed spare) }
-    ensures back { IfErr result (λ s. s ≡ spare) }
+    ensures back { IfErr result (λ e. e.0 ≡ spare) }
 {
     match table.reclaim(rt, caller, spare) {
         Ok(_) => Ok(()),
-        Err((back, _)) => Err(back),
+        Err(back) => Err(back),
     }
 }
 
@@ -50,21 +70,41 @@ impl<K: FarObject, V: FarObject, J: Naming, B: QueueNaming> Evictor<K, V, J, B> 
         self.kept.len() as u64
     }
 
-    // Has the spare reclaimed, or keeps it as the last one. Answers 1 where it was reclaimed, and else 0.
+    // What the attempts of a collecting come to.
+    pub(super) fn collected(&self, attempts: Attempts) -> Collected
+        ensures reclaimed { result.reclaimed ≡ attempts.reclaimed }
+        ensures kept { result.kept ≡ length self.now.kept }
+        ensures failed { result.failed ≡ attempts.failed }
+    {
+        Collected {
+            reclaimed: attempts.reclaimed,
+            kept: self.kept_len(),
+            failed: attempts.failed,
+        }
+    }
+
+    // Has the spare reclaimed, or keeps it as the last one.
     fn try_one<D: Device, R: Wait>(
         &mut self,
         rt: &R,
         table: &FarTable<K, V, J, D>,
         spare: Spare<K, V, J>,
-    ) -> u64
+    ) -> Attempts
         requires { length self.old.kept < self.old.room }
-        ensures { Tries self.old self.new spare result }
+        ensures tries { Tries self.old self.new spare result.reclaimed }
+        ensures failed { result.failed ≡ true → result.reclaimed ≡ 0 }
     {
         match reclaim(rt, table, &mut self.caller, spare) {
-            Ok(()) => 1,
-            Err(back) => {
+            Ok(()) => Attempts {
+                reclaimed: 1,
+                failed: false,
+            },
+            Err((back, fault)) => {
                 let _ = self.kept.push_back(back);
-                0
+                Attempts {
+                    reclaimed: 0,
+                    failed: matches!(fault, ReclaimFault::Device),
+                }
             }
         }
     }
@@ -91,62 +131,78 @@ impl<K: FarObject, V: FarObject, J: Naming, B: QueueNaming> Evictor<K, V, J, B> 
         queue.take(rt, &mut self.seat)
     }
 
-    // Tries each kept spare once, from the oldest on.
-    pub(super) fn retry<D: Device, R: Wait>(&mut self, rt: &R, table: &FarTable<K, V, J, D>) -> u64
-        ensures { Retries self.old self.new result }
+    // Tries each kept spare once, from the oldest on, until the device fails.
+    pub(super) fn retry<D: Device, R: Wait>(
+        &mut self,
+        rt: &R,
+        table: &FarTable<K, V, J, D>,
+    ) -> Attempts
+        ensures { Retries self.old self.new result.reclaimed result.failed }
     {
-        let mut reclaimed = 0u64;
+        let mut all = Attempts {
+            reclaimed: 0,
+            failed: false,
+        };
         let count = self.kept_len();
         for _k in 0..count {
+            if all.failed {
+                return all;
+            }
             let Some(spare) = self.draw_kept() else {
-                return reclaimed;
+                return all;
             };
-            reclaimed += self.try_one(rt, table, spare);
+            all = all.and(self.try_one(rt, table, spare));
         }
-        reclaimed
+        all
     }
 
-    // Tries the spares of its own limbo, while there is room.
+    // Tries the spares of its own limbo, while there is room and the device does not fail.
     pub(super) fn empty_limbo<D: Device, R: Wait>(
         &mut self,
         rt: &R,
         table: &FarTable<K, V, J, D>,
-    ) -> u64
-        ensures tried { (went : List (SpareView K V)) × Tried self.old self.new went [] result }
-        ensures stopped { IsFull self.new ⊎ (self.new.limbo ≡ []) }
+    ) -> Attempts
+        ensures tried { (went : List (SpareView K V)) × Tried self.old self.new went [] result.reclaimed result.failed }
+        ensures stopped { result.failed ≡ false → IsFull self.new ⊎ (self.new.limbo ≡ []) }
     {
-        let mut reclaimed = 0u64;
+        let mut all = Attempts {
+            reclaimed: 0,
+            failed: false,
+        };
         for _ in rt.forever() {
-            if !self.has_room() {
-                return reclaimed;
+            if all.failed || !self.has_room() {
+                return all;
             }
             let Some(spare) = self.draw_own() else {
-                return reclaimed;
+                return all;
             };
-            reclaimed = reclaimed.saturating_add(self.try_one(rt, table, spare));
+            all = all.and(self.try_one(rt, table, spare));
         }
         unreachable!()
     }
 
-    // Tries the spares of the queue, while there is room.
+    // Tries the spares of the queue, while there is room and the device does not fail.
     pub(super) fn empty_queue<D: Device, R: Wait>(
         &mut self,
         rt: &R,
         table: &FarTable<K, V, J, D>,
         queue: &SpareQueue<K, V, J, B>,
-    ) -> u64
-        ensures tried { (taken : List (SpareView K V)) × Tried self.old self.new [] taken result }
-        ensures stopped { IsFull self.new ⊎ IsDrained self.new.seat }
+    ) -> Attempts
+        ensures tried { (taken : List (SpareView K V)) × Tried self.old self.new [] taken result.reclaimed result.failed }
+        ensures stopped { result.failed ≡ false → IsFull self.new ⊎ IsDrained self.new.seat }
     {
-        let mut reclaimed = 0u64;
+        let mut all = Attempts {
+            reclaimed: 0,
+            failed: false,
+        };
         for _ in rt.forever() {
-            if !self.has_room() {
-                return reclaimed;
+            if all.failed || !self.has_room() {
+                return all;
             }
             let Some(spare) = self.draw_next(rt, queue) else {
-                return reclaimed;
+                return all;
             };
-            reclaimed = reclaimed.saturating_add(self.try_one(rt, table, spare));
+            all = all.and(self.try_one(rt, table, spare));
         }
         unreachable!()
     }

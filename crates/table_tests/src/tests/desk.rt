@@ -17,7 +17,7 @@ use std::process::Abort;
 use std::sync::Wait;
 use std::thread::Threads;
 use swapper::{
-    Clock, Collected, Evictor, QueueNaming, QueueOpening, QueueSeat, RoomMaker, SpareQueue, Turn,
+    Clock, Evictor, QueueNaming, QueueOpening, QueueSeat, RoomMaker, SpareQueue, Turn,
     reclaim_oldest,
 };
 use table_core::word::name_of;
@@ -251,7 +251,7 @@ fn plays<J: Naming, B: QueueNaming, R: Wait + Abort>(
         Act::Takes(wanted) => equal(rt, behind.taker(rt).take(rt, &desk.queue), wanted),
         Act::Collects(reclaimed, kept) => {
             let told = behind.evictor(rt).collect(rt, &desk.table, &desk.queue);
-            equal(rt, told, Collected { reclaimed, kept });
+            equal(rt, (told.reclaimed, told.kept), (reclaimed, kept));
         }
         Act::Turns(evicted, reclaimed) => {
             let told = behind.evictor(rt).turn(rt, &desk.table, &desk.queue);

@@ -2,6 +2,8 @@
 ghost use Rattle.std.specs.Prelude.{◌≡◌, ◌+◌, ◌-◌, ◌^◌, min, true};
 
 use far_device::{Device, DeviceFault};
+use std::sync::Arc;
+use std::sync::atomic::{AtomicBool, AtomicU64, Ordering};
 
 /// A device that keeps nothing, and fails at each call.
 #[derive(Drop)]
@@ -82,5 +84,81 @@ impl<D: Device> Device for ShortDevice<D> {
 
     fn failures(&self) -> u64 {
         self.inner.failures()
+    }
+}
+
+/// What a test sees and sets of a device from outside: how many calls of a kind there were, and which are refused.
+#[derive(Drop)]
+pub struct Gate {
+    pub reads: AtomicU64,
+    pub removes: AtomicU64,
+    pub refuses_writes: AtomicBool,
+    pub refuses_removes: AtomicBool,
+}
+
+impl Gate {
+    /// One that refuses nothing.
+    pub fn new() -> Gate {
+        Gate {
+            reads: AtomicU64::new(0),
+            removes: AtomicU64::new(0),
+            refuses_writes: AtomicBool::new(false),
+            refuses_removes: AtomicBool::new(false),
+        }
+    }
+}
+
+/// A device behind a gate: what the gate refuses fails, and all else is passed on.
+#[derive(Drop)]
+pub struct GatedDevice<D> {
+    pub inner: D,
+    pub failed: u64,
+    pub gate: Arc<Gate>,
+}
+
+impl<D> GatedDevice<D> {
+    fn refuse(&mut self) -> DeviceFault
+        ensures fault { result ≡ DeviceFault.Failed }
+        ensures inner { self.new.inner ≡ self.old.inner }
+        ensures counted { self.new.failed ≡ min (self.old.failed + 1) (2 ^ 64 - 1) }
+    {
+        self.failed = self.failed.saturating_add(1);
+        DeviceFault::Failed
+    }
+}
+
+impl<D: Device> Device for GatedDevice<D> {
+    ghost use Rattle.far_device.specs.Faulty.{faulty_state};
+
+    ghost state = { λ device. faulty_state D.state (record { inner = device.inner; due = 0; failed = device.failed }) };
+
+    ghost HONEST = { D.HONEST };
+
+    fn construct(&mut self) -> Result<(), DeviceFault> {
+        self.inner.construct()
+    }
+
+    fn write(&mut self, id: u64, bytes: &[u8]) -> Result<(), DeviceFault> {
+        if self.gate.refuses_writes.load(Ordering::SeqCst) {
+            return Err(self.refuse());
+        }
+        self.inner.write(id, bytes)
+    }
+
+    fn read(&mut self, id: u64, out: &mut Vec<u8>) -> Result<bool, DeviceFault> {
+        self.gate.reads.fetch_add(1, Ordering::SeqCst);
+        self.inner.read(id, out)
+    }
+
+    fn remove(&mut self, id: u64) -> Result<bool, DeviceFault> {
+        self.gate.removes.fetch_add(1, Ordering::SeqCst);
+        if self.gate.refuses_removes.load(Ordering::SeqCst) {
+            return Err(self.refuse());
+        }
+        self.inner.remove(id)
+    }
+
+    fn failures(&self) -> u64 {
+        self.inner.failures().saturating_add(self.failed)
     }
 }

@@ -3,12 +3,15 @@
 mod blobs;
 mod bounded;
 mod crowded;
+mod empty;
+mod gated;
 mod holds;
 mod many;
 mod moves;
 mod numbers;
 mod planets;
 mod refusals;
+mod refused_renewals;
 mod removals;
 mod renewals;
 mod through;

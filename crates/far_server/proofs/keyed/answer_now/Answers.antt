@@ -3,6 +3,7 @@ use Rattle.resp.specs.Replies.{Failure, token}
 use Rattle.far_server.specs.Refusing.{text_of, overtaken}
 use Rattle.far_server.specs.Keyed.{IsEnded}
 use Rattle.far_server.proofs.Pushed.{on_ok, cut}
+use Rattle.stored_keys.specs.StoredKeys.{stored_key}
 use Rattle.far_server.proofs.keyed.answer_now.Goals as goal
 
 pub returns-in-Ok-false-clause-done : goal.returns-in-Ok-false-clause-done
@@ -10,7 +11,7 @@ returns-in-Ok-false-clause-done g c =
     let e = c.in-Ok-false.ensures in
     let before = c.args.reply.now.items in
     let len : c.len-before.result ≡ length before = search in
-    let T : Bool → Type 0 = λ b. IsEnded g.S.Calls.limits c.args.key.now c.args.asking.command c.args.asking.now c.args.asking.most (g.S.Calls.shown c.args.me.now) (g.S.Calls.shown c.try_key.new.me) e.0 (Ok b) in
+    let T : Bool → Type 0 = λ b. IsEnded g.S.Calls.limits (stored_key c.args.asking.digest_keys c.args.key.now) c.args.asking.command c.args.asking.now c.args.asking.most (g.S.Calls.shown c.args.me.now) (g.S.Calls.shown c.try_key.new.me) e.0 (Ok b) in
     let idles : T false = subst T c.in-Ok-false.field-0-test e.2 in
     on_ok c.fail.result (λ is. (
       Failure _,

@@ -13,7 +13,7 @@ returns-clause-same_reference g c =
     let X : Type 0 = Server g.row.S.Denot g.row.C.Denot g.row.R.Denot Kept g.row.S-Held.Denot in
     let L : Around _ _ → X → Lane = λ a x. lane_of a.settings.now.password (g.S.Calls.shown x.me.now) x.kept.connections.entries in
     let D : X → Call → X → Type 0 = λ s call t. (t.me.ghost_name ≡ s.me.ghost_name) × (t.around.now ≡ s.around.now)
-    × Acts g.S.Calls.limits s.around.now.settings.now.password s.around.now.settings.now.bounds (L s.around.now s) call (L s.around.now t) in
+    × Acts g.S.Calls.limits s.around.now.settings.now.digest_keys s.around.now.settings.now.password s.around.now.settings.now.bounds (L s.around.now s) call (L s.around.now t) in
     let stood = c.requires in
     if_ok c.serve_on.result (λ left s.
     let went = s stood.0 stood.1 stood.2 in
@@ -24,16 +24,16 @@ returns-clause-went_on g c =
     let X : Type 0 = Server g.row.S.Denot g.row.C.Denot g.row.R.Denot Kept g.row.S-Held.Denot in
     let L : Around _ _ → X → Lane = λ a x. lane_of a.settings.now.password (g.S.Calls.shown x.me.now) x.kept.connections.entries in
     let D : X → Call → X → Type 0 = λ s call t. (t.me.ghost_name ≡ s.me.ghost_name) × (t.around.now ≡ s.around.now)
-    × Acts g.S.Calls.limits s.around.now.settings.now.password s.around.now.settings.now.bounds (L s.around.now s) call (L s.around.now t) in
+    × Acts g.S.Calls.limits s.around.now.settings.now.digest_keys s.around.now.settings.now.password s.around.now.settings.now.bounds (L s.around.now s) call (L s.around.now t) in
     let around = c.args.server.now.around.now in
     let password = around.settings.now.password in
     let bounds = around.settings.now.bounds in
     if_ok c.serve_on.result (λ left s start past stood.
     let went = s start past stood in (
       went.0,
-      run_seen {does = D} c.args.server.now c.serve_on.new.service went.0 went.1 (L around) (Acts g.S.Calls.limits password bounds) (λ x. x.around.now) around
+      run_seen {does = D} c.args.server.now c.serve_on.new.service went.0 went.1 (L around) (Acts g.S.Calls.limits around.settings.now.digest_keys password bounds) (λ x. x.around.now) around
           (λ x y call did. did.1)
-          (λ x y call is did. subst (λ (a : Around _ _). Acts g.S.Calls.limits a.settings.now.password a.settings.now.bounds (L a x) call (L a y)) is did.2)
+          (λ x y call is did. subst (λ (a : Around _ _). Acts g.S.Calls.limits a.settings.now.digest_keys a.settings.now.password a.settings.now.bounds (L a x) call (L a y)) is did.2)
           refl,
       went.2,
     )) c.serve_on.ensures.stood

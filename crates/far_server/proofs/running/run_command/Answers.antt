@@ -14,10 +14,11 @@ pub returns-in-Some-clause-ran : goal.returns-in-Some-clause-ran
 returns-in-Some-clause-ran g c =
     let l = g.S.Calls.limits in
     let now = c.args.now in
+    let digest = c.args.around.now.settings.now.digest_keys in
     let most = c.args.around.now.settings.now.bounds.longest_value in
     let old = g.S.Calls.shown c.args.me.now in
     let new = g.S.Calls.shown c.answer_key.new.me in
     let is : of_one_key c.args.command ≡ Some (c.in-Some.key, c.in-Some.command) = sym c.on_one_key.ensures ∙ c.in-Some.is in
     let K : Option (Bor (List ℕ) × KeyCommand) → Type 0 = λ o. (rs : List Token) × (c.answer_key.new.reply.items ≡ c.args.reply.now.items ++ flat_map token rs)
-    × MatchOption o (IsOther l now most c.args.limit c.args.command old new rs) (λ p. (r : Token) × (rs ≡ r ∷ []) × IsKeyed l p.0.now p.1 now most old new r) in
+    × MatchOption o (IsOther l digest now most c.args.limit c.args.command old new rs) (λ p. (r : Token) × (rs ≡ r ∷ []) × IsKeyed l digest p.0.now p.1 now most old new r) in
     on_ok c.answer_key.result (λ p. subst K (sym is) (p.0 ∷ [], single c.args.reply.now.items p.0 c.answer_key.new.reply.items p.1, (p.0, refl, p.2))) c.answer_key.ensures.done

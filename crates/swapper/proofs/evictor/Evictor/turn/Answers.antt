@@ -12,6 +12,8 @@ returns-in_default-clause-turn g c =
       victim = None;
       first = first.gone;
       second = last.gone;
+      first_failed = _;
+      second_failed = _;
       collects = first.collects;
       picks = c.in_default.ensures;
       gives_up = (refl, refl);
@@ -22,8 +24,8 @@ returns-in_default-clause-turn g c =
 
 pub returns-in_default-clause-turns : goal.returns-in_default-clause-turns
 returns-in_default-clause-turns g c =
-    turns_trans (turns_trans (turns_collect _ _ c.collect-first.ensures.gone c.collect-first.ensures.collects) (turns_pick _ _ None c.in_default.ensures))
-    (turns_collect _ _ c.collect-last.ensures.gone c.collect-last.ensures.collects)
+    turns_trans (turns_trans (turns_collect _ _ c.collect-first.ensures.gone _ c.collect-first.ensures.collects) (turns_pick _ _ None c.in_default.ensures))
+    (turns_collect _ _ c.collect-last.ensures.gone _ c.collect-last.ensures.collects)
 
 pub returns-in-Err-clause-refused : goal.returns-in-Err-clause-refused
 returns-in-Err-clause-refused g c =
@@ -32,6 +34,7 @@ returns-in-Err-clause-refused g c =
       picked = c.victim.new.self;
       victim = c.in-Some.frame;
       first = first.gone;
+      failed = _;
       collects = first.collects;
       picks = c.in-Some.ensures;
       gives_up = c.in-Err.ensures;
@@ -39,7 +42,7 @@ returns-in-Err-clause-refused g c =
 
 pub returns-in-Err-clause-turns : goal.returns-in-Err-clause-turns
 returns-in-Err-clause-turns g c =
-    turns_trans (turns_trans (turns_collect _ _ c.collect-first.ensures.gone c.collect-first.ensures.collects) (turns_pick _ _ (Some c.in-Some.frame) c.in-Some.ensures))
+    turns_trans (turns_trans (turns_collect _ _ c.collect-first.ensures.gone _ c.collect-first.ensures.collects) (turns_pick _ _ (Some c.in-Some.frame) c.in-Some.ensures))
     (turns_give_up _ _ _ _ _ _ c.in-Some.frame c.give_up.result c.give_up.ensures)
 
 pub returns-clause-turn : goal.returns-clause-turn
@@ -52,6 +55,8 @@ returns-clause-turn g c =
       victim = Some c.in-Some.frame;
       first = first.gone;
       second = last.gone;
+      first_failed = _;
+      second_failed = _;
       collects = first.collects;
       picks = c.in-Some.ensures;
       gives_up = c.in-Ok.ensures;
@@ -62,5 +67,5 @@ returns-clause-turn g c =
 
 pub returns-clause-turns : goal.returns-clause-turns
 returns-clause-turns g c =
-    turns_trans (turns_trans (turns_trans (turns_collect _ _ c.collect-first.ensures.gone c.collect-first.ensures.collects) (turns_pick _ _ (Some c.in-Some.frame) c.in-Some.ensures))
-    (turns_give_up _ _ _ _ _ _ c.in-Some.frame c.give_up.result c.give_up.ensures)) (turns_collect _ _ c.collect-last-2.ensures.gone c.collect-last-2.ensures.collects)
+    turns_trans (turns_trans (turns_trans (turns_collect _ _ c.collect-first.ensures.gone _ c.collect-first.ensures.collects) (turns_pick _ _ (Some c.in-Some.frame) c.in-Some.ensures))
+    (turns_give_up _ _ _ _ _ _ c.in-Some.frame c.give_up.result c.give_up.ensures)) (turns_collect _ _ c.collect-last-2.ensures.gone _ c.collect-last-2.ensures.collects)

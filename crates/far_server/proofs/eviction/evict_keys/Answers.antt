@@ -1,5 +1,5 @@
 use Rattle.far_server.proofs.Swept.{evicted}
-use Rattle.far_server.proofs.sweeping.evict_keys.Goals as goal
+use Rattle.far_server.proofs.eviction.evict_keys.Goals as goal
 
 pub returns : goal.returns
 returns g c = evicted g.S.Calls.limits (g.S.Calls.shown c.args.me.now) (g.S.Calls.shown c.empty_bucket.new.me) c.empty_bucket.ensures
