@@ -92,7 +92,8 @@ impl<D: Device> Device for ShortDevice<D> {
 pub struct Gate {
     pub reads: AtomicU64,
     pub removes: AtomicU64,
-    pub refuses_writes: AtomicBool,
+    /// How many of the next writes are refused.
+    pub refused_writes: AtomicU64,
     pub refuses_removes: AtomicBool,
 }
 
@@ -102,7 +103,7 @@ impl Gate {
         Gate {
             reads: AtomicU64::new(0),
             removes: AtomicU64::new(0),
-            refuses_writes: AtomicBool::new(false),
+            refused_writes: AtomicU64::new(0),
             refuses_removes: AtomicBool::new(false),
         }
     }
@@ -139,7 +140,10 @@ impl<D: Device> Device for GatedDevice<D> {
     }
 
     fn write(&mut self, id: u64, bytes: &[u8]) -> Result<(), DeviceFault> {
-        if self.gate.refuses_writes.load(Ordering::SeqCst) {
+        let refused = self.gate.refused_writes.load(Ordering::SeqCst);
+        if refused > 0 {
+            let rest = refused.saturating_sub(1);
+            self.gate.refused_writes.store(rest, Ordering::SeqCst);
             return Err(self.refuse());
         }
         self.inner.write(id, bytes)
