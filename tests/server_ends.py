@@ -104,7 +104,7 @@ def keys_are_evicted_where_they_may_be(tried, _):
     with tried.start("--policy", "allkeys", "--far-limit", "24m", memory="32m") as server:
         limited = makes_room(server, 32 * MEBIBYTE)
         assert 0 < server.scratch() <= 24 * MEBIBYTE
-        assert server.client().strings("CONFIG", "GET", "maxmemory-policy") == [b"maxmemory-policy", b"allkeys-random"]
+        assert server.client().strings("CONFIG", "GET", "maxmemory-policy") == [b"maxmemory-policy", b"allkeys-lru"]
     return f"{alone} of 20000 held in memory, {limited} with 24 MiB of disk"
 
 

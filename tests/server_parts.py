@@ -225,6 +225,11 @@ class Farserve(Process):
         status = Path(f"/proc/{self.pid(name)}/status").read_text()
         return int(status.partition("VmHWM:")[2].split()[0]) << 10
 
+    def processor_seconds(self):
+        """Seconds that the process of `farserve` had a processor."""
+        fields = Path(f"/proc/{self.pid('farserve')}/stat").read_text().rpartition(")")[2].split()
+        return sum(map(int, fields[11:13])) / os.sysconf("SC_CLK_TCK")
+
     def files(self, name):
         """How many files the process of `front` or `farserve` has open."""
         return len(os.listdir(f"/proc/{self.pid(name)}/fd"))

@@ -1,217 +1,27 @@
-//! A request is answered: who may ask, what waits for EXEC, and what is done at once.
-ghost use Rattle.std.specs.Prelude.{◌≡◌, ◌⊎◌, ◌++◌, ◌∷◌, true, ℕ, List, length, IfOk, OnOk};
+//! A request is answered: who may ask, whether it waits for EXEC, and what is done at once.
+ghost use Rattle.std.specs.Prelude.{◌≡◌, ◌⊎◌, ◌++◌, true, ℕ, List, IfOk, OnOk};
 ghost use Rattle.std.specs.List.{flat_map};
-ghost use Rattle.resp.specs.Replies.{Token, Count, token};
+ghost use Rattle.resp.specs.Replies.{Token, token};
 ghost use Rattle.commands.specs.Arguments.{listed};
 ghost use Rattle.commands.specs.Commands.{Spells};
 ghost use Rattle.commands.specs.declared.command.Command.TheVariants as commands;
-ghost use Rattle.far_server.specs.Queues.{held, waiting};
-ghost use Rattle.far_server.specs.Runs.{IsRequest};
 ghost use Rattle.far_server.specs.Logins.{HasLogin, Exceeds};
-ghost use Rattle.far_server.specs.Answers.{known, waits_in, is_free, IsHeld, MovesOn, AreExecutedEach, IsExecutedOrElse, Did, IsRefusedOr, IsAnswered};
+ghost use Rattle.far_server.specs.Answers.{known, waits_in, is_free, MovesOn, Did, IsRefusedOr, IsAnswered};
 
 use crate::around::{Around, Desk, milliseconds};
-use crate::bound::{TOO_LARGE, may_grow_to};
 use crate::connection::Connection;
 use crate::login::{NO_LOGIN, answer_auth, answer_hello, excess_of};
-use crate::queue::{Queue, Request};
-use crate::refusing::text_of;
-use crate::reserve::{errors_of, has_room_for_short, push_failures};
 use crate::running::run;
 use crate::settings::ServerSettings;
 use crate::single::{push_one_failure, push_one_fault, push_one_simple};
-use commands::{Arguments, Command, Fault, Name, OfNothing, ServerCommand, Special, read};
+use crate::transaction::{answer_discard, answer_exec, answer_multi, wait};
+use commands::{Arguments, Command, Fault, OfNothing, ServerCommand, read};
 use far_blob::Blob;
-use far_map::{Calls, Refusal};
+use far_map::Calls;
 use lanes::Next;
-use resp::push_count;
-use std::alloc::{AllocError, Global};
+use std::alloc::AllocError;
 use std::rt::Clock;
 use std::sync::Wait;
-
-const NESTED: &[u8] = b"ERR MULTI calls can not be nested";
-
-const NO_MULTI_BEFORE_EXEC: &[u8] = b"ERR EXEC without MULTI";
-
-const NO_MULTI_BEFORE_DISCARD: &[u8] = b"ERR DISCARD without MULTI";
-
-const SPOILT: &[u8] = b"EXECABORT Transaction discarded because of previous errors.";
-
-const FULL_QUEUE: &[u8] = b"ERR too many bytes wait for EXEC";
-
-/// Whether EXEC is to run none of the requests behind a MULTI of which one has this fault: it has a wrong name, or a wrong count of
-/// arguments. Of other faults EXEC replies, and of counts of PING and MSET that these commands themselves refuse.
-fn spoils(fault: &Fault<'_>, arguments: usize) -> bool {
-    match fault {
-        Fault::Count(Name::Special(Special::Ping)) => false,
-        Fault::Count(Name::Special(Special::MSet)) => arguments < 3,
-        Fault::Unknown(_)
-        | Fault::Refused(_)
-        | Fault::Keys
-        | Fault::Subcommand(_, _)
-        | Fault::Count(_)
-        | Fault::SubcommandCount(_)
-        | Fault::SlowLogCount(_) => true,
-        _ => false,
-    }
-}
-
-/// Has a request wait for EXEC, unless its fault is one that EXEC has no reply for, or there is no room for it.
-fn wait(
-    alloc: Global,
-    most: u32,
-    queue: &mut Queue,
-    request: Arguments<'_>,
-    asked: Result<Command<'_>, Fault<'_>>,
-    reply: &mut Vec<u8>,
-) -> Result<(), AllocError>
-    ensures { OnOk result ((rs : List Token) × (reply.new.items ≡ reply.old.items ++ flat_map token rs) × IsHeld (waiting queue.old) (waiting queue.new) (listed request.entry) rs) }
-{
-    if let Err(fault) = asked {
-        if spoils(&fault, request.spans.len()) {
-            queue.spoil();
-            return push_one_fault(reply, fault, 0);
-        }
-    }
-    if !queue.has_room(request, most) {
-        queue.spoil();
-        return push_one_failure(reply, FULL_QUEUE);
-    }
-    match queue.push(alloc, request) {
-        Ok(()) => push_one_simple(reply, b"QUEUED"),
-        Err(_) => {
-            queue.spoil();
-            push_one_failure(reply, text_of(Refusal::Memory))
-        }
-    }
-}
-
-/// Runs a request that waited. Its reply may have `limit` bytes.
-fn run_waiting<S: Calls<Blob>, C: Clock, R: Wait>(
-    around: &Around<'_, C, R>,
-    me: &mut S,
-    connection: &mut Connection,
-    desk: &mut Desk,
-    request: &Request,
-    now: u64,
-    limit: usize,
-    reply: &mut Vec<u8>,
-) -> Result<(), AllocError>
-    ensures ran { OnOk result ((rs : List Token) × (reply.new.items ≡ reply.old.items ++ flat_map token rs) × IsRequest S.limits around.now.settings.now.digest_keys around.now.settings.now.bounds.longest_value limit (held request.now) (S.shown me.old) (S.shown me.new) rs) }
-    ensures queue { connection.new.queue ≡ connection.old.queue }
-{
-    let request = request.arguments();
-    let asked = read(request, now);
-    run(
-        around, me, connection, desk, request, asked, now, limit, reply,
-    )
-}
-
-/// Runs the requests that wait, one after another: the reply is an array of theirs. From the first on for which a reply's bytes have no
-/// room for one more value, or there is no memory for a short reply, none is run, and the reply to each is an error.
-fn execute<S: Calls<Blob>, C: Clock, R: Wait>(
-    around: &Around<'_, C, R>,
-    me: &mut S,
-    connection: &mut Connection,
-    desk: &mut Desk,
-    queue: &Queue,
-    now: u64,
-    reply: &mut Vec<u8>,
-) -> Result<(), AllocError>
-    ensures ran { OnOk result ((rs : List Token) × (reply.new.items ≡ reply.old.items ++ flat_map token rs) × ((each : List Token) × AreExecutedEach S.limits around.now.settings.now.digest_keys around.now.settings.now.bounds (waiting queue.now) each (S.shown me.old) (S.shown me.new) × (rs ≡ Count (length (waiting queue.now)) ∷ each))) }
-    ensures queue { connection.new.queue ≡ connection.old.queue }
-{
-    let bounds = around.settings.bounds;
-    let limit = bounds.longest_reply as usize;
-    let before = reply.len();
-    let requests = queue.requests();
-    match push_count(reply, requests.len()) {
-        Ok(()) => {}
-        Err(refused) => return Err(refused),
-    }
-    for at in 0..requests.len() {
-        let left = requests.len() - at;
-        let used = reply.len() - before;
-        if !may_grow_to(limit, used, bounds.longest_value) {
-            return push_failures(reply, left, TOO_LARGE);
-        }
-        desk.beside = errors_of(left - 1);
-        if !has_room_for_short(desk.beside, reply) {
-            return push_failures(reply, left, text_of(Refusal::Memory));
-        }
-        let request = &requests[at];
-        match run_waiting(
-            around,
-            me,
-            connection,
-            desk,
-            request,
-            now,
-            limit - used,
-            reply,
-        ) {
-            Ok(()) => {}
-            Err(refused) => return Err(refused),
-        }
-    }
-    Ok(())
-}
-
-/// EXEC. There is room for an error of each request first.
-fn answer_exec<S: Calls<Blob>, C: Clock, R: Wait>(
-    around: &Around<'_, C, R>,
-    me: &mut S,
-    connection: &mut Connection,
-    desk: &mut Desk,
-    now: u64,
-    reply: &mut Vec<u8>,
-) -> Result<(), AllocError>
-    ensures { OnOk result ((rs : List Token) × (reply.new.items ≡ reply.old.items ++ flat_map token rs) × IsExecutedOrElse S.limits around.now.settings.now.digest_keys around.now.settings.now.bounds (known connection.old) (known connection.new) (S.shown me.old) (S.shown me.new) rs) }
-{
-    match connection.queue.take() {
-        None => push_one_failure(reply, NO_MULTI_BEFORE_EXEC),
-        Some(queue) => {
-            if queue.is_spoilt() {
-                return push_one_failure(reply, SPOILT);
-            }
-            if !has_room_for_short(errors_of(queue.requests().len()), reply) {
-                return push_one_failure(reply, text_of(Refusal::Memory));
-            }
-            let done = execute(around, me, connection, desk, &queue, now, reply);
-            desk.beside = 0;
-            done
-        }
-    }
-}
-
-/// MULTI.
-fn answer_multi(
-    alloc: Global,
-    connection: &mut Connection,
-    reply: &mut Vec<u8>,
-) -> Result<(), AllocError>
-    ensures said { OnOk result ((rs : List Token) × (reply.new.items ≡ reply.old.items ++ flat_map token rs)) }
-    ensures waits { MovesOn (waits_in connection.old.queue) (waits_in connection.new.queue) }
-    ensures passed { connection.new.passed ≡ connection.old.passed }
-{
-    if connection.queue.is_some() {
-        return push_one_failure(reply, NESTED);
-    }
-    connection.queue = Some(Queue::new(alloc));
-    push_one_simple(reply, b"OK")
-}
-
-/// DISCARD.
-fn answer_discard(connection: &mut Connection, reply: &mut Vec<u8>) -> Result<(), AllocError>
-    ensures said { OnOk result ((rs : List Token) × (reply.new.items ≡ reply.old.items ++ flat_map token rs)) }
-    ensures waits { MovesOn (waits_in connection.old.queue) (waits_in connection.new.queue) }
-    ensures passed { connection.new.passed ≡ connection.old.passed }
-{
-    match connection.queue.take() {
-        None => push_one_failure(reply, NO_MULTI_BEFORE_DISCARD),
-        Some(_) => push_one_simple(reply, b"OK"),
-    }
-}
 
 /// RESET: the connection is as a new one, but for its number.
 fn answer_reset(

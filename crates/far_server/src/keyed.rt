@@ -5,15 +5,15 @@
 //! The key's value is got, the command is carried out on it, and what it makes of the value is put, or taken out, only where the value
 //! is still the one that was found: else all is done again. So a reply is that of the point of its last call, and the calls before it
 //! left the map as it was.
-ghost use Rattle.std.specs.Prelude.{◌≡◌, ◌≢◌, ◌++◌, ℕ, List, take, IfOk, OnOk, OnErr, MatchBool, Some};
-ghost use Rattle.key_commands.specs.declared.asked.Effect.TheVariants as effects;
+ghost use Rattle.std.specs.Prelude.{◌≡◌, ◌++◌, ℕ, List, take, IfOk, OnOk, OnErr};
 ghost use Rattle.resp.specs.Replies.{Token, Failure, token};
 ghost use Rattle.key_commands.specs.Doing.{Does};
 ghost use Rattle.table_core.specs.Lent.{lent_value};
-ghost use Rattle.far_server.specs.Keyed.{IsSettled, IsTried, IsEnded, IsOnStored, IsKeyed};
+ghost use Rattle.far_server.specs.Keyed.{IsTried, IsEnded, IsOnStored, IsKeyed};
 ghost use Rattle.stored_keys.specs.StoredKeys.{stored_key};
 
 use crate::around::Desk;
+use crate::change::settle;
 use crate::deadlines::is_over;
 use crate::refusing::{KEY_TOO_LONG, NO_ROOM, OVERTAKEN, text_of, told_as};
 use crate::reserve::has_room_for;
@@ -90,101 +90,6 @@ fn apply_to(
             Err(Refusal::Memory)
         }
         Err(why) => Err(why),
-    }
-}
-
-/// Puts what the desk has over a value that was found, where it is still there: whether it was.
-fn put_over<S: Calls<Blob>, R: Wait>(
-    rt: &R,
-    alloc: Global,
-    me: &mut S,
-    key: &Text,
-    found: Option<&Blob>,
-    desk: &mut Desk,
-) -> Result<bool, Refusal>
-    ensures { IsSettled S.limits key.now (lent_value found.entry) effects.Sets desk.old.stored.items (S.shown me.old) (S.shown me.new) result }
-{
-    let value = match Blob::from_bytes(alloc, desk.stored.as_slice()) {
-        Ok(value) => value,
-        Err(why) => return Err(why),
-    };
-    match me.put_if(rt, key, found, &value) {
-        Ok(before) => {
-            let is_done = are_same(before.as_ref(), found);
-            if is_done {
-                desk.count_set(found.is_none());
-            }
-            Ok(is_done)
-        }
-        Err(why) => Err(why),
-    }
-}
-
-/// Takes a value out that was found, where it is still there: whether it was.
-fn take_out<S: Calls<Blob>, R: Wait>(
-    rt: &R,
-    me: &mut S,
-    key: &Text,
-    found: &Blob,
-    desk: &mut Desk,
-) -> Result<bool, Refusal>
-    ensures { IsSettled S.limits key.now (Some found.now) effects.Removes desk.old.stored.items (S.shown me.old) (S.shown me.new) result }
-{
-    match me.remove_if(rt, key, found) {
-        Ok(removal) => {
-            desk.tally.count_removal(removal.removed);
-            Ok(removal.removed)
-        }
-        Err(why) => Err(why),
-    }
-}
-
-/// Makes the change of a value that was found, where it is still there: whether it was.
-fn change<S: Calls<Blob>, R: Wait>(
-    rt: &R,
-    alloc: Global,
-    me: &mut S,
-    key: &Text,
-    found: Option<&Blob>,
-    effect: Effect,
-    desk: &mut Desk,
-) -> Result<bool, Refusal>
-    ensures { IsSettled S.limits key.now (lent_value found.entry) effect desk.old.stored.items (S.shown me.old) (S.shown me.new) result }
-{
-    match (effect, found) {
-        (Effect::Sets, _) => put_over(rt, alloc, me, key, found, desk),
-        (Effect::Removes, Some(found)) => take_out(rt, me, key, found, desk),
-        _ => Ok(true),
-    }
-}
-
-/// The same, of a value that may be expired, which is counted once it is gone.
-fn settle<S: Calls<Blob>, R: Wait>(
-    rt: &R,
-    alloc: Global,
-    me: &mut S,
-    key: &Text,
-    found: Option<&Blob>,
-    is_expired: bool,
-    effect: Effect,
-    desk: &mut Desk,
-) -> Result<bool, Refusal>
-    ensures { IsSettled S.limits key.now (lent_value found.entry) effect desk.old.stored.items (S.shown me.old) (S.shown me.new) result }
-{
-    let settled = change(rt, alloc, me, key, found, effect, desk);
-    desk.tally
-        .count_expired(is_expired && matches!(settled, Ok(true)));
-    settled
-}
-
-/// Whether both are none, or the same bytes.
-fn are_same(one: Option<&Blob>, other: Option<&Blob>) -> bool
-    ensures { MatchBool result (lent_value one.entry ≡ lent_value other.entry) (lent_value one.entry ≢ lent_value other.entry) }
-{
-    match (one, other) {
-        (None, None) => true,
-        (Some(one), Some(other)) => one.as_bytes() == other.as_bytes(),
-        _ => false,
     }
 }
 

@@ -4,6 +4,7 @@
 mod answering;
 mod around;
 mod bound;
+mod change;
 mod connection;
 mod deadlines;
 mod ending;
@@ -30,6 +31,7 @@ mod sweeping;
 mod tally;
 mod telling;
 mod top;
+mod transaction;
 mod turns;
 mod usage;
 mod visiting;

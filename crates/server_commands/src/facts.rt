@@ -80,7 +80,7 @@ pub struct Facts {
 pub struct Options {
     /// `maxmemory`, in bytes.
     pub most_memory: u64,
-    /// `maxmemory-policy`: `allkeys-random`, or else `noeviction`.
+    /// `maxmemory-policy`: `allkeys-lru`, or else `noeviction`.
     pub evicts: bool,
     /// `maxclients`.
     pub most_clients: u64,
@@ -96,11 +96,7 @@ pub struct Options {
 
 /// The name that Redis has for what happens where there is no room.
 pub(crate) fn policy(evicts: bool) -> &'static str {
-    if evicts {
-        "allkeys-random"
-    } else {
-        "noeviction"
-    }
+    if evicts { "allkeys-lru" } else { "noeviction" }
 }
 
 /// The version of Redis whose commands these are.

@@ -95,7 +95,7 @@ fn a_policy_that_evicts(rt: HostRuntime) -> Result<(), Fail> {
         &rt,
         rt.alloc(),
         out.as_slice(),
-        ":7 *2 $16 maxmemory-policy $14 allkeys-random ",
+        ":7 *2 $16 maxmemory-policy $11 allkeys-lru ",
     )
 }
 

@@ -12,7 +12,7 @@ const SERVER: &str =
 const CLIENTS: &str = "# Clients connected_clients:3 maxclients:10000 blocked_clients:0 ";
 
 const MEMORY: &str =
-    "# Memory used_memory:917184 used_memory_human:895.69K used_memory_rss:123456789 used_memory_rss_human:117.74M clients_memory:65536 maxmemory:268435456 maxmemory_human:256.00M maxmemory_policy:allkeys-random ";
+    "# Memory used_memory:917184 used_memory_human:895.69K used_memory_rss:123456789 used_memory_rss_human:117.74M clients_memory:65536 maxmemory:268435456 maxmemory_human:256.00M maxmemory_policy:allkeys-lru ";
 
 const STATS: &str =
     "# Stats total_connections_received:12 total_commands_processed:1234567 rejected_connections:19 evicted_clients:20 expired_keys:5 evicted_keys:6 keyspace_hits:70 keyspace_misses:30 rejected:33 ";

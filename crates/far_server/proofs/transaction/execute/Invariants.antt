@@ -3,7 +3,7 @@ use Rattle.std.specs.List.{flat_map}
 use Rattle.resp.specs.Replies.{Token, Count, token}
 use Rattle.far_server.specs.Queues.{waiting}
 use Rattle.far_server.proofs.Executing.{GoesOn}
-use Rattle.far_server.proofs.answering.execute.Given as goal
+use Rattle.far_server.proofs.transaction.execute.Given as goal
 
 abbrev pub invariant-loop-at : goal.invariant-loop-at
 invariant-loop-at g l = (l.connection.queue ≡ l.fn.connection.queue) × (l.before ≡ length l.fn.reply.items) × (l.before ≤ length l.reply.items)

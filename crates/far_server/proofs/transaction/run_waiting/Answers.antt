@@ -1,7 +1,7 @@
 use Rattle.std.proofs.Common.{◌≡◌, ℕ, List, subst}
 use Rattle.far_server.specs.Runs.{IsRequest}
 use Rattle.far_server.proofs.Pushed.{on_ok}
-use Rattle.far_server.proofs.answering.run_waiting.Goals as goal
+use Rattle.far_server.proofs.transaction.run_waiting.Goals as goal
 
 pub returns-clause-ran : goal.returns-clause-ran
 returns-clause-ran g c = on_ok c.run.result (λ p.

@@ -2,7 +2,7 @@ use Rattle.std.proofs.Common.{[], ◌∷◌, refl, inl, inr, ◌∙◌}
 use Rattle.std.specs.Prelude.{codes}
 use Rattle.resp.specs.Replies.{Failure, Simple}
 use Rattle.far_server.proofs.Pushed.{on_ok}
-use Rattle.far_server.proofs.answering.wait.Goals as goal
+use Rattle.far_server.proofs.transaction.wait.Goals as goal
 
 pub returns-then-spoils : goal.returns-then-spoils
 returns-then-spoils c = on_ok c.push_one_fault.result (λ said. (Failure said.0 ∷ [], said.1, inr c.spoil.ensures)) c.push_one_fault.ensures

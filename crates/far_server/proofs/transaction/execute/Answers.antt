@@ -11,7 +11,7 @@ use Rattle.far_server.specs.Answers.{AreRefused, AreWithoutMemory, AreExecuted}
 use Rattle.far_server.proofs.Pushed.{on_ok, single, more_tokens}
 use Rattle.far_server.specs.Runs.{IsRequest}
 use Rattle.far_server.proofs.Executing.{GoesOn, ran_one, stopped, left_of, next_held}
-use Rattle.far_server.proofs.answering.execute.Goals as goal
+use Rattle.far_server.proofs.transaction.execute.Goals as goal
 
 pub loop-at-init : goal.loop-at-init
 loop-at-init g c =

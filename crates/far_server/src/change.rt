@@ -1,0 +1,110 @@
+//! The change that a command makes of a value that was found.
+//!
+//! It is made only while that value is still there, so whoever was overtaken by others has changed nothing, and tries again.
+ghost use Rattle.std.specs.Prelude.{◌≡◌, ◌≢◌, MatchBool, Some};
+ghost use Rattle.key_commands.specs.declared.asked.Effect.TheVariants as effects;
+ghost use Rattle.table_core.specs.Lent.{lent_value};
+ghost use Rattle.far_server.specs.Keyed.{IsSettled};
+
+use crate::around::Desk;
+use far_blob::Blob;
+use far_map::{Calls, Refusal, Value};
+use far_object::Text;
+use key_commands::Effect;
+use std::alloc::Global;
+use std::sync::Wait;
+
+/// Puts what the desk has over a value that was found, where it is still there: whether it was.
+fn put_over<S: Calls<Blob>, R: Wait>(
+    rt: &R,
+    alloc: Global,
+    me: &mut S,
+    key: &Text,
+    found: Option<&Blob>,
+    desk: &mut Desk,
+) -> Result<bool, Refusal>
+    ensures { IsSettled S.limits key.now (lent_value found.entry) effects.Sets desk.old.stored.items (S.shown me.old) (S.shown me.new) result }
+{
+    let value = match Blob::from_bytes(alloc, desk.stored.as_slice()) {
+        Ok(value) => value,
+        Err(why) => return Err(why),
+    };
+    match me.put_if(rt, key, found, &value) {
+        Ok(before) => {
+            let is_done = are_same(before.as_ref(), found);
+            if is_done {
+                desk.count_set(found.is_none());
+            }
+            Ok(is_done)
+        }
+        Err(why) => Err(why),
+    }
+}
+
+/// Takes a value out that was found, where it is still there: whether it was.
+fn take_out<S: Calls<Blob>, R: Wait>(
+    rt: &R,
+    me: &mut S,
+    key: &Text,
+    found: &Blob,
+    desk: &mut Desk,
+) -> Result<bool, Refusal>
+    ensures { IsSettled S.limits key.now (Some found.now) effects.Removes desk.old.stored.items (S.shown me.old) (S.shown me.new) result }
+{
+    match me.remove_if(rt, key, found) {
+        Ok(removal) => {
+            desk.tally.count_removal(removal.removed);
+            Ok(removal.removed)
+        }
+        Err(why) => Err(why),
+    }
+}
+
+/// Makes the change of a value that was found, where it is still there: whether it was.
+fn change<S: Calls<Blob>, R: Wait>(
+    rt: &R,
+    alloc: Global,
+    me: &mut S,
+    key: &Text,
+    found: Option<&Blob>,
+    effect: Effect,
+    desk: &mut Desk,
+) -> Result<bool, Refusal>
+    ensures { IsSettled S.limits key.now (lent_value found.entry) effect desk.old.stored.items (S.shown me.old) (S.shown me.new) result }
+{
+    match (effect, found) {
+        (Effect::Sets, _) => put_over(rt, alloc, me, key, found, desk),
+        (Effect::Removes, Some(found)) => take_out(rt, me, key, found, desk),
+        _ => Ok(true),
+    }
+}
+
+/// The same, of a value that may be expired, which is counted once it is gone.
+pub(crate) fn settle<S: Calls<Blob>, R: Wait>(
+    rt: &R,
+    alloc: Global,
+    me: &mut S,
+    key: &Text,
+    found: Option<&Blob>,
+    is_expired: bool,
+    effect: Effect,
+    desk: &mut Desk,
+) -> Result<bool, Refusal>
+    ensures { IsSettled S.limits key.now (lent_value found.entry) effect desk.old.stored.items (S.shown me.old) (S.shown me.new) result }
+{
+    let settled = change(rt, alloc, me, key, found, effect, desk);
+    desk.tally
+        .count_expired(is_expired && matches!(settled, Ok(true)));
+    settled
+}
+
+/// Whether both are none, or the same bytes.
+fn are_same(one: Option<&Blob>, other: Option<&Blob>) -> bool
+    ensures { MatchBool result (lent_value one.entry ≡ lent_value other.entry) (lent_value one.entry ≢ lent_value other.entry) }
+{
+    match (one, other) {
+        (None, None) => true,
+        (Some(one), Some(other)) => one.as_bytes() == other.as_bytes(),
+        _ => false,
+    }
+}

@@ -1,0 +1,211 @@
+//! What waits between MULTI and EXEC, and how EXEC runs it.
+ghost use Rattle.std.specs.Prelude.{◌≡◌, ◌++◌, ◌∷◌, ℕ, List, length, OnOk};
+ghost use Rattle.std.specs.List.{flat_map};
+ghost use Rattle.resp.specs.Replies.{Token, Count, token};
+ghost use Rattle.commands.specs.Arguments.{listed};
+ghost use Rattle.far_server.specs.Queues.{held, waiting};
+ghost use Rattle.far_server.specs.Runs.{IsRequest};
+ghost use Rattle.far_server.specs.Answers.{known, waits_in, IsHeld, MovesOn, AreExecutedEach, IsExecutedOrElse};
+
+use crate::around::{Around, Desk};
+use crate::bound::{TOO_LARGE, may_grow_to};
+use crate::connection::Connection;
+use crate::queue::{Queue, Request};
+use crate::refusing::text_of;
+use crate::reserve::{errors_of, has_room_for_short, push_failures};
+use crate::running::run;
+use crate::single::{push_one_failure, push_one_fault, push_one_simple};
+use commands::{Arguments, Command, Fault, Name, Special, read};
+use far_blob::Blob;
+use far_map::{Calls, Refusal};
+use resp::push_count;
+use std::alloc::{AllocError, Global};
+use std::rt::Clock;
+use std::sync::Wait;
+
+const NESTED: &[u8] = b"ERR MULTI calls can not be nested";
+
+const NO_MULTI_BEFORE_EXEC: &[u8] = b"ERR EXEC without MULTI";
+
+const NO_MULTI_BEFORE_DISCARD: &[u8] = b"ERR DISCARD without MULTI";
+
+const SPOILT: &[u8] = b"EXECABORT Transaction discarded because of previous errors.";
+
+const FULL_QUEUE: &[u8] = b"ERR too many bytes wait for EXEC";
+
+/// Whether EXEC is to run none of the requests behind a MULTI of which one has this fault: it has a wrong name, or a wrong count of
+/// arguments. Of other faults EXEC replies, and of counts of PING and MSET that these commands themselves refuse.
+fn spoils(fault: &Fault<'_>, arguments: usize) -> bool {
+    match fault {
+        Fault::Count(Name::Special(Special::Ping)) => false,
+        Fault::Count(Name::Special(Special::MSet)) => arguments < 3,
+        Fault::Unknown(_)
+        | Fault::Refused(_)
+        | Fault::Keys
+        | Fault::Subcommand(_, _)
+        | Fault::Count(_)
+        | Fault::SubcommandCount(_)
+        | Fault::SlowLogCount(_) => true,
+        _ => false,
+    }
+}
+
+/// Has a request wait for EXEC, unless its fault is one that EXEC has no reply for, or there is no room for it.
+pub(crate) fn wait(
+    alloc: Global,
+    most: u32,
+    queue: &mut Queue,
+    request: Arguments<'_>,
+    asked: Result<Command<'_>, Fault<'_>>,
+    reply: &mut Vec<u8>,
+) -> Result<(), AllocError>
+    ensures { OnOk result ((rs : List Token) × (reply.new.items ≡ reply.old.items ++ flat_map token rs) × IsHeld (waiting queue.old) (waiting queue.new) (listed request.entry) rs) }
+{
+    if let Err(fault) = asked {
+        if spoils(&fault, request.spans.len()) {
+            queue.spoil();
+            return push_one_fault(reply, fault, 0);
+        }
+    }
+    if !queue.has_room(request, most) {
+        queue.spoil();
+        return push_one_failure(reply, FULL_QUEUE);
+    }
+    match queue.push(alloc, request) {
+        Ok(()) => push_one_simple(reply, b"QUEUED"),
+        Err(_) => {
+            queue.spoil();
+            push_one_failure(reply, text_of(Refusal::Memory))
+        }
+    }
+}
+
+/// Runs a request that waited. Its reply may have `limit` bytes.
+fn run_waiting<S: Calls<Blob>, C: Clock, R: Wait>(
+    around: &Around<'_, C, R>,
+    me: &mut S,
+    connection: &mut Connection,
+    desk: &mut Desk,
+    request: &Request,
+    now: u64,
+    limit: usize,
+    reply: &mut Vec<u8>,
+) -> Result<(), AllocError>
+    ensures ran { OnOk result ((rs : List Token) × (reply.new.items ≡ reply.old.items ++ flat_map token rs) × IsRequest S.limits around.now.settings.now.digest_keys around.now.settings.now.bounds.longest_value limit (held request.now) (S.shown me.old) (S.shown me.new) rs) }
+    ensures queue { connection.new.queue ≡ connection.old.queue }
+{
+    let request = request.arguments();
+    let asked = read(request, now);
+    run(
+        around, me, connection, desk, request, asked, now, limit, reply,
+    )
+}
+
+/// Runs the requests that wait, one after another: the reply is an array of theirs. From the first on for which a reply's bytes have no
+/// room for one more value, or there is no memory for a short reply, none is run, and the reply to each is an error.
+fn execute<S: Calls<Blob>, C: Clock, R: Wait>(
+    around: &Around<'_, C, R>,
+    me: &mut S,
+    connection: &mut Connection,
+    desk: &mut Desk,
+    queue: &Queue,
+    now: u64,
+    reply: &mut Vec<u8>,
+) -> Result<(), AllocError>
+    ensures ran { OnOk result ((rs : List Token) × (reply.new.items ≡ reply.old.items ++ flat_map token rs) × ((each : List Token) × AreExecutedEach S.limits around.now.settings.now.digest_keys around.now.settings.now.bounds (waiting queue.now) each (S.shown me.old) (S.shown me.new) × (rs ≡ Count (length (waiting queue.now)) ∷ each))) }
+    ensures queue { connection.new.queue ≡ connection.old.queue }
+{
+    let bounds = around.settings.bounds;
+    let limit = bounds.longest_reply as usize;
+    let before = reply.len();
+    let requests = queue.requests();
+    match push_count(reply, requests.len()) {
+        Ok(()) => {}
+        Err(refused) => return Err(refused),
+    }
+    for at in 0..requests.len() {
+        let left = requests.len() - at;
+        let used = reply.len() - before;
+        if !may_grow_to(limit, used, bounds.longest_value) {
+            return push_failures(reply, left, TOO_LARGE);
+        }
+        desk.beside = errors_of(left - 1);
+        if !has_room_for_short(desk.beside, reply) {
+            return push_failures(reply, left, text_of(Refusal::Memory));
+        }
+        let request = &requests[at];
+        match run_waiting(
+            around,
+            me,
+            connection,
+            desk,
+            request,
+            now,
+            limit - used,
+            reply,
+        ) {
+            Ok(()) => {}
+            Err(refused) => return Err(refused),
+        }
+    }
+    Ok(())
+}
+
+/// EXEC. There is room for an error of each request first.
+pub(crate) fn answer_exec<S: Calls<Blob>, C: Clock, R: Wait>(
+    around: &Around<'_, C, R>,
+    me: &mut S,
+    connection: &mut Connection,
+    desk: &mut Desk,
+    now: u64,
+    reply: &mut Vec<u8>,
+) -> Result<(), AllocError>
+    ensures { OnOk result ((rs : List Token) × (reply.new.items ≡ reply.old.items ++ flat_map token rs) × IsExecutedOrElse S.limits around.now.settings.now.digest_keys around.now.settings.now.bounds (known connection.old) (known connection.new) (S.shown me.old) (S.shown me.new) rs) }
+{
+    match connection.queue.take() {
+        None => push_one_failure(reply, NO_MULTI_BEFORE_EXEC),
+        Some(queue) => {
+            if queue.is_spoilt() {
+                return push_one_failure(reply, SPOILT);
+            }
+            if !has_room_for_short(errors_of(queue.requests().len()), reply) {
+                return push_one_failure(reply, text_of(Refusal::Memory));
+            }
+            let done = execute(around, me, connection, desk, &queue, now, reply);
+            desk.beside = 0;
+            done
+        }
+    }
+}
+
+/// MULTI.
+pub(crate) fn answer_multi(
+    alloc: Global,
+    connection: &mut Connection,
+    reply: &mut Vec<u8>,
+) -> Result<(), AllocError>
+    ensures said { OnOk result ((rs : List Token) × (reply.new.items ≡ reply.old.items ++ flat_map token rs)) }
+    ensures waits { MovesOn (waits_in connection.old.queue) (waits_in connection.new.queue) }
+    ensures passed { connection.new.passed ≡ connection.old.passed }
+{
+    if connection.queue.is_some() {
+        return push_one_failure(reply, NESTED);
+    }
+    connection.queue = Some(Queue::new(alloc));
+    push_one_simple(reply, b"OK")
+}
+
+/// DISCARD.
+pub(crate) fn answer_discard(
+    connection: &mut Connection,
+    reply: &mut Vec<u8>,
+) -> Result<(), AllocError>
+    ensures said { OnOk result ((rs : List Token) × (reply.new.items ≡ reply.old.items ++ flat_map token rs)) }
+    ensures waits { MovesOn (waits_in connection.old.queue) (waits_in connection.new.queue) }
+    ensures passed { connection.new.passed ≡ connection.old.passed }
+{
+    match connection.queue.take() {
+        None => push_one_failure(reply, NO_MULTI_BEFORE_DISCARD),
+        Some(_) => push_one_simple(reply, b"OK"),
+    }
+}
