@@ -1,9 +1,6 @@
 """Trials of server.py: no request ends a worker, whatever it is or makes of its reply, and what is bounded is bounded."""
-import contextlib
 import math
 import random
-import socket
-import threading
 import time
 from collections import Counter
 
@@ -222,32 +219,6 @@ def a_look_at_an_empty_map_is_short(tried, _):
     return ", ".join(f"{command} took {seconds * 1e3:.0f} ms of a processor" for command, seconds in took.items())
 
 
-def others_go_on_beside_what_takes_long(tried, _):
-    """A client of one thread asks again and again for a look at 4,194,304 empty buckets, as fast as it can."""
-    with tried.start("--buckets", 4_194_304, "--threads", 1, memory="1g", far=None) as server:
-        greedy, other = server.client(), server.client()
-        assert greedy.ask("RANDOMKEY") == NONE and other.ask("PING") == PONG
-        sender = threading.Thread(target=send_until_closed, args=(greedy, request("RANDOMKEY") * 100_000), daemon=True)
-        sender.start()
-        # Until it is known how long one takes.
-        for _ in range(200):
-            assert greedy.reply() == NONE
-        times = []
-        for _ in range(15):
-            began = time.monotonic()
-            assert other.ask("PING") == PONG
-            times.append(time.monotonic() - began)
-        greedy.socket.shutdown(socket.SHUT_RDWR)
-        sender.join()
-    assert sorted(times)[7] < 1, times
-    return f"PING took {sorted(times)[7] * 1e3:.0f} ms, at most {max(times) * 1e3:.0f}"
-
-
-def send_until_closed(client, data):
-    with contextlib.suppress(OSError):
-        client.send(data)
-
-
 TRIALS = [an_mget_has_a_bounded_reply, an_exec_has_a_bounded_reply, other_replies_are_bounded, a_page_of_scan_is_bounded,
           each_key_is_drawn_as_often_as_it_should, an_expired_key_is_not_drawn, a_stranger_asks_for_little,
-          a_look_at_an_empty_map_is_short, others_go_on_beside_what_takes_long]
+          a_look_at_an_empty_map_is_short]
