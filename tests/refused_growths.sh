@@ -11,7 +11,8 @@ if ! command -v cc >/dev/null; then
     exit 77
 fi
 work=$(mktemp -d)
-trap 'rm -rf "$work"' EXIT
+# (a run of growths that is ended leaves the folder, in which nobody could make a file then)
+trap 'rm -rf "$work"; rmdir /tmp/fazhitta-growths 2>/dev/null || true' EXIT
 cc -O -Wall -shared -fPIC -fno-builtin -o "$work/refuse_growth.so" "$tests/refuse_growth.c"
 program=$("$tests/../bin/build" fartable)
 status=0

@@ -1,7 +1,8 @@
-"""Tries bin/farserve from outside, beside redis-server: server.py FOLDER [--long] [--redis] [TRIAL]...
+"""Tries bin/farserve from outside, beside redis-server: server.py FOLDER [--long | --half] [--redis] [TRIAL]...
 
-A TRIAL is the name of a function of the files beside this one; all are made where none is named. --redis puts redis-server into
-the place of bin/farserve, for those trials that it can pass, so that a trial which asks for too much is found out.
+A TRIAL is the name of a function of the files beside this one; all are made where none is named, with --half half of them
+(halves.py). --redis puts redis-server into the place of bin/farserve, for those trials that it can pass, so that a trial which asks
+for too much is found out.
 """
 import os
 import resource
@@ -24,6 +25,7 @@ import server_slots
 import server_spread
 import server_stores
 import server_strangers
+from halves import taken
 from server_parts import Farserve, Redis
 
 SHORT = {"commands": 2000, "histories": 200, "increments": 4000, "strings": 20_000, "clients": 1000, "draws": 20_000}
@@ -83,7 +85,7 @@ def main():
     sys.setswitchinterval(1e-4)
     parts = PARTS + [server_ends, server_room, server_slots, server_limits, server_memory, server_refused, server_renewal, server_spread,
                      server_stores] * (not is_redis)
-    trials = [it for part in parts for it in part.TRIALS if it.__name__ in names or not names]
+    trials = taken([it for part in parts for it in part.TRIALS if it.__name__ in names or not names], words)
     tried = Tried(work, is_redis)
     counts = dict(LONG if is_long else SHORT)
     counts["clients"] = min(counts["clients"], files - 200)

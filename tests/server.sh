@@ -1,6 +1,6 @@
 #!/usr/bin/env bash
 # Tries the server, bin/farserve, from outside (server.py): beside redis-server, by redis-cli, redis-benchmark and redis-py, by
-# hostile and broken clients, and with its parts killed: server.sh [--long] [TRIAL]... --long has more of each. The status is 1 where
+# hostile and broken clients, and with its parts killed: server.sh [--long | --half] [TRIAL]... --long has more of each. The status is 1 where
 # a trial fails, and 77 where something is missing that it needs: redis-server, redis-tools and python3-redis of Debian, and rustc.
 set -euo pipefail
 
