@@ -117,7 +117,7 @@ def others_go_on_beside_a_stopped_store(tried, _):
         outcomes(client, range(0, COUNT, 20))
         # Some may have gone to the store before it stopped. None goes there from now on.
         near = [at for at in range(100) if client.ask("GET", f"hot{at}") == bulk(b"1")]
-        assert len(near) > 50, f"{len(near)} of 100 are in memory"
+        assert len(near) > 10, f"{len(near)} of 100 are in memory"
         slowest, until_then = 0, time.monotonic() + 3
         while time.monotonic() < until_then:
             began = time.monotonic()
