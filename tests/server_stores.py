@@ -198,7 +198,7 @@ def a_store_that_refuses_writes_is_left_alone(tried, _):
         # Some may be late since the machine is busy.
         late = {name: sum(it >= .1 for it in seconds) / len(seconds) for name, seconds in took.items()}
         slowest = {name: max(it) for name, it in took.items()}
-        assert refused > 10 and 0 < rate < 100 and max(late.values()) <= .25 and max(slowest.values()) < 5, (refused, rate, late, slowest)
+        assert refused > 10 and 0 < rate < 40 and max(late.values()) <= .25 and max(slowest.values()) < 5, (refused, rate, late, slowest)
         assert client.info()["far_state"] == "resting"
         # Reads go on meanwhile.
         left = [it for it in range(COUNT) if it not in gone]
@@ -207,7 +207,7 @@ def a_store_that_refuses_writes_is_left_alone(tried, _):
         before, began = asked(), time.monotonic()
         time.sleep(2)
         idle = (asked() - before) / (time.monotonic() - began)
-        assert idle < 100, idle
+        assert idle < 20, idle
         assert far.ask("REPLICAOF", "NO", "ONE") == OK
         until(lambda: client.ask("SET", "key0", value(0)) == OK and client.info()["far_state"] == "ok", "writes that are taken again")
         assert outcomes(client, left)[:2] == (len(left), 0)

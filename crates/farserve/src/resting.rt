@@ -58,29 +58,30 @@ impl<'a, C: Clock> RestingStore<'a, C> {
         }
     }
 
-    /// How reads rest behind one that was made, and had this fault. Want of memory here tells nothing of the store.
-    fn after_read(&self, fault: Option<DeviceFault>) -> Rest {
-        match fault {
-            None => Rest::none(),
-            Some(DeviceFault::Failed) => {
+    /// How reads rest behind one that gave this. Neither an object that was never written, for which the store is not asked, nor
+    /// want of memory here tells anything of the store.
+    fn after_read(&self, told: Result<bool, DeviceFault>) -> Rest {
+        match told {
+            Ok(true) => Rest::none(),
+            Ok(false) | Err(DeviceFault::Memory) => self.reads,
+            Err(DeviceFault::Failed) => {
                 let failure = self.inner.last_failure();
                 self.reads.after(is_away(failure), self.now())
             }
-            Some(DeviceFault::Memory) => self.reads,
         }
     }
 
-    /// The same of writes and removes, which an error reply refuses.
-    fn after_write(&self, fault: Option<DeviceFault>) -> Rest {
-        match fault {
-            None => Rest::none(),
-            Some(DeviceFault::Failed) => {
+    /// The same of writes, which give true, and of removes. An error reply refuses both.
+    fn after_write(&self, told: Result<bool, DeviceFault>) -> Rest {
+        match told {
+            Ok(true) => Rest::none(),
+            Ok(false) | Err(DeviceFault::Memory) => self.writes,
+            Err(DeviceFault::Failed) => {
                 let failure = self.inner.last_failure();
                 let is_refused = failure == Some(Failure::Refused);
                 self.writes
                     .after(is_refused || is_away(failure), self.now())
             }
-            Some(DeviceFault::Memory) => self.writes,
         }
     }
 
@@ -107,7 +108,7 @@ impl<C: Clock + Drop> Device for RestingStore<'_, C> {
         }
         let was = self.is_resting();
         let result = self.inner.write(id, bytes);
-        self.writes = self.after_write(result.err());
+        self.writes = self.after_write(result.and(Ok(true)));
         self.usage.tell_resting(was, self.is_resting());
         result
     }
@@ -119,7 +120,7 @@ impl<C: Clock + Drop> Device for RestingStore<'_, C> {
         }
         let was = self.is_resting();
         let result = self.inner.read(id, out);
-        self.reads = self.after_read(result.err());
+        self.reads = self.after_read(result);
         self.usage.tell_resting(was, self.is_resting());
         result
     }
@@ -131,7 +132,7 @@ impl<C: Clock + Drop> Device for RestingStore<'_, C> {
         }
         let was = self.is_resting();
         let result = self.inner.remove(id);
-        self.writes = self.after_write(result.err());
+        self.writes = self.after_write(result);
         self.usage.tell_resting(was, self.is_resting());
         result
     }

@@ -1,7 +1,8 @@
 -- What an evictor does: where spares go, and whom it gives up.
-use Rattle.std.specs.Prelude.{◌≡◌, ℕ, ◌+◌, ◌-◌, ◌^◌, ◌<◌, ◌≤◌, min, Bool, false, true, List, [], ◌∷◌, ◌++◌, ◌⊎◌, length, Option, Some, None, Result, Ok, Err, IfOk, IfErr, IfSome, IfNone, ⊤}
+use Rattle.std.specs.Prelude.{◌≡◌, ℕ, ◌+◌, ◌-◌, ◌^◌, ◌<◌, ◌≤◌, min, Bool, false, true, List, [], ◌∷◌, ◌++◌, ◌⊎◌, length, Option, Some, None, Result, Ok, Err, IfOk, IfErr, IfSome, IfNone}
 use mathlib.Core.List.{IsPrefix}
 use Rattle.far_object.specs.declared.format.Format.{Format}
+use Rattle.table_core.specs.BucketWords.{place_of, far_place}
 use Rattle.table_core.specs.declared.event.Event.{Event}
 use Rattle.table_core.specs.declared.limits.Limits.{Limits}
 use Rattle.version_words.specs.Views.{PassView, SpareView, Goes}
@@ -40,11 +41,35 @@ module _ {K V : Type 0} where
     pub clock : new.clock ≡ old.clock
     pub room : new.room ≡ old.room
 
-  -- a spare was tried, and so its mark learned: it was reclaimed, or it is kept as the last one. So many were reclaimed
-  pub record Tries (old new : EvictorView K V) (s : SpareView K V) (reclaimed : ℕ) : Type 0 where
+  -- its object is on the device, or would be
+  abbrev pub IsFar : SpareView K V → Type 0
+  IsFar s = place_of s.word ≡ far_place
+
+  -- it was tried, and the log begins with what it says. If the device failed before, its object is not there, so that the device is not asked again
+  abbrev pub IsAsked : List (Event K V) → Bool → SpareView K V → Type 0
+  IsAsked log before s = WasTried s × IsPrefix s.front log × (IsFar s → before ≡ false)
+
+  -- it is kept, for one of these reasons. It was tried and came back, and whether the device has failed is as before; it was tried and the device failed at it; or it was not tried, since
+  -- the device had failed before and its object is there
+  abbrev pub IsKept : List (Event K V) → Bool → SpareView K V → Bool → Type 0
+  IsKept log before s after = (IsAsked log before s × ((after ≡ before) ⊎ (IsFar s × (after ≡ true)))) ⊎ ((before ≡ true) × IsFar s × (after ≡ true))
+
+  -- what became of one spare beside those kept: it was tried and reclaimed, or it is kept as the last one. So many were reclaimed. The flags tell whether the device failed before it, and by then
+  abbrev pub IsDealtWith : List (Event K V) → Bool → List (SpareView K V) → SpareView K V → ℕ → List (SpareView K V) → Bool → Type 0
+  IsDealtWith log before kept s reclaimed new after = ((reclaimed ≡ 1) × (new ≡ kept) × (after ≡ before) × IsAsked log before s × IsReclaimed s)
+      ⊎ ((reclaimed ≡ 0) × (new ≡ kept ++ s ∷ []) × IsKept log before s after)
+
+  -- the spare is kept as the last one, and nothing else is done
+  pub record KeepsLast (old new : EvictorView K V) (s : SpareView K V) : Type 0 where
     pub works : Works old new
-    pub told : WasTried s × IsPrefix s.front new.pass.front
-    pub kept : ((reclaimed ≡ 1) × (new.kept ≡ old.kept) × IsReclaimed s) ⊎ ((reclaimed ≡ 0) × (new.kept ≡ old.kept ++ s ∷ []))
+    pub kept : new.kept ≡ old.kept ++ s ∷ []
+    pub limbo : new.limbo ≡ old.limbo
+    pub seat : new.seat ≡ old.seat
+
+  -- one spare was dealt with
+  pub record Tries (old new : EvictorView K V) (s : SpareView K V) (before : Bool) (reclaimed : ℕ) (after : Bool) : Type 0 where
+    pub works : Works old new
+    pub kept : IsDealtWith new.pass.front before old.kept s reclaimed new.kept after
     pub limbo : new.limbo ≡ old.limbo
     pub seat : new.seat ≡ old.seat
 
@@ -55,7 +80,7 @@ module _ {K V : Type 0} where
     pub limbo : new.limbo ≡ old.limbo
     pub seat : new.seat ≡ old.seat
 
-  -- the oldest of the kept spares was drawn, and there is room for it
+  -- the first of the kept spares was drawn, and there is room for it
   pub record DrawsKept (old new : EvictorView K V) (s : SpareView K V) : Type 0 where
     pub works : Works old new
     pub kept : old.kept ≡ s ∷ new.kept
@@ -87,15 +112,12 @@ module _ {K V : Type 0} where
   abbrev pub IsDrained : SeatView (SpareView K V) → Type 0
   IsDrained v = length v.handed ≤ v.taken
 
-  -- of these spares some are kept, in order, and each other one was reclaimed
-  abbrev pub Sifts : List (SpareView K V) → List (SpareView K V) → Type 0
-  Sifts [] kept = kept ≡ []
-  Sifts (s ∷ ss) kept = (IsReclaimed s × Sifts ss kept) ⊎ ((rest : List (SpareView K V)) × (kept ≡ s ∷ rest) × Sifts ss rest)
-
-  -- each of these spares was tried, and the log begins with what it says
-  abbrev pub AreTold : List (Event K V) → List (SpareView K V) → Type 0
-  AreTold log [] = ⊤
-  AreTold log (s ∷ ss) = (WasTried s × IsPrefix s.front log) × AreTold log ss
+  -- these spares were dealt with one after another: some are kept, in order, and each other one was tried and reclaimed. The flags tell whether the device failed before the first of them,
+  -- and by the last of them
+  abbrev pub Sifts : List (Event K V) → Bool → List (SpareView K V) → List (SpareView K V) → Bool → Type 0
+  Sifts log before [] kept after = (kept ≡ []) × (after ≡ before)
+  Sifts log before (s ∷ ss) kept after = (IsAsked log before s × IsReclaimed s × Sifts log before ss kept after)
+      ⊎ ((rest : List (SpareView K V)) × (now : Bool) × (kept ≡ s ∷ rest) × IsKept log before s now × Sifts log now ss rest after)
 
   -- these were taken one after another
   abbrev pub TakesAll : SeatView (SpareView K V) → List (SpareView K V) → SeatView (SpareView K V) → Type 0
@@ -106,63 +128,54 @@ module _ {K V : Type 0} where
   abbrev pub AreGone : ℕ → List (SpareView K V) → List (SpareView K V) → Type 0
   AreGone gone ss kept = gone + length kept ≡ length ss
 
-  -- where the device failed, it did so at the spare that was tried last, which is kept behind the others
-  abbrev pub FailsLast : Bool → List (SpareView K V) → List (SpareView K V) → Type 0
-  FailsLast false tried kept = ⊤
-  FailsLast true tried kept = (before : List (SpareView K V)) × (others : List (SpareView K V)) × (s : SpareView K V) × (tried ≡ before ++ s ∷ []) × (kept ≡ others ++ s ∷ [])
+  -- if the device failed, the first of these goes behind the others, so that each comes first in its turn
+  abbrev pub IsTurned : Bool → List (SpareView K V) → List (SpareView K V) → Type 0
+  IsTurned false kept new = new ≡ kept
+  IsTurned true [] new = new ≡ []
+  IsTurned true (s ∷ rest) new = new ≡ rest ++ s ∷ []
 
-  -- the kept spares were tried from the oldest on, each once, and all of them where the device did not fail. Those that were left stay before those that came back
-  pub record Retries (old new : EvictorView K V) (reclaimed : ℕ) (failed : Bool) : Type 0 where
+  -- this was done to the kept spares, and no more
+  pub record PutsBehind (old new : EvictorView K V) (failed : Bool) : Type 0 where
     pub works : Works old new
-    pub tried : List (SpareView K V)
-    pub left : List (SpareView K V)
-    pub all : old.kept ≡ tried ++ left
-    pub whole : failed ≡ false → left ≡ []
-    pub added : List (SpareView K V)
-    pub kept : new.kept ≡ left ++ added
-    pub told : AreTold new.pass.front tried
-    pub sifted : Sifts tried added
-    pub count : AreGone reclaimed tried added
-    pub few : reclaimed < 2 ^ 64
-    pub failing : FailsLast failed tried added
+    pub kept : IsTurned failed old.kept new.kept
     pub limbo : new.limbo ≡ old.limbo
     pub seat : new.seat ≡ old.seat
 
-  -- these of its own limbo and these of the queue were tried, each once, behind those that are kept
-  pub record Tried (old new : EvictorView K V) (went taken : List (SpareView K V)) (reclaimed : ℕ) (failed : Bool) : Type 0 where
+  -- each kept spare was dealt with, from the first on
+  pub record Retries (old new : EvictorView K V) (reclaimed : ℕ) (failed : Bool) : Type 0 where
+    pub works : Works old new
+    pub sifted : Sifts new.pass.front false old.kept new.kept failed
+    pub count : AreGone reclaimed old.kept new.kept
+    pub few : reclaimed < 2 ^ 64
+    pub limbo : new.limbo ≡ old.limbo
+    pub seat : new.seat ≡ old.seat
+
+  -- these of its own limbo and these of the queue were dealt with, behind those that are kept
+  pub record Tried (old new : EvictorView K V) (went taken : List (SpareView K V)) (before : Bool) (reclaimed : ℕ) (after : Bool) : Type 0 where
     pub works : Works old new
     pub added : List (SpareView K V)
     pub kept : new.kept ≡ old.kept ++ added
-    pub told : AreTold new.pass.front (went ++ taken)
-    pub sifted : Sifts (went ++ taken) added
+    pub sifted : Sifts new.pass.front before (went ++ taken) added after
     pub gone : ℕ
     pub count : AreGone gone (went ++ taken) added
     pub tells : reclaimed ≡ shown gone
-    pub failing : FailsLast failed (went ++ taken) added
     pub limbo : old.limbo ≡ went ++ new.limbo
     pub seat : TakesAll old.seat taken new.seat
 
-  -- a collecting loses no spare: each of these that it kept, each of these of its limbo, and each of these of the queue was tried, and was reclaimed or is kept, in order.
-  -- It tries all that it kept, and ends where there is room for no more, or nothing is left. Only where the device failed, which was at the last that it tried, it ends before:
-  -- then some that it kept may be left, before it tried any other, and stay before those that came back
+  -- a collecting loses no spare. It deals with each that it kept, then with these of its limbo, then with these of the queue: each was tried, and was reclaimed or stays, in order.
+  -- After the device failed, exactly those with an object there are not tried. They stay too. If it failed, the first of those that stay goes behind the others at the end.
+  -- The collecting ends when there is room to keep no more, or when nothing is left. A failure of the device does not end it
   pub record Collects (old new : EvictorView K V) (gone : ℕ) (failed : Bool) : Type 0 where
     pub works : Works old new
-    pub again : List (SpareView K V)
-    pub left : List (SpareView K V)
     pub went : List (SpareView K V)
     pub taken : List (SpareView K V)
-    pub all : old.kept ≡ again ++ left
+    pub stay : List (SpareView K V)
     pub limbo : old.limbo ≡ went ++ new.limbo
     pub seat : TakesAll old.seat taken new.seat
-    pub told : AreTold new.pass.front (again ++ (went ++ taken))
-    pub added : List (SpareView K V)
-    pub kept : new.kept ≡ left ++ added
-    pub sifted : Sifts (again ++ (went ++ taken)) added
-    pub count : AreGone gone (again ++ (went ++ taken)) added
-    pub failing : FailsLast failed (again ++ (went ++ taken)) added
-    pub first : (left ≡ []) ⊎ ((went ≡ []) × (taken ≡ []))
-    pub whole : failed ≡ false → left ≡ []
-    pub stopped : failed ≡ false → IsFull new ⊎ ((new.limbo ≡ []) × IsDrained new.seat)
+    pub sifted : Sifts new.pass.front false (old.kept ++ (went ++ taken)) stay failed
+    pub kept : IsTurned failed stay new.kept
+    pub count : AreGone gone (old.kept ++ (went ++ taken)) new.kept
+    pub stopped : IsFull new ⊎ ((new.limbo ≡ []) × IsDrained new.seat)
 
   -- the same, and the answer tells how many were reclaimed, how many are kept, and whether the device failed
   pub record Collecting (old new : EvictorView K V) (answer : Collected) : Type 0 where

@@ -26,7 +26,7 @@ use std::marker::Model;
 use std::sync::Wait;
 use version_words::{Mark, Naming, Spare};
 
-/// How many spares a collecting had reclaimed, how many are kept, and whether it ended since the device failed.
+/// How many spares a collecting had reclaimed, how many are kept, and whether the device failed.
 #[derive(Clone, Copy, Debug, PartialEq, Eq)]
 pub struct Collected {
     pub reclaimed: u64,
@@ -52,7 +52,7 @@ pub struct Evictor<K: FarObject, V: FarObject, J: Naming, B: QueueNaming> {
     caller: Caller<K, V, J>,
     seat: QueueSeat<K, V, J, B>,
     clock: Clock,
-    // The oldest first.
+    // Each collecting tries them from the first on.
     kept: VecDeque<Spare<K, V, J>>,
 }
 
@@ -130,11 +130,13 @@ impl<K: FarObject, V: FarObject, J: Naming, B: QueueNaming> Evictor<K, V, J, B> 
     }
 
     /// Has each kept spare reclaimed once, then those of its own limbo and of the queue while there is room to keep one
-    /// more. What comes back, since a reader is there, the device failed or a growth was refused, is kept behind the
-    /// others. It never refuses, and takes no memory of its own.
+    /// more. What comes back is kept behind the others: a reader is there, the device failed or a growth was refused. It never
+    /// refuses, and takes no memory of its own.
     ///
-    /// Once the device failed it is not asked again: the collecting ends, and `failed` says so. Kept spares that were not tried
-    /// by then are the first that the next collecting tries.
+    /// Once the device failed it is not asked again. Spares whose objects are on it are kept untried, and the others are
+    /// tried: so a device that fails holds no frame back, while there is room to keep what it refuses. `failed` says that it
+    /// failed. The first kept spare then goes behind the others, so that each comes first in its turn: one whose removal always
+    /// fails does not hold up the others for good.
     pub fn collect<D: Device, R: Wait>(
         &mut self,
         rt: &R,
@@ -144,14 +146,9 @@ impl<K: FarObject, V: FarObject, J: Naming, B: QueueNaming> Evictor<K, V, J, B> 
         ensures { Collecting self.old self.new result }
     {
         let again = self.retry(rt, table);
-        if again.failed {
-            return self.collected(again);
-        }
-        let own = again.and(self.empty_limbo(rt, table));
-        if own.failed {
-            return self.collected(own);
-        }
-        let all = own.and(self.empty_queue(rt, table, queue));
+        let own = again.and(self.empty_limbo(rt, table, again.failed));
+        let all = own.and(self.empty_queue(rt, table, queue, own.failed));
+        self.put_first_behind(all.failed);
         self.collected(all)
     }
 

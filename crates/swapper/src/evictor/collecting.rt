@@ -1,9 +1,9 @@
-//! Spares are tried one after another, until the device fails: it is not asked again in this collecting.
-ghost use Rattle.std.specs.Prelude.{◌≡◌, ◌+◌, ◌-◌, ◌^◌, ◌<◌, ◌≤◌, ◌⊎◌, [], List, length, min, false, true, MatchBool, MatchOption, IfErr, OnOk};
+//! Spares are tried one after another. After the device failed, those with an object on it are passed over.
+ghost use Rattle.std.specs.Prelude.{◌≡◌, ◌+◌, ◌-◌, ◌^◌, ◌<◌, ◌≤◌, ◌⊎◌, ◌↔◌, [], List, length, min, IsTrue, MatchBool, MatchOption, IfErr, OnOk};
 ghost use mathlib.Core.List.{IsPrefix};
 ghost use Rattle.version_words.specs.Views.{Goes, SpareView};
 ghost use Rattle.hash_table.specs.Reclaims.{WasTried, IsReclaimed};
-ghost use Rattle.swapper.specs.Evictors.{Tries, Stays, DrawsKept, DrawsOwn, DrawsNext, IsFull, IsDrained, Retries, Tried};
+ghost use Rattle.swapper.specs.Evictors.{IsFar, KeepsLast, Tries, Stays, DrawsKept, DrawsOwn, DrawsNext, IsFull, IsDrained, Retries, Tried, PutsBehind};
 
 use super::{Collected, Evictor};
 use crate::naming::QueueNaming;
@@ -12,9 +12,10 @@ use far_device::Device;
 use far_object::FarObject;
 use hash_table::{Caller, FarTable, ReclaimFault};
 use std::sync::Wait;
+use table_core::word::{FAR_PLACE, place_of};
 use version_words::{Naming, Spare};
 
-/// How many of the spares that were tried were reclaimed, and whether the device failed at the last one.
+/// How many spares were reclaimed, and whether the device has failed in this collecting by then.
 #[derive(Clone, Copy)]
 pub(super) struct Attempts {
     pub(super) reclaimed: u64,
@@ -22,7 +23,7 @@ pub(super) struct Attempts {
 }
 
 impl Attempts {
-    // These, and the next that were made.
+    // These, and the next that were made, which began with what these ended with.
     pub(super) fn and(self, next: Attempts) -> Attempts
         ensures reclaimed { result.reclaimed ≡ min (self.reclaimed + next.reclaimed) (2 ^ 64 - 1) }
         ensures failed { result.failed ≡ next.failed }
@@ -55,6 +56,13 @@ fn reclaim<K: FarObject, V: FarObject, J: Naming, D: Device, R: Wait>(
     }
 }
 
+// Whether the spare's object is on the device. No other spare asks it.
+fn is_far<K: FarObject, V: FarObject, J: Naming>(spare: &Spare<K, V, J>) -> bool
+    ensures { IsTrue result ↔ IsFar spare.now }
+{
+    place_of(spare.word()) == FAR_PLACE
+}
+
 impl<K: FarObject, V: FarObject, J: Naming, B: QueueNaming> Evictor<K, V, J, B> {
     // Whether one more can be kept.
     fn has_room(&self) -> bool
@@ -83,27 +91,44 @@ impl<K: FarObject, V: FarObject, J: Naming, B: QueueNaming> Evictor<K, V, J, B> 
         }
     }
 
-    // Has the spare reclaimed, or keeps it as the last one.
+    // Keeps the spare as the last one.
+    fn keep(&mut self, spare: Spare<K, V, J>)
+        requires { length self.old.kept < self.old.room }
+        ensures { KeepsLast self.old self.new spare }
+    {
+        let _ = self.kept.push_back(spare);
+    }
+
+    // Has the spare reclaimed, or keeps it as the last one. If the device `failed` before, a spare that would ask it is kept
+    // untried.
     fn try_one<D: Device, R: Wait>(
         &mut self,
         rt: &R,
         table: &FarTable<K, V, J, D>,
         spare: Spare<K, V, J>,
+        failed: bool,
     ) -> Attempts
         requires { length self.old.kept < self.old.room }
-        ensures tries { Tries self.old self.new spare result.reclaimed }
-        ensures failed { result.failed ≡ true → result.reclaimed ≡ 0 }
+        ensures { Tries self.old self.new spare failed result.reclaimed result.failed }
     {
+        let far = is_far(&spare);
+        if failed && far {
+            self.keep(spare);
+            return Attempts {
+                reclaimed: 0,
+                failed: true,
+            };
+        }
         match reclaim(rt, table, &mut self.caller, spare) {
             Ok(()) => Attempts {
                 reclaimed: 1,
-                failed: false,
+                failed,
             },
             Err((back, fault)) => {
-                let _ = self.kept.push_back(back);
+                self.keep(back);
                 Attempts {
                     reclaimed: 0,
-                    failed: matches!(fault, ReclaimFault::Device),
+                    failed: failed || far && matches!(fault, ReclaimFault::Device),
                 }
             }
         }
@@ -131,7 +156,7 @@ impl<K: FarObject, V: FarObject, J: Naming, B: QueueNaming> Evictor<K, V, J, B> 
         queue.take(rt, &mut self.seat)
     }
 
-    // Tries each kept spare once, from the oldest on, until the device fails.
+    // Deals with each kept spare once, from the first on.
     pub(super) fn retry<D: Device, R: Wait>(
         &mut self,
         rt: &R,
@@ -145,65 +170,78 @@ impl<K: FarObject, V: FarObject, J: Naming, B: QueueNaming> Evictor<K, V, J, B> 
         };
         let count = self.kept_len();
         for _k in 0..count {
-            if all.failed {
-                return all;
-            }
             let Some(spare) = self.draw_kept() else {
                 return all;
             };
-            all = all.and(self.try_one(rt, table, spare));
+            all = all.and(self.try_one(rt, table, spare, all.failed));
         }
         all
     }
 
-    // Tries the spares of its own limbo, while there is room and the device does not fail.
+    // Deals with the spares of its own limbo, while there is room.
     pub(super) fn empty_limbo<D: Device, R: Wait>(
         &mut self,
         rt: &R,
         table: &FarTable<K, V, J, D>,
+        failed: bool,
     ) -> Attempts
-        ensures tried { (went : List (SpareView K V)) × Tried self.old self.new went [] result.reclaimed result.failed }
-        ensures stopped { result.failed ≡ false → IsFull self.new ⊎ (self.new.limbo ≡ []) }
+        ensures tried { (went : List (SpareView K V)) × Tried self.old self.new went [] failed result.reclaimed result.failed }
+        ensures stopped { IsFull self.new ⊎ (self.new.limbo ≡ []) }
     {
         let mut all = Attempts {
             reclaimed: 0,
-            failed: false,
+            failed,
         };
         for _ in rt.forever() {
-            if all.failed || !self.has_room() {
+            if !self.has_room() {
                 return all;
             }
             let Some(spare) = self.draw_own() else {
                 return all;
             };
-            all = all.and(self.try_one(rt, table, spare));
+            all = all.and(self.try_one(rt, table, spare, all.failed));
         }
         unreachable!()
     }
 
-    // Tries the spares of the queue, while there is room and the device does not fail.
+    // Deals with the spares of the queue, while there is room.
     pub(super) fn empty_queue<D: Device, R: Wait>(
         &mut self,
         rt: &R,
         table: &FarTable<K, V, J, D>,
         queue: &SpareQueue<K, V, J, B>,
+        failed: bool,
     ) -> Attempts
-        ensures tried { (taken : List (SpareView K V)) × Tried self.old self.new [] taken result.reclaimed result.failed }
-        ensures stopped { result.failed ≡ false → IsFull self.new ⊎ IsDrained self.new.seat }
+        ensures tried { (taken : List (SpareView K V)) × Tried self.old self.new [] taken failed result.reclaimed result.failed }
+        ensures stopped { IsFull self.new ⊎ IsDrained self.new.seat }
     {
         let mut all = Attempts {
             reclaimed: 0,
-            failed: false,
+            failed,
         };
         for _ in rt.forever() {
-            if all.failed || !self.has_room() {
+            if !self.has_room() {
                 return all;
             }
             let Some(spare) = self.draw_next(rt, queue) else {
                 return all;
             };
-            all = all.and(self.try_one(rt, table, spare));
+            all = all.and(self.try_one(rt, table, spare, all.failed));
         }
         unreachable!()
+    }
+
+    // If the device failed, puts the first kept spare behind the others. Otherwise one whose removal always fails would come
+    // first in each collecting, and the device would not be asked for those behind it.
+    pub(super) fn put_first_behind(&mut self, failed: bool)
+        ensures { PutsBehind self.old self.new failed }
+    {
+        if !failed {
+            return;
+        }
+        let Some(first) = self.draw_kept() else {
+            return;
+        };
+        self.keep(first);
     }
 }

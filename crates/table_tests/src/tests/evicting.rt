@@ -89,6 +89,24 @@ const KEPT_SPARE: &[Act] = &[
     Gets(1, 1),
 ];
 
+/// The removal of the first of two far objects fails. The device is not asked for the second, while the frame's spare behind both
+/// is reclaimed. The next collecting has both removed.
+const FAR_SPARES_KEPT: &[Act] = &[
+    Puts(1, 1, Ok(None)),
+    Puts(2, 2, Ok(None)),
+    Turns(true, 1),
+    Turns(true, 1),
+    Gets(1, 1),
+    Gets(2, 2),
+    Puts(1, 3, Ok(Some(1))),
+    Settles(3, 0),
+    Collects(1, 2),
+    Collects(2, 0),
+    Collects(0, 0),
+    Gets(1, 3),
+    Gets(2, 2),
+];
+
 /// The device fails as the victim is written. The next turn gives it up.
 const FAILED_WRITE: &[Act] = &[
     Puts(1, 1, Ok(None)),
@@ -133,6 +151,16 @@ fn a_spare_that_is_not_reclaimed_is_kept(rt: HostRuntime) {
         rt.alloc(),
         Sizes(4, 2, 8, 0, 1),
         Work::Evicting(KEPT_SPARE),
+    );
+}
+
+#[test]
+fn a_device_that_fails_holds_back_no_frame(rt: HostRuntime) {
+    works(
+        &rt,
+        rt.alloc(),
+        Sizes(4, 3, 8, 5, 0),
+        Work::Evicting(FAR_SPARES_KEPT),
     );
 }
 

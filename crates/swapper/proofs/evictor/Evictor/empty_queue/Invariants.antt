@@ -4,4 +4,4 @@ use Rattle.swapper.specs.Evictors.{Tried}
 use Rattle.swapper.proofs.evictor.Evictor.empty_queue.Given as goal
 
 abbrev pub invariant-loop : goal.invariant-loop
-invariant-loop g l = (taken : List (SpareView g.row.K.Denot g.row.V.Denot)) × Tried l.fn.self l.self [] taken l.all.reclaimed l.all.failed
+invariant-loop g l = (taken : List (SpareView g.row.K.Denot g.row.V.Denot)) × Tried l.fn.self l.self [] taken l.fn.failed l.all.reclaimed l.all.failed

@@ -1,5 +1,6 @@
-use Rattle.std.proofs.Common.{sym, ◌∙◌, arith}
-use Rattle.swapper.proofs.Collecting.{retrying_none, retrying_more, retried, retried_failed, retried_early}
+use Rattle.std.proofs.Common.{sym, arith, subst, Bool}
+use Rattle.swapper.specs.Evictors.{Tries}
+use Rattle.swapper.proofs.Collecting.{retrying_none, retrying_more, retried_early}
 use Rattle.swapper.proofs.evictor.Evictor.retry.Goals as goal
 
 pub loop-k-init : goal.loop-k-init
@@ -12,7 +13,8 @@ loop-k-preserved g c =
     let few = c.kept_len-count.type_inv in
     let is = c.kept_len-count.ensures in record {
       retrying = retrying_more c.args.self.now c.loop-k.self c.draw_kept.new.self c.try_one.new.self c.in-Some.spare c.loop-k._k c.loop-k.all.reclaimed c.try_one.result.reclaimed c.and-all.result.reclaimed c.loop-k.all.failed c.and-all.result.failed
-          (omega (arith, at, lt)) (omega (arith, at, lt, few, is)) c.loop-k.invariant.retrying c.in-Some.ensures c.try_one.ensures.tries (λ yes. c.try_one.ensures.failed (sym c.and-all.ensures.failed ∙ yes)) c.and-all.ensures.reclaimed;
+          (omega (arith, at, lt)) (omega (arith, at, lt, few, is)) c.loop-k.invariant.retrying c.in-Some.ensures
+          (subst (λ (failed : Bool). Tries c.draw_kept.new.self c.try_one.new.self c.in-Some.spare c.loop-k.all.failed c.try_one.result.reclaimed failed) (sym c.and-all.ensures.failed) c.try_one.ensures) c.and-all.ensures.reclaimed;
       count = at;
     }
 
