@@ -1,7 +1,7 @@
 """Tries the links of the docs, and what they name in backticks: docs.py.
 
-In README.md, CONTRIBUTING.md, docs/ and the READMEs of the crates, the front and the examples, but for what stands between
-lines of ```:
+In README.md, CONTRIBUTING.md, docs/ and the READMEs of the crates, the tests, the front and the examples, but for what stands
+between lines of ```:
 
 - the file of a relative link is there, and where it names a place, so is the heading;
 - a path in backticks is there: from the top, from crates/, from the page's folder, or from a crate's folder or its src/, in
@@ -18,7 +18,7 @@ from pathlib import Path
 
 ROOT = Path(__file__).resolve().parent.parent
 PAGES = ("README.md", "CONTRIBUTING.md", "docs/*.md", "crates/README.md", "crates/*/README.md", "front/README.md",
-         "examples/*/README.md")
+         "examples/*/README.md", "tests/*/README.md", "tests/*/*/README.md")
 FOLDERS = {"src", "specs", "proofs", "must-fail", "more-edits", *(it.name for it in [*ROOT.iterdir(), *ROOT.glob("crates/*")])}
 FILE = re.compile(r"\.(rt|antt|md|sh|py|c|rs|txt|edit|svg)$")
 PASSED_OVER = re.compile(r"NAME|MODULE|FUNCTION|(^|/)out(/|$)")

@@ -2,10 +2,11 @@
 
 Each tests/planted/NAME.edit is a bug in a body: a line in words, `file: crates/..`, and pairs of lines `old: TEXT` and
 `new: TEXT`, one line each, where the old text stands once in the file. It is planted in a copy of the sources, and the tests
-of each crate that has any, and is the changed crate or stands on it, are run there by `rt try --test`, without a proof.
+of each crate that has any, and is the changed crate or stands on it, are run there by `rt try --test`, without a proof. Then all
+cases of tests/cases are played on the build of `transcripts`.
 
-Prints a line for each bug: its name, and the tests that failed, as crate::tests::NAME, or CAUGHT BY NOTHING. `(no end)` stands
-behind a test that did not end, and behind the crate where all of them did not. Below come the names that tests/planted/caught.txt
+Prints a line for each bug: its name, and the tests that failed, as crate::tests::NAME or LAYER/FILE: CASE, or CAUGHT BY NOTHING.
+`(no end)` stands behind a test that did not end or that ended its program, and behind the crate or the file where more did. Below come the names that tests/planted/caught.txt
 has of the bug and that did not catch it, and those that it lacks: they are told and are no failure, since what a test of
 several threads meets is not the same in each run. --store writes what was found into that file.
 
@@ -25,7 +26,7 @@ from pathlib import Path
 ROOT = Path(__file__).resolve().parent.parent
 PLANTED = ROOT / "tests/planted"
 LIST = PLANTED / "caught.txt"
-COPIED = ("crates", "crates.txt", "HANDLES")
+COPIED = ("bin", "crates", "crates.txt", "HANDLES", "tests")
 NOT_COPIED = shutil.ignore_patterns("out", "proofs", "must-fail", "more-edits")
 # Each test has so many seconds, and all of a crate with their build two hours: on a busy machine the longest test takes minutes.
 SECONDS, ALL_SECONDS = 600, 7200
@@ -98,6 +99,16 @@ def failed_in(copy, crate):
     return [f"{crate}::{it.split()[0]}" + (NO_END if "no-answer" in it else "") for it in failed]
 
 
+def failed_cases(copy):
+    """The cases that go otherwise."""
+    ran = subprocess.run([copy / "tests/transcripts.sh"], stdin=subprocess.DEVNULL, capture_output=True, text=True, errors="replace")
+    if not re.search(r"^\d+ cases of \d+ files passed, \d+ failed\n\Z", ran.stdout, re.M):
+        raise Unfit(f"does not compile, or no case can be played: status {ran.returncode}\n{(ran.stdout + ran.stderr)[-2000:]}")
+    found = re.findall(r"^\S*tests/cases/(\S+)\.txt:\d+: (.*)$", ran.stdout, re.M)
+    ended = re.findall(r"^\S*tests/cases/(\S+)\.txt: (?:the run ended with status|it had not ended)", ran.stdout, re.M)
+    return [f"{file}: {case}" for file, case in found] + [file + NO_END for file in sorted(set(ended))]
+
+
 def catchers(name):
     """The names of the tests that catch the bug."""
     with tempfile.TemporaryDirectory(prefix="planted-") as made:
@@ -109,7 +120,7 @@ def catchers(name):
                 shutil.copy(ROOT / it, copy / it)
         changed = plant(name, copy)
         tested = [it for it in sorted(crates()) if has_tests(it) and changed in below(it)]
-        return [test for crate in tested for test in failed_in(copy, crate)]
+        return [test for crate in tested for test in failed_in(copy, crate)] + failed_cases(copy)
 
 
 def attempt(name):
@@ -121,23 +132,23 @@ def attempt(name):
 
 def listed():
     lines = LIST.read_text().splitlines() if LIST.is_file() else []
-    return {name: tests.split(", ") for name, tests in (it.split(": ", 1) for it in lines)}
+    return {name: tests.split("; ") for name, tests in (it.split(": ", 1) for it in lines)}
 
 
 def store(found):
-    LIST.write_text("".join(f"{name}: {', '.join(tests)}\n" for name, tests in sorted(found.items())))
+    LIST.write_text("".join(f"{name}: {'; '.join(tests)}\n" for name, tests in sorted(found.items())))
 
 
 def tell(name, found, why, expected):
     if why:
         print(f"{name}: {why}")
         return
-    print(f"{name}: {', '.join(found) or 'CAUGHT BY NOTHING'}")
+    print(f"{name}: {'; '.join(found) or 'CAUGHT BY NOTHING'}")
     lost = [it for it in expected if it not in found]
     new = [it for it in found if it not in expected]
     for of, tests in (("not by", lost), ("also by", new)):
         if tests:
-            print(f"  unlike caught.txt {of}: {', '.join(tests)}")
+            print(f"  unlike caught.txt {of}: {'; '.join(tests)}")
 
 
 def main():

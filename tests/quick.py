@@ -1,7 +1,7 @@
 """bin/test --quick: what bin/test runs, except the proofs and the must-fail edits, side by side: quick.py SCRIPT..
 
 It runs the #[test] functions of each crate (`rt try --test`), the stored run of each program (stored_run.py) and the named scripts
-of tests/, on builds without proofs. The output of a part is printed if it fails, in one piece when it has ended. The last line is
+of tests/, which play the cases too, on builds without proofs. The output of a part is printed if it fails, in one piece when it has ended. The last line is
 `N passed, M failed`. A crate's tests, a stored run and a script count as one each. A script that lacks what it needs counts as none.
 
 As many parts run at once as there are processors. The scripts of QUIET wait until all others have ended, so that only they run side
@@ -25,7 +25,7 @@ ROOT = Path(__file__).resolve().parent.parent
 TESTS = ROOT / "tests"
 # Which programs a script runs. A script that is not named here waits for all of them.
 RUNS = {
-    "docs": [], "arguments": ["fartable"], "threads": ["fartable"], "thread_starts": ["fartable"], "front": [],
+    "docs": [], "transcripts": ["transcripts"], "arguments": ["fartable"], "threads": ["fartable"], "thread_starts": ["fartable"], "front": [],
     "starts": ["fartable", "farrun", "wordcount", "farserve"], "wordcount_frames": ["wordcount"], "folders": ["fartable", "farrun"],
     "refused_growths": ["fartable", "growths", "server_growths"], "scratch": ["farrun"], "server": ["farserve"],
     "cluster": ["farserve"], "stores": ["fartable", "farrun"],

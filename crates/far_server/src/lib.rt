@@ -42,6 +42,3 @@ pub use pipes::{OpenFault, Pipes};
 pub use settings::{Bounds, ServerSettings};
 pub use top::run_server;
 pub use usage::FarUsage;
-
-#[cfg(test)]
-mod tests;

@@ -19,6 +19,3 @@ pub use facts::{Facts, Options};
 pub use greeting::{fault, hello, slow_log_get, slow_log_len};
 pub use listing::{command_count, command_list};
 pub use telling::info;
-
-#[cfg(test)]
-mod tests;

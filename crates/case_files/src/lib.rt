@@ -1,0 +1,16 @@
+//! Case files: lines that each call something and say what the reply has to be. docs/FORMATS.md has their grammar.
+#![tactic(auto)]
+
+mod case;
+mod fault;
+mod line;
+mod playing;
+mod reader;
+mod spelling;
+mod words;
+
+pub use case::{Case, read_cases};
+pub use fault::{BadLine, CaseFault};
+pub use line::Line;
+pub use playing::{Difference, Playing};
+pub use spelling::{push_spelled, spelled};

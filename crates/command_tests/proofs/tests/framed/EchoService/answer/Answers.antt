@@ -1,8 +1,0 @@
-use Rattle.std.proofs.Common.{List, ℕ, [], ◌∷◌, ◌++◌, sym, ap, ◌∙◌, append-nil}
-use Rattle.resp.specs.Replies.{token, String}
-use Rattle.command_tests.proofs.tests.framed.EchoService.answer.Goals as goal
-
-pub returns-in-Ok : goal.returns-in-Ok
-returns-in-Ok c =
-    let said = c.first-said.result.now in
-    (String said ∷ [], tt, c.in-Ok.ensures.items ∙ ap (λ (l : List ℕ). c.args.out.now.items ++ l) (sym (append-nil (token (String said)))))

@@ -1,0 +1,4 @@
+//! Each module has the program of one page.
+
+mod map;
+mod table;
