@@ -27,15 +27,12 @@ TESTS = ROOT / "tests"
 RUNS = {
     "docs": [], "transcripts": ["transcripts"], "arguments": ["fartable"], "threads": ["fartable"], "thread_starts": ["fartable"], "front": [],
     "starts": ["fartable", "farrun", "wordcount", "farserve"], "wordcount_frames": ["wordcount"], "folders": ["fartable", "farrun"],
-    "refused_growths": ["fartable", "growths", "server_growths"], "scratch": ["farrun"], "server": ["farserve"],
+    "refused_growths": ["fartable", "transcripts"], "scratch": ["farrun"], "server": ["farserve"],
     "cluster": ["farserve"], "stores": ["fartable", "farrun"],
 }
 # Those whose trials have bounds of time, as the 60 seconds that a run of random files has. The longest is first.
 QUIET = ["server", "front", "starts", "cluster", "stores", "threads", "folders", "scratch"]
 HALVED = ["server"]
-# Both use the folder /tmp/fazhitta-growths, one of them as nobody. So each waits until no other does, also of another quick.py.
-LOCKED = ["stored run of growths", "tests/refused_growths.sh"]
-LOCK = "/tmp/fazhitta-growths.lock"
 # The status of a script that lacks what it needs.
 SKIPPED = 77
 # How many seconds the parts have to end after a Ctrl-C.
@@ -59,8 +56,7 @@ class Part:
         self.output = tempfile.TemporaryFile("w+", errors="replace", dir=room)
         how = {"stdin": subprocess.DEVNULL, "stdout": self.output, "stderr": subprocess.STDOUT, "start_new_session": True}
         # (env reports a command that is missing)
-        words = ["flock", LOCK, *self.words] if self.name in LOCKED else ["env", *self.words]
-        self.process = subprocess.Popen([str(it) for it in words], cwd=self.cwd, env={**os.environ, "TMPDIR": room}, **how)
+        self.process = subprocess.Popen(["env", *map(str, self.words)], cwd=self.cwd, env={**os.environ, "TMPDIR": room}, **how)
 
     def has_ended(self):
         self.status = self.process.poll()

@@ -1,7 +1,7 @@
 #!/usr/bin/env bash
 # Refuses requests for memory, each in turn: those of the program on one file, on another and on three, and the first of a
-# long file, whose replies have to come from a history (refused_growths.py), and those of each public call that can answer
-# want of memory, which the programs growths and server_growths make (refused_calls.py). The status is 1 where something else comes than may,
+# long file, whose replies have to come from a history (refused_growths.py), and those of the case files that say so in their head,
+# which make each public call that can answer want of memory (refused_cases.py). The status is 1 where something else comes than may,
 # and 77 where there is no C compiler.
 set -euo pipefail
 
@@ -11,13 +11,11 @@ if ! command -v cc >/dev/null; then
     exit 77
 fi
 work=$(mktemp -d)
-# (a run of growths that is ended leaves the folder, in which nobody could make a file then)
-trap 'rm -rf "$work"; rmdir /tmp/fazhitta-growths 2>/dev/null || true' EXIT
+trap 'rm -rf "$work"' EXIT
 cc -O -Wall -shared -fPIC -fno-builtin -o "$work/refuse_growth.so" "$tests/refuse_growth.c"
 program=$("$tests/../bin/build" fartable)
 status=0
 /usr/bin/python3 -B "$tests/refused_growths.py" "$program" "$work/refuse_growth.so" || status=1
-for calls in growths server_growths; do
-    /usr/bin/python3 -B "$tests/refused_calls.py" "$("$tests/../bin/build" "$calls")" "$work/refuse_growth.so" || status=1
-done
+program=$("$tests/../bin/build" transcripts)
+/usr/bin/python3 -B "$tests/refused_cases.py" "$program" "$work/refuse_growth.so" || status=1
 exit "$status"

@@ -11,6 +11,6 @@ mod words;
 
 pub use case::{Case, read_cases};
 pub use fault::{BadLine, CaseFault};
-pub use line::Line;
+pub use line::{Line, MOST_TIMES};
 pub use playing::{Difference, Playing};
 pub use spelling::{push_spelled, spelled};

@@ -2,7 +2,7 @@
 
 use crate::case::Case;
 use crate::line::Line;
-use anyhow::Result;
+use anyhow::{Result, bail};
 
 /// What a call replies where a growth was refused.
 const MEMORY: &str = "memory";
@@ -39,6 +39,18 @@ fn is_expected(expected: &[u8], reply: &[u8]) -> bool {
     expected
         .split(|byte| *byte == b'|')
         .any(|one| one.trim_ascii() == reply)
+}
+
+/// The reply, or a mistake where the call took no notice of a word.
+fn strict(line: &Line, reply: Result<String>) -> Result<String> {
+    let Ok(text) = reply else {
+        return reply;
+    };
+    let Some(word) = line.unread() else {
+        return Ok(text);
+    };
+    let shown = str::from_utf8(word).unwrap_or("");
+    bail!("this call takes no word `{shown}`")
 }
 
 impl<'c> Playing<'c> {
@@ -93,7 +105,10 @@ impl<'c> Playing<'c> {
     }
 
     /// Says what the line's call replied. It answers whether the call has to be made once more, since a growth was refused to it.
+    ///
+    /// A line of which a word was not read is a mistake, whatever was replied.
     pub fn tell(&mut self, line: &Line, reply: Result<String>) -> bool {
+        let reply = strict(line, reply);
         let is_right = match &reply {
             Ok(text) => is_expected(line.reply.as_slice(), text.as_bytes()),
             Err(_) => false,

@@ -5,6 +5,7 @@ use crate::fault::BadLine;
 use crate::line::Line;
 use crate::words::words_of;
 use std::alloc::Global;
+use std::sync::atomic::AtomicU64;
 
 /// What stands between a call and its reply.
 const ARROW: &[u8] = b"->";
@@ -158,6 +159,7 @@ impl Reader {
             text,
             reply,
             block,
+            read: AtomicU64::new(0),
         })?;
         Ok(())
     }

@@ -5,7 +5,6 @@ use crate::counted::CountedDevice;
 use crate::fault::Fault;
 use far_server::FarUsage;
 use file_device::{DiskFault, FileDevice, FileDisk, MemoryDisk};
-use std::alloc::AllocError;
 use std::fs::File;
 use std::hash::RandomState;
 use std::random::RandomSource;
@@ -14,20 +13,26 @@ use std::rt::Files;
 /// How many there are at most beside the one by which a map is renewed, where there are no more folders.
 pub const DEVICES: u32 = 4;
 
+/// The keys of a device's digests.
+pub fn keys_of<'f, R: RandomSource>(rt: &R) -> Result<RandomState, Fault<'f>> {
+    match RandomState::new(rt) {
+        Ok(keys) => Ok(keys),
+        Err(fault) => Err(Fault::Random(fault)),
+    }
+}
+
 /// A device in a folder, of the lane of this number.
 fn open<'a, R>(
     rt: R,
     folder: &str,
     lane: u32,
     most: u64,
+    keys: RandomState,
     usage: &'a FarUsage,
 ) -> Result<CountedDevice<'a, BoundedDisk<FileDisk<R>>>, DiskFault>
 where
     R: Files<File = File> + AllocGlobal + RandomSource + Copy + Drop,
 {
-    let Ok(keys) = RandomState::new(&rt) else {
-        return Err(DiskFault::Memory);
-    };
     let disk = BoundedDisk::new(FileDisk::open(rt, folder, lane)?, most);
     Ok(CountedDevice::new(FileDevice::new(rt.alloc(), disk, keys), usage))
 }
@@ -58,7 +63,7 @@ where
         } else {
             most
         };
-        match open(rt, folder, lane, share, usage) {
+        match open(rt, folder, lane, share, keys_of(&rt)?, usage) {
             Ok(device) => {
                 if devices.push(device).is_err() {
                     return Err(Fault::Memory);
@@ -72,31 +77,31 @@ where
 }
 
 /// A device that keeps nothing.
-fn open_one_of_none<'a, R>(
+fn open_one_of_none<'a, 'f, R>(
     rt: &R,
     usage: &'a FarUsage,
-) -> Result<CountedDevice<'a, BoundedDisk<MemoryDisk>>, AllocError>
+) -> Result<CountedDevice<'a, BoundedDisk<MemoryDisk>>, Fault<'f>>
 where
     R: AllocGlobal + RandomSource,
 {
-    let Ok(keys) = RandomState::new(rt) else {
-        return Err(AllocError);
-    };
+    let keys = keys_of(rt)?;
     let disk = BoundedDisk::new(MemoryDisk::new(rt.alloc()), 0);
     Ok(CountedDevice::new(FileDevice::new(rt.alloc(), disk, keys), usage))
 }
 
 /// A device that keeps nothing, so that all stays in frames, and another by which a map is renewed.
-pub fn open_none<'a, R>(
+pub fn open_none<'a, 'f, R>(
     rt: &R,
     usage: &'a FarUsage,
-) -> Result<Vec<CountedDevice<'a, BoundedDisk<MemoryDisk>>>, AllocError>
+) -> Result<Vec<CountedDevice<'a, BoundedDisk<MemoryDisk>>>, Fault<'f>>
 where
     R: AllocGlobal + RandomSource,
 {
     let mut devices = Vec::new(rt.alloc());
     for _ in 0..2 {
-        devices.push(open_one_of_none(rt, usage)?)?;
+        if devices.push(open_one_of_none(rt, usage)?).is_err() {
+            return Err(Fault::Memory);
+        }
     }
     Ok(devices)
 }

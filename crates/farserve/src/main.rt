@@ -282,9 +282,7 @@ where
     let usage = FarUsage::new();
     match tier {
         Tier::Nowhere => {
-            let Ok(devices) = open_none(&host, &usage) else {
-                return Err(Fault::Memory);
-            };
+            let devices = open_none(&host, &usage)?;
             tell(rt, asked, sizes)?;
             serve_over(rt, host, asked, settings, devices, &usage)
         }

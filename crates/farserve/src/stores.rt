@@ -2,6 +2,7 @@
 ghost use Rattle.std.specs.Prelude.{◌≡◌, false};
 ghost use Rattle.resp_device.specs.Devices.{state_in};
 
+use crate::devices::keys_of;
 use crate::fault::Fault;
 use crate::link::Link;
 use crate::pipes::open_pair;
@@ -12,7 +13,6 @@ use resp_device::{Failure, RespDevice};
 use std::alloc::Global;
 use std::collections::HashSet;
 use std::fs::File;
-use std::hash::RandomState;
 use std::random::RandomSource;
 use std::rt::{Clock, Files};
 
@@ -149,10 +149,11 @@ where
         else {
             return Err(Fault::Links);
         };
+        let keys = keys_of(&rt)?;
         let mut prefix = [0; 16];
-        let (Ok(keys), Ok(())) = (RandomState::new(&rt), rt.fill_bytes(&mut prefix)) else {
-            return Err(Fault::Links);
-        };
+        if let Err(fault) = rt.fill_bytes(&mut prefix) {
+            return Err(Fault::Random(fault));
+        }
         let Ok(device) = RespDevice::new(
             alloc,
             Link::new(replies, requests),

@@ -72,7 +72,7 @@ pub fn one_more<V: Value>(alloc: Global, found: Option<&V>) -> Option<V> {
 /// An update that adds one, or with `leaves` one that makes nothing.
 fn update<V: Value, S: Calls<V>, R: Wait>(rt: &R, alloc: Global, me: &mut S, line: &Line) -> Said {
     let key = key_at(alloc, line, 1)?;
-    let leaves = line.word(2) == Some(b"leave".as_slice());
+    let leaves = line.is(2, "leave");
     let updated = if leaves {
         me.update(rt, &key, |_| None)?
     } else {

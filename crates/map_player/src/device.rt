@@ -83,7 +83,7 @@ pub fn device_call(alloc: Global, gate: &Gate, line: &Line) -> Option<Said> {
     if line.call() != "device_asked" {
         return None;
     }
-    let reads = line.word(1) == Some(b"reads".as_slice());
+    let reads = line.is(1, "reads");
     let asked = if reads { &gate.reads } else { &gate.removes };
     Some(count(alloc, asked.load(Ordering::SeqCst)))
 }

@@ -1,7 +1,7 @@
 //! Numbers in a row, as keys: what a call of several keys is given.
 
 use crate::replies::Stop;
-use crate::words::{number_at, number_named};
+use crate::words::{number_at, number_named, times_at};
 use case_files::Line;
 
 /// So many numbers from one on. Each `step`-th, from the first on, is a key with a value, that is so much above its number.
@@ -18,7 +18,7 @@ impl Numbers {
     pub fn of(line: &Line) -> Result<Numbers, Stop> {
         let numbers = Numbers {
             from: number_at(line, 1)?,
-            count: number_at(line, 2)?,
+            count: times_at(line, 2)?,
             step: number_named(line, "step", 1)?,
             above: number_named(line, "above", 0)?,
         };

@@ -21,7 +21,7 @@ pub enum Read {
 /// The keys behind the call's name.
 fn keys_of(alloc: Global, line: &Line) -> Result<Vec<Text>, Stop> {
     let mut keys = Vec::new(alloc);
-    for word in line.words.get(1..).unwrap_or(&[]) {
+    for word in line.rest(1) {
         keys.push(own(text(alloc, word.as_slice()))?)?;
     }
     Ok(keys)

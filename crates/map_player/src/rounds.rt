@@ -5,7 +5,7 @@ use crate::replies::{OUT_OF_MEMORY, Said, Stop, count, plain, truth};
 use crate::stage::Stage;
 use crate::tries::{get, get_number, length, put, put_if, put_number, remove, remove_if};
 use crate::walking::Walk;
-use crate::words::{key_at, number, number_at, number_named, value_at};
+use crate::words::{key_at, number, number_at, number_named, times_at, value_at};
 use case_files::Line;
 use far_map::{Calls, Refusal, Text, Updated, Value};
 use std::alloc::Global;
@@ -49,7 +49,7 @@ fn update_one<V: Value, S: Calls<V>, R: Wait>(
 fn updates<V: Value, S: Calls<V>, R: Wait>(rt: &R, alloc: Global, me: &mut S, line: &Line) -> Said {
     let key = key_at(alloc, line, 1)?;
     let mut set = 0u64;
-    for _ in 0..number_at(line, 2)? {
+    for _ in 0..times_at(line, 2)? {
         if update_one(rt, alloc, me, &key)? {
             set = set.saturating_add(1);
         }
@@ -92,7 +92,7 @@ fn counts<V: Value, S: Calls<V>, R: Wait>(
     line: &Line,
 ) -> Said {
     let key = key_at(alloc, line, 1)?;
-    for round in 0..number_at(line, 2)? {
+    for round in 0..times_at(line, 2)? {
         if count_one(rt, alloc, me, &key)? {
             stage.tally.fetch_add(1, Ordering::SeqCst);
         }
@@ -116,7 +116,7 @@ fn sets_and_removes<V: Value, S: Calls<V>, R: Wait>(
     let value: V = value_at(alloc, line, 2)?;
     let nothing: Option<V> = None;
     let mut stood = true;
-    for _ in 0..number_at(line, 3)? {
+    for _ in 0..times_at(line, 3)? {
         let is_set = put_if(rt, me, &key, nothing.as_ref(), &value)?.is_none();
         let removed = remove_if(rt, me, &key, &value)?.removed;
         if is_set {
@@ -144,7 +144,7 @@ fn disturbs<V: Value, S: Calls<V>, R: Wait>(
     if from == 0 || keys == 0 {
         return Err(Stop::Mistake("from= and keys= are 1 or more"));
     }
-    for round in 0..number_at(line, 1)? {
+    for round in 0..times_at(line, 1)? {
         let own = from.wrapping_add(round % keys);
         let key = number(alloc, own)?;
         put_number(rt, alloc, me, &key, own)?;
@@ -167,7 +167,7 @@ fn fills<V: Value, S: Calls<V>, R: Wait>(
     worker: u32,
     line: &Line,
 ) -> Said {
-    let keys = number_at(line, 1)?;
+    let keys = times_at(line, 1)?;
     let value: V = value_at(alloc, line, 2)?;
     let wanted = line.number_named("most", u64::MAX);
     let wanted = wanted.ok_or(Stop::Mistake("most= is a number"))?;
@@ -219,7 +219,7 @@ fn turns<V: Value, S: Calls<V>, R: Wait>(
     walk: &mut Walk,
     line: &Line,
 ) -> Said {
-    let (keys, names) = (number_at(line, 1)?, u64::from(number_at(line, 2)?));
+    let (keys, names) = (times_at(line, 1)?, u64::from(number_at(line, 2)?));
     if keys == 0 {
         return Err(Stop::Mistake("there is 1 key or more"));
     }

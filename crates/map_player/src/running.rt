@@ -27,12 +27,15 @@ pub struct Ran {
     pub close: Said,
 }
 
-/// How the pairs of a run's end are told.
+/// How the pairs of a run's end are told: as its line `close` asks for, where there is one.
 fn pairs_said<V: Value>(alloc: Global, pairs: Pairs<V>, close: &Line) -> Said {
-    if close.word(1) == Some(b"count".as_slice()) {
+    if close.call() != "close" {
+        return pairs.in_turn(alloc);
+    }
+    if close.is(1, "count") {
         return pairs.sum().counted(alloc);
     }
-    if close.word(1) == Some(b"sum".as_slice()) {
+    if close.is(1, "sum") {
         return pairs.sum().said(alloc);
     }
     pairs.in_turn(alloc)

@@ -2,7 +2,7 @@
 
 use crate::pairs::{Pairs, Sum};
 use crate::replies::{Said, Stop, refusal_text};
-use crate::words::{number_at, number_named, read_number};
+use crate::words::{number_at, number_named, read_number, times_at};
 use case_files::Line;
 use far_map::{Calls, Refusal, Text, Value};
 use far_object::bucket_of;
@@ -39,7 +39,7 @@ fn visit_all<V: Value, S: Calls<V>, R: Wait>(
     me: &mut S,
     line: &Line,
 ) -> Said {
-    if line.word(1) == Some(b"count".as_slice()) {
+    if line.is(1, "count") {
         let mut sum = Sum::new();
         let ended = me.for_each(rt, &mut |_, value| sum.add(value.as_bytes()));
         return visited(alloc, sum.counted(alloc), ended);
@@ -65,14 +65,14 @@ fn visit_one<V: Value, S: Calls<V>, R: Wait>(
     me: &mut S,
     line: &Line,
 ) -> Said {
-    if line.word(1) == Some(b"all".as_slice()) {
+    if line.is(1, "all") {
         return visit_each(rt, alloc, me);
     }
     let bucket = number_at(line, 1)?;
     if bucket >= me.buckets() {
         return Err(Stop::Mistake("the map has no such bucket"));
     }
-    if line.word(2) == Some(b"count".as_slice()) {
+    if line.is(2, "count") {
         let mut sum = Sum::new();
         let ended = me.for_each_in(rt, bucket, &mut |_, value| sum.add(value.as_bytes()));
         return visited(alloc, sum.counted(alloc), ended);
@@ -96,7 +96,7 @@ fn visit_often<V: Value, S: Calls<V>, R: Wait>(
     me: &mut S,
     line: &Line,
 ) -> Said {
-    let times = number_at(line, 1)?;
+    let times = times_at(line, 1)?;
     let below = number_named(line, "below", u32::MAX)?;
     let mut sum = Sum::new();
     for _ in 0..times {
@@ -141,7 +141,7 @@ fn filled<V: Value, S: Calls<V>>(alloc: Global, me: &mut S) -> Said {
 /// How many of so many frames have an object of a bucket with pairs that was not read since they were last asked.
 fn unread<V: Value, S: Calls<V>>(alloc: Global, me: &mut S, line: &Line) -> Said {
     let mut unread = 0u32;
-    let frames = number_at(line, 1)?;
+    let frames = times_at(line, 1)?;
     for frame in 0..frames {
         if let Some(bucket) = me.unread_in(frame)
             && !me.is_empty_at(bucket)

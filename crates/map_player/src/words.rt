@@ -53,7 +53,14 @@ pub fn number_at(line: &Line, place: usize) -> Result<u32, Stop> {
     let number = line
         .number_at(place)
         .and_then(|number| u32::try_from(number).ok());
-    number.ok_or(Stop::Mistake("the call wants one more word, a number"))
+    number.ok_or(Stop::Mistake("the call wants one more word, a number below 2^32"))
+}
+
+/// How often this word of the line says that something is done.
+pub fn times_at(line: &Line, place: usize) -> Result<u32, Stop> {
+    line.times_at(place).ok_or(Stop::Mistake(
+        "the call wants one more word, a number of at most 1,000,000",
+    ))
 }
 
 /// The number behind `NAME=`, or this one.

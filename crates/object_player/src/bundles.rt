@@ -36,7 +36,7 @@ pub(crate) fn play<R: Threads + Sync>(
 /// The object of the pairs that the line's words spell.
 pub(crate) fn object_of<K: Value, V: Value>(alloc: Global, line: &Line) -> Result<Object<K, V>> {
     let mut object = Object::empty(alloc)?;
-    let words = line.words.as_slice().get(1..).unwrap_or(&[]);
+    let words = line.rest(1);
     for pair in words.chunks(2) {
         let [key, value] = pair else {
             bail!("a value is missing");

@@ -96,10 +96,10 @@ fn flag_of(replies: (String, String), is_so: bool) -> String {
 fn write<D: Device>(alloc: Global, device: &mut D, line: &Line) -> Result<String> {
     let id = number(line, 1)?;
     let bytes = bytes(alloc, line, 2)?;
+    let is_new = line.is(3, "new");
     match device.write(id, bytes.as_slice()) {
         Ok(()) => nothing(alloc),
         Err(why) => {
-            let is_new = line.word(3) == Some(b"new".as_slice());
             if is_new && device.read(id, &mut Vec::new(alloc)) == Ok(true) {
                 bail!("a refused write was made");
             }
@@ -112,10 +112,10 @@ fn write<D: Device>(alloc: Global, device: &mut D, line: &Line) -> Result<String
 fn write_labelled<D: Device>(alloc: Global, device: &mut D, line: &Line) -> Result<String> {
     let (id, label) = (number(line, 1)?, small(line, 2)?);
     let (bytes, reply) = (bytes(alloc, line, 3)?, flags(alloc)?);
+    let is_new = line.is(4, "new");
     match device.write_labelled(id, label, bytes.as_slice()) {
         Ok(is_kept) => Ok(flag_of(reply, is_kept)),
         Err(why) => {
-            let is_new = line.word(4) == Some(b"new".as_slice());
             if is_new && device.read_labelled(id, &mut Vec::new(alloc)) != Ok(None) {
                 bail!("a refused write has a label");
             }

@@ -87,10 +87,7 @@ pub(crate) fn faults(alloc: Global, first: &Line) -> Result<Vec<u64>> {
 }
 
 pub(crate) fn has(first: &Line, name: &str) -> bool {
-    first
-        .words
-        .iter()
-        .any(|word| word.as_slice() == name.as_bytes())
+    first.has(name)
 }
 
 pub(crate) fn play<R>(rt: &R, alloc: Global, first: &Line, playing: &mut Playing<'_>) -> Result<()>

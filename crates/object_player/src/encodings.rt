@@ -36,6 +36,9 @@ fn play_of<V: Value>(alloc: Global, first: &Line, playing: &mut Playing<'_>) {
 pub(crate) fn encoding<V: FarObject>(alloc: Global, value: &V) -> Result<Option<Vec<u8>>> {
     let mut out = Vec::from_slice(alloc, &[7])?;
     if value.encode(&mut out).is_err() {
+        if out.as_slice() != [7].as_slice() {
+            bail!("a refused encoding is appended");
+        }
         return Ok(None);
     }
     match out.as_slice().split_first() {

@@ -3,7 +3,7 @@
 use crate::bundles::object_of;
 use crate::devices::{faults, has};
 use crate::values::Value;
-use crate::world::{World, memory, nothing, run, shown, text, unknown};
+use crate::world::{TRIES, World, memory, nothing, run, shown, text, unknown};
 use anyhow::{Result, bail};
 use case_files::{Line, Playing};
 use far_device::{CannedDevice, Device, FakeDevice, FaultyDevice, LyingDevice};
@@ -53,6 +53,19 @@ fn play_over<D: Device>(
     Ok(())
 }
 
+/// Puts keys and values, with blanks between.
+fn push_pairs(out: &mut String, pairs: &[(u64, u64)]) -> Result<()> {
+    for (key, value) in pairs {
+        if !out.is_empty() {
+            out.push(' ')?;
+        }
+        key.tell(out)?;
+        out.push(' ')?;
+        value.tell(out)?;
+    }
+    Ok(())
+}
+
 impl<D: Device> Parts<D> {
     fn added(&self, added: std::result::Result<(), Memory>) -> Result<String> {
         match added {
@@ -69,16 +82,14 @@ impl<D: Device> Parts<D> {
             Some(Err(Untaken::Lost)) => return text(self.alloc, "object lost"),
             Some(Ok(pairs)) => pairs,
         };
-        let mut out = String::new(self.alloc);
-        for (key, value) in &pairs {
-            if !out.is_empty() {
-                out.push(' ')?;
+        // The part is gone by now: what tells it is begun once more where a growth is refused.
+        for _ in 0..TRIES {
+            let mut out = String::new(self.alloc);
+            if push_pairs(&mut out, &pairs).is_ok() {
+                return Ok(out);
             }
-            key.tell(&mut out)?;
-            out.push(' ')?;
-            value.tell(&mut out)?;
         }
-        Ok(out)
+        memory(self.alloc)
     }
 }
 

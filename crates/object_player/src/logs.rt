@@ -2,7 +2,8 @@
 
 use crate::values::Value;
 use crate::world::{
-    World, fault, memory, named, nothing, number, optional, run, shown, small, text, unknown, word,
+    TRIES, World, fault, memory, named, nothing, number, optional, run, shown, small, text,
+    unknown, word,
 };
 use anyhow::{Result, bail};
 use case_files::{Line, Playing};
@@ -49,7 +50,7 @@ fn play_of<K: Value, V: Value>(
 /// The pairs that the words from this place on spell.
 fn pairs<K: Value, V: Value>(alloc: Global, line: &Line, at: usize) -> Result<Vec<(K, V)>> {
     let mut items = Vec::new(alloc);
-    for pair in line.words.as_slice().get(at..).unwrap_or(&[]).chunks(2) {
+    for pair in line.rest(at).chunks(2) {
         let [key, value] = pair else {
             bail!("a value is missing");
         };
@@ -82,9 +83,13 @@ fn told_value<V: Value>(
     match answer {
         Ok(None) => text(alloc, "none"),
         Ok(Some(value)) => {
-            let mut out = String::new(alloc);
-            value.tell(&mut out)?;
-            Ok(out)
+            for _ in 0..TRIES {
+                let mut out = String::new(alloc);
+                if value.tell(&mut out).is_ok() {
+                    return Ok(out);
+                }
+            }
+            memory(alloc)
         }
         Err(why) => fault(alloc, &why.rule),
     }
@@ -154,6 +159,8 @@ impl<K: Value, V: Value> Log<K, V> {
     fn done(&mut self, line: &Line) -> Result<String> {
         let pass = named(line, "pass", 1)?;
         let (asked, word) = self.operation(line, 0)?;
+        // No growth is refused behind the call.
+        self.events.reserve(1)?;
         let alloc = self.alloc;
         let answer = match (&asked, word) {
             (Operation::Put(key, value), Some(word)) => {
@@ -174,6 +181,7 @@ impl<K: Value, V: Value> Log<K, V> {
     }
 
     fn enter(&mut self) -> Result<String> {
+        self.events.reserve(1)?;
         let answer = self.machine.enter();
         if let Ok(pass) = &answer {
             self.events.push(Event::Enter(*pass))?;
@@ -184,16 +192,19 @@ impl<K: Value, V: Value> Log<K, V> {
     fn name(&mut self, line: &Line) -> Result<String> {
         let bucket = small(line, 1)?;
         let items = pairs(self.alloc, line, 2)?;
+        let again = pairs(self.alloc, line, 2)?;
+        self.events.reserve(1)?;
         let answer = self.machine.name(bucket, Pairs::new(items));
         if let Ok(name) = &answer {
-            let again = Pairs::new(pairs(self.alloc, line, 2)?);
-            self.events.push(Event::Named(*name, bucket, again))?;
+            let event = Event::Named(*name, bucket, Pairs::new(again));
+            self.events.push(event)?;
         }
         told_number(self.alloc, answer)
     }
 
     fn move_to(&mut self, line: &Line) -> Result<String> {
         let (bucket, word) = (small(line, 1)?, number(line, 2)?);
+        self.events.reserve(1)?;
         match self.machine.move_to(bucket, word) {
             Ok(()) => {
                 self.events.push(Event::Moved(bucket, word))?;

@@ -27,6 +27,9 @@ pub(crate) fn play(alloc: Global, first: &Line, playing: &mut Playing<'_>) -> Re
 fn play_keys<K: Value>(alloc: Global, first: &Line, playing: &mut Playing<'_>) -> Result<()> {
     let mut object = Object::empty(alloc)?;
     let pairs = named(first, "pairs", 0)?;
+    if pairs > MOST_PAIRS {
+        bail!("pairs= is at most {MOST_PAIRS}");
+    }
     if pairs != 0 {
         object = object_of_many(alloc, pairs)?;
     }
@@ -119,7 +122,8 @@ impl<K: Value> OneObject<K> {
                 let object = self.object.without(self.alloc, &key);
                 self.take(object)
             }
-            _ => self.read(line),
+            "read" | "read_at" => self.read(line),
+            _ => self.look_at(line),
         }
     }
 
@@ -127,10 +131,10 @@ impl<K: Value> OneObject<K> {
     fn read(&mut self, line: &Line) -> Result<String> {
         let given = bytes(self.alloc, line, 1)?;
         let copy = Vec::from_slice(self.alloc, given.as_slice())?;
-        let read = match line.call() {
-            "read" => Object::read(copy),
-            "read_at" => Object::read_at(copy, small(line, 2)?, number(line, 3)?),
-            _ => return self.look_at(line),
+        let read = if line.call() == "read_at" {
+            Object::read_at(copy, small(line, 2)?, number(line, 3)?)
+        } else {
+            Object::read(copy)
         };
         match read {
             Ok(object) => self.take(Ok(object)),

@@ -173,6 +173,9 @@ impl World for Protocol {
             "written" => told(self.alloc, self.out.as_slice()),
             "parse_token" => replies::parse(self.alloc, self.limits, word(line, 1)?),
             "token_prefixes" => replies::parse_prefixes(self.alloc, self.limits, word(line, 1)?),
+            "push_nothing" | "push_no_array" => {
+                replies::write(self.alloc, &mut self.out, line, &[])
+            }
             _ => {
                 let text = bytes(self.alloc, line, 1)?;
                 replies::write(self.alloc, &mut self.out, line, text.as_slice())

@@ -1,7 +1,7 @@
 //! Long runs of random calls of a device, beside a map.
 
 use crate::numbers::Numbers;
-use crate::world::{bytes, named, nothing, number, small};
+use crate::world::{bytes, named, nothing, number, small, times};
 use anyhow::{Result, bail};
 use case_files::Line;
 use far_device::{Device, DeviceFault};
@@ -221,7 +221,7 @@ pub(crate) fn run<K: Disk>(
 /// Writes the same bytes under each id below this one.
 pub(crate) fn fill<D: Device>(alloc: Global, device: &mut D, line: &Line) -> Result<String> {
     let written = bytes(alloc, line, 2)?;
-    for id in 0..small(line, 1)? {
+    for id in 0..times(line, 1)? {
         if let Err(fault) = device.write(u64::from(id), written.as_slice()) {
             bail!("{id}: {fault}");
         }
@@ -231,8 +231,8 @@ pub(crate) fn fill<D: Device>(alloc: Global, device: &mut D, line: &Line) -> Res
 
 /// Removes each id below this one, which has to be there.
 pub(crate) fn clear<D: Device>(alloc: Global, device: &mut D, line: &Line) -> Result<String> {
-    for id in 0..number(line, 1)? {
-        if device.remove(id) != Ok(true) {
+    for id in 0..times(line, 1)? {
+        if device.remove(u64::from(id)) != Ok(true) {
             bail!("{id} was not there");
         }
     }

@@ -1,9 +1,12 @@
 //! What the players of the layer share: what a line gives, how replies are spelled, and the loop over the lines.
 
 use anyhow::{Result, bail};
-use case_files::{Line, Playing, push_spelled};
+use case_files::{Line, MOST_TIMES, Playing, push_spelled};
 use std::alloc::Global;
 use std::fmt::Display;
+
+/// How often a reply is begun: a growth of its own may be refused when the call is done, and can't be made again.
+pub(crate) const TRIES: u32 = 2;
 
 /// Longer bytes are told in runs of equal ones.
 const LONG: usize = 100;
@@ -69,7 +72,7 @@ pub(crate) fn optional(line: &Line, at: usize) -> Option<&[u8]> {
 pub(crate) fn number(line: &Line, at: usize) -> Result<u64> {
     match line.number_at(at) {
         Some(number) => Ok(number),
-        None => bail!("a number is missing at {at}"),
+        None => bail!("a number below 2^64 is missing at {at}"),
     }
 }
 
@@ -78,6 +81,14 @@ pub(crate) fn small(line: &Line, at: usize) -> Result<u32> {
     match u32::try_from(number(line, at)?) {
         Ok(number) => Ok(number),
         Err(_) => bail!("the number at {at} has more than 32 bits"),
+    }
+}
+
+/// How often this word of the line says that something is done.
+pub(crate) fn times(line: &Line, at: usize) -> Result<u32> {
+    match line.times_at(at) {
+        Some(times) => Ok(times),
+        None => bail!("a number of at most {MOST_TIMES} is missing at {at}"),
     }
 }
 
@@ -116,7 +127,12 @@ pub(crate) fn nothing(alloc: Global) -> Result<String> {
 }
 
 pub(crate) fn text(alloc: Global, text: &str) -> Result<String> {
-    Ok(String::from_str(alloc, text)?)
+    for _ in 0..TRIES {
+        if let Ok(out) = String::from_str(alloc, text) {
+            return Ok(out);
+        }
+    }
+    bail!("out of memory")
 }
 
 /// What a call replies to which a growth was refused.
@@ -125,7 +141,12 @@ pub(crate) fn memory(alloc: Global) -> Result<String> {
 }
 
 pub(crate) fn shown<T: Display>(alloc: Global, value: &T) -> Result<String> {
-    Ok(format!(in alloc; "{value}")?)
+    for _ in 0..TRIES {
+        if let Ok(out) = format!(in alloc; "{value}") {
+            return Ok(out);
+        }
+    }
+    memory(alloc)
 }
 
 /// A fault's own text, but `memory` where a growth was refused.

@@ -78,7 +78,9 @@ impl Desk {
 
     /// `files COUNT`: so many of the same text.
     pub fn files(&mut self, line: &Line) -> Result<(), Mistake> {
-        let count = line.number_at(1).unwrap_or(0);
+        let Some(count) = line.number_at(1) else {
+            return Err(Mistake::Call("behind `files` stands a number"));
+        };
         self.files.clear();
         self.is_used = false;
         for _ in 0..count {
@@ -132,10 +134,12 @@ impl Desk {
 
     /// `numbered_file COUNT BAD..`
     pub fn numbered_file(&mut self, line: &Line) -> Result<(), Mistake> {
-        let count = line.number_at(1).unwrap_or(0);
-        if count > 100_000 {
-            return Err(Mistake::Call("a numbered file has at most 100,000 lines"));
-        }
+        let count = match line.number_at(1) {
+            Some(count) if count <= 100_000 => count,
+            _ => {
+                return Err(Mistake::Call("a numbered file has a number of lines up to 100,000"));
+            }
+        };
         let mut bytes = Vec::new(self.alloc);
         for number in 1..=count {
             let is_bad = (2..=line.count()).any(|at| line.number_at(at) == Some(number));
@@ -164,9 +168,13 @@ impl Desk {
     /// runs those of the call before it.
     pub fn given<'a>(&'a self, line: &'a Line) -> Result<Vec<Given<'a>>, Mistake> {
         let mut own = Vec::new(self.alloc);
-        for word in line.words.iter().skip(1) {
-            if !is_named(word.as_slice()) {
-                own.push(Given::of(word.as_slice()))?;
+        for place in 1..line.words.len() {
+            match line.words.get(place) {
+                Some(word) if !is_named(word.as_slice()) => {
+                    let _ = line.word(place);
+                    own.push(Given::of(word.as_slice()))?;
+                }
+                _ => {}
             }
         }
         if !line.text.is_empty() {

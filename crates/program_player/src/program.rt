@@ -40,8 +40,11 @@ impl Desk {
         let (Some(count), Some(word)) = (line.number_at(1), line.text_at(2)) else {
             return Err(Mistake::Call("behind the call stand a number and a word"));
         };
+        if count > 1_000 {
+            return Err(Mistake::Call("a program gets at most 1,000 words"));
+        }
         let mut words = Vec::new(self.alloc);
-        for _ in 0..count.min(1_000) {
+        for _ in 0..count {
             words.push(String::from_str(self.alloc, word)?)?;
         }
         self.words = words;
@@ -92,7 +95,7 @@ impl Desk {
         let alloc = self.alloc;
         let process = WordsAlone {
             alloc,
-            words: line.words.get(1..).unwrap_or(&[]),
+            words: line.rest(1),
         };
         let words = match read_words(&process) {
             Ok(words) => words,

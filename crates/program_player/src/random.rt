@@ -59,6 +59,9 @@ impl Desk {
         let (Some(files), Some(commands)) = (line.number_at(1), line.number_at(2)) else {
             return Err(Mistake::Call("behind the call stand two numbers"));
         };
+        if files > 10_000 || commands > 10_000 {
+            return Err(Mistake::Call("at most 10,000 files are made, of as many commands"));
+        }
         let mut seed = 7;
         for number in 0..files.min(10_000) as u32 {
             let file = random_file(alloc, number, commands.min(10_000) as u32)?;

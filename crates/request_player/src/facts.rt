@@ -145,7 +145,7 @@ fn set_option(options: &mut Options, name: &str, number: u64) -> Option<()> {
 
 /// Sets what the line names. None where it names what there is not.
 pub(crate) fn set_facts(facts: &mut Facts, line: &Line) -> Option<()> {
-    for word in line.words.iter().skip(1) {
+    for word in line.rest(1) {
         let (name, number) = pair_of(word.as_slice())?;
         set_fact(facts, name, number)?;
     }
@@ -153,7 +153,7 @@ pub(crate) fn set_facts(facts: &mut Facts, line: &Line) -> Option<()> {
 }
 
 pub(crate) fn set_options(options: &mut Options, line: &Line) -> Option<()> {
-    for word in line.words.iter().skip(1) {
+    for word in line.rest(1) {
         let (name, number) = pair_of(word.as_slice())?;
         set_option(options, name, number)?;
     }

@@ -91,7 +91,7 @@ fn push_word(out: &mut Vec<u8>, word: &[u8]) -> Result<(), AllocError> {
 /// The bytes that the words from this place on stand for together.
 pub(crate) fn bytes_of(alloc: Global, line: &Line, from: usize) -> Result<Vec<u8>, AllocError> {
     let mut out = Vec::new(alloc);
-    for word in line.words.iter().skip(from) {
+    for word in line.rest(from) {
         push_word(&mut out, word.as_slice())?;
     }
     Ok(out)

@@ -18,7 +18,7 @@ impl Request {
             bytes: Vec::new(alloc),
             spans: Vec::new(alloc),
         };
-        for word in line.words.get(from..).unwrap_or(&[]) {
+        for word in line.rest(from) {
             let span = Span {
                 from: request.bytes.len(),
                 len: word.len(),

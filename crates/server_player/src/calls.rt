@@ -48,9 +48,7 @@ fn number_at(line: &Line, place: usize) -> Result<u64> {
 /// How often a request is made, and its words.
 fn repeated(line: &Line) -> Result<(u64, &[Vec<u8>])> {
     let count = number_at(line, 1)?;
-    let Some(words) = line.words.get(2..) else {
-        bail!("a request stands behind the number");
-    };
+    let words = line.rest(2);
     if count > MOST {
         bail!("a request is made at most {MOST} times");
     }
@@ -136,9 +134,7 @@ impl<'a, R: Wait + Clock> Player<'a, R> {
                 self.gateway.send(client, bytes)?;
                 Ok(Asked { client, count: 1 })
             }
-            _ if is_request(line.word(0).unwrap_or(b"")) => {
-                self.send(line, line.words.as_slice(), 1)
-            }
+            _ if is_request(line.word(0).unwrap_or(b"")) => { self.send(line, line.rest(0), 1) }
             _ => bail!("no such call: tests/cases/server/README.md has them"),
         }
     }
@@ -181,7 +177,10 @@ impl<'a, R: Wait + Clock> Player<'a, R> {
 
     /// `draws N above=A below=B`: RANDOMKEY, so often.
     fn draw(&mut self, line: &Line, draws: &mut Draws) -> Result<String> {
-        let count = number_at(line, 1)?.min(MOST);
+        let count = number_at(line, 1)?;
+        if count > MOST {
+            bail!("at most {MOST} keys are drawn");
+        }
         let mut word = Vec::new(self.alloc);
         word.extend_from_slice(b"RANDOMKEY")?;
         let words = Vec::from_array(self.alloc, [word])?;
@@ -193,11 +192,13 @@ impl<'a, R: Wait + Clock> Player<'a, R> {
                 None => bail!("the connection is closed"),
             }
         }
-        let (above, below) = (
+        let (Some(above), Some(below)) = (
             line.number_named("above", 0),
             line.number_named("below", u64::MAX),
-        );
-        draws.between(above.unwrap_or(0), below.unwrap_or(u64::MAX))
+        ) else {
+            bail!("behind above= and below= stand numbers");
+        };
+        draws.between(above, below)
     }
 
     /// `drawn`: whether the last draws were those before.

@@ -35,6 +35,10 @@ where
 {
     if object_player::OPENINGS.contains(&opening) {
         object_player::play(rt, alloc, playing);
+    } else if row_player::OPENINGS.contains(&opening) {
+        row_player::play(rt, alloc, playing);
+    } else if table_player::OPENINGS.contains(&opening) {
+        table_player::play(rt, alloc, playing);
     } else if map_player::OPENINGS.contains(&opening) {
         map_player::play(rt, alloc, playing);
     } else if program_player::OPENINGS.contains(&opening) {
@@ -121,7 +125,7 @@ impl Played {
         let mut playing = Playing::new(case, self.is_refused);
         if let Err(mistake) = play(rt, rt.alloc(), &mut playing) {
             let found = Err(mistake);
-            let line = case.number;
+            let line = case.lines.first().map_or(case.number, |first| first.number);
             self.wrong = self.wrong.saturating_add(1);
             return tell(rt, path, case, Difference { line, found });
         }
@@ -159,8 +163,9 @@ impl Played {
             + Send
             + Sync,
     {
-        let Ok(file) = fs::read_to_string(rt, path) else {
-            bail!("{path}: can't be read");
+        let file = match fs::read_to_string(rt, path) {
+            Ok(file) => file,
+            Err(why) => bail!("{path}: {why}"),
         };
         let cases = match read_cases(rt.alloc(), file.as_bytes()) {
             Ok(cases) => cases,

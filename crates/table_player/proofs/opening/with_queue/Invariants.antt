@@ -1,0 +1,5 @@
+use Rattle.table_player.proofs.opening.with_queue.Given as goal
+
+-- the queue that was just opened
+abbrev pub ghosts-over_queue : goal.ghosts-over_queue
+ghosts-over_queue g a = record { table = a.queue.table }
