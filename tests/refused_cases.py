@@ -31,11 +31,13 @@ MOST_GROWTHS = 5_000
 RUNS_AT_ONCE = os.cpu_count() + 2
 SILENT = "can't be made: no reply came"
 MOST_SILENT = 4
-# How a run ends where a growth was refused to the player itself: before a call, or before it has read the call's words. The last two
-# are the player's words for a map that ended before it was renewed, and for a server without threads.
+# Which call of a server the n-th growth is of is a matter of chance, since its threads ask for memory at once. So where a listed call
+# was refused none, the files of its layer are swept again, so often at most.
+SWEEPS = 12
+# How a run ends where a growth was refused to the player itself. The last two are its words for a map that ended before it was
+# renewed, and for a server without threads.
 OWN = re.compile(
-    r"can't be made: (?:.*\b(?:memory|memory allocation failed)|this call takes no word .*|"
-    r"the map was not renewed: .*|no reply came)$", re.M)
+    r"can't be made: (?:.*\b(?:memory|memory allocation failed)|the map was not renewed: .*|no reply came)$", re.M)
 # What a server replies for want of memory. It may be one of the replies to a request, as to EXEC.
 WANT = "-OOM command not allowed: out of memory"
 CLOSED = "closed"
@@ -135,6 +137,12 @@ def listed():
     return refused, without
 
 
+def layers_left_out(calls):
+    """The layers of the listed calls that were refused no growth."""
+    calls = set(calls)
+    return {it.split()[0] for it in listed()[0] if it not in calls}
+
+
 def unlike_the_list(calls):
     refused, without = listed()
     yield from (f"{it} was refused no growth" for it in refused if not calls[it])
@@ -148,12 +156,18 @@ def main(program, library, *words):
     paths.sort(key=lambda it: it.parent.name != "server")
     with ThreadPoolExecutor(RUNS_AT_ONCE) as pool:
         files = list(pool.map(lambda it: prepared(program, library, it), paths))
-        runs = [(path, number) for path, (_, numbers, _) in zip(paths, files) for number in numbers]
-        found = list(pool.map(lambda it: tried(program, library, *it), runs))
+        sweep = [(path, number) for path, (_, numbers, _) in zip(paths, files) for number in numbers]
+        runs, found, layers = [], [], {path.parent.name for path in paths}
+        for _ in range(SWEEPS):
+            more = [it for it in sweep if it[0].parent.name in layers]
+            runs += more
+            found += pool.map(lambda it: tried(program, library, *it), more)
+            layers = set() if named_paths else layers_left_out(call for call, _ in found)
     calls = collections.Counter(call for call, _ in found if call)
     wrong = [fault for _, _, faults in files for fault in faults] + [fault for _, fault in found if fault]
     silent = collections.Counter(path for (path, _), (call, _) in zip(runs, found) if call == SILENT)
-    wrong += [f"{path}: {count} runs waited for a reply in vain" for path, count in silent.items() if count > MOST_SILENT]
+    sweeps = {path: count for (path, _), count in collections.Counter(runs).items()}
+    wrong += [f"{path}: {count} runs waited for a reply in vain" for path, count in silent.items() if count > MOST_SILENT * sweeps[path]]
     del calls[SILENT]
     if not named_paths:
         wrong += unlike_the_list(calls)

@@ -1,10 +1,10 @@
 //! A line that calls something.
 //!
 //! A word that no call reads would be one that its writer believes in: a misspelt setting, say. So a line notes which of its words were
-//! read, and `Playing::tell` refuses a line of which one was not.
+//! read, and whether its thread was, and `Playing::tell` refuses a line of which one was not.
 
-use std::sync::atomic::AtomicU64;
 use std::sync::atomic::Ordering::Relaxed;
+use std::sync::atomic::{AtomicBool, AtomicU64};
 
 /// A call, with what it is given and what it has to reply.
 #[derive(Drop)]
@@ -12,7 +12,7 @@ pub struct Line {
     /// Where it stands in its file, counted from 1.
     pub number: u32,
     /// The name of the thread that makes the call, which is empty where none is named.
-    pub thread: Vec<u8>,
+    pub(crate) thread: Vec<u8>,
     /// The call's name and what it is given.
     pub words: Vec<Vec<u8>>,
     /// The lines behind it that begin with `|`, each with an LF.
@@ -23,6 +23,7 @@ pub struct Line {
     pub block: u32,
     /// A bit for each of the first 63 words that was read, the lowest for the call's name, and one for all others.
     pub(crate) read: AtomicU64,
+    pub(crate) is_thread_read: AtomicBool,
 }
 
 /// How often a call may be told to do something: a case that is mistyped ends too.
@@ -37,6 +38,12 @@ impl Line {
     /// The call's name, which is empty where it is no text.
     pub fn call(&self) -> &str {
         self.text_at(0).unwrap_or("")
+    }
+
+    /// The name of the thread that makes the call, which is empty where none is named.
+    pub fn thread(&self) -> &[u8] {
+        self.is_thread_read.store(true, Relaxed);
+        self.thread.as_slice()
     }
 
     /// How many words stand behind the call's name.
@@ -94,6 +101,14 @@ impl Line {
             }
         }
         None
+    }
+
+    /// The name of its thread, where one is named that was not read.
+    pub fn unread_thread(&self) -> Option<&[u8]> {
+        if self.thread.is_empty() || self.is_thread_read.load(Relaxed) {
+            return None;
+        }
+        Some(self.thread.as_slice())
     }
 
     /// A word by its place, where it is text.

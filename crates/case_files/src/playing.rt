@@ -41,11 +41,15 @@ fn is_expected(expected: &[u8], reply: &[u8]) -> bool {
         .any(|one| one.trim_ascii() == reply)
 }
 
-/// The reply, or a mistake where the call took no notice of a word.
+/// The reply, or a mistake where the call took no notice of a word, or of the thread.
 fn strict(line: &Line, reply: Result<String>) -> Result<String> {
     let Ok(text) = reply else {
         return reply;
     };
+    if let Some(thread) = line.unread_thread() {
+        let shown = str::from_utf8(thread).unwrap_or("");
+        bail!("this call takes no thread `{shown}`");
+    }
     let Some(word) = line.unread() else {
         return Ok(text);
     };
@@ -106,8 +110,13 @@ impl<'c> Playing<'c> {
 
     /// Says what the line's call replied. It answers whether the call has to be made once more, since a growth was refused to it.
     ///
-    /// A line of which a word was not read is a mistake, whatever was replied.
+    /// A line of which a word was not read is a mistake, whatever was replied, unless it is made once more: what is refused memory may end
+    /// before it reads its words.
     pub fn tell(&mut self, line: &Line, reply: Result<String>) -> bool {
+        let is_memory = match &reply {
+            Ok(text) => text.as_str() == MEMORY,
+            Err(_) => false,
+        };
         let reply = strict(line, reply);
         let is_right = match &reply {
             Ok(text) => is_expected(line.reply.as_slice(), text.as_bytes()),
@@ -116,10 +125,6 @@ impl<'c> Playing<'c> {
         if is_right {
             return false;
         }
-        let is_memory = match &reply {
-            Ok(text) => text.as_str() == MEMORY,
-            Err(_) => false,
-        };
         if is_memory && self.is_refused && !self.is_again {
             self.is_again = true;
             self.refused = self.case.lines.iter().find(|it| it.number == line.number);

@@ -5,7 +5,7 @@ use crate::fault::BadLine;
 use crate::line::Line;
 use crate::words::words_of;
 use std::alloc::Global;
-use std::sync::atomic::AtomicU64;
+use std::sync::atomic::{AtomicBool, AtomicU64};
 
 /// What stands between a call and its reply.
 const ARROW: &[u8] = b"->";
@@ -160,6 +160,7 @@ impl Reader {
             reply,
             block,
             read: AtomicU64::new(0),
+            is_thread_read: AtomicBool::new(false),
         })?;
         Ok(())
     }

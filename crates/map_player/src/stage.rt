@@ -75,7 +75,7 @@ impl<'c> Stage<'c> {
 
     /// The worker that a line names: `a:` is the first one, and so is the worker of a line without a name.
     pub fn named(&self, line: &Line) -> Option<u32> {
-        let number = match line.thread.as_slice() {
+        let number = match line.thread() {
             [] => 0,
             [letter] if letter.is_ascii_lowercase() => u32::from(letter.wrapping_sub(b'a')),
             _ => return None,

@@ -113,7 +113,7 @@ where
 
     /// A call of the device whose number the line's thread is.
     fn call_device(&mut self, line: &Line) -> Result<String> {
-        let thread = str::from_utf8(line.thread.as_slice()).unwrap_or("");
+        let thread = str::from_utf8(line.thread()).unwrap_or("");
         let Ok(number) = thread.parse::<u64>() else {
             bail!("a call of a device begins with its number and a colon");
         };
@@ -148,7 +148,7 @@ where
     R: AllocGlobal + Env + Files<File = File> + RandomSource + Copy + Drop,
 {
     fn call(&mut self, line: &Line) -> Result<String> {
-        if !line.thread.is_empty() {
+        if !line.thread().is_empty() {
             return self.call_device(line);
         }
         match line.call() {

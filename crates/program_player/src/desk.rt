@@ -52,7 +52,7 @@ impl Desk {
     where
         R: AllocGlobal + Threads + Wait + Sync,
     {
-        if line.block != 0 || !line.thread.is_empty() {
+        if line.block != 0 || !line.thread().is_empty() {
             return Err(NO_THREAD);
         }
         if let Some(made) = self.make(line) {

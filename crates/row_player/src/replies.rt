@@ -65,9 +65,9 @@ pub fn memory(alloc: Global) -> Result<String> {
     Ok(String::from_str(alloc, MEMORY)?)
 }
 
-/// Room for the reply of a call. None where it was refused.
-pub fn room(alloc: Global) -> Option<String> {
-    String::with_capacity(alloc, ROOM).ok()
+/// Room for the reply of a call.
+pub fn room(alloc: Global) -> Result<String> {
+    Ok(String::with_capacity(alloc, ROOM)?)
 }
 
 /// Says that the line is no call of what is open.

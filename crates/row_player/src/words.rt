@@ -21,7 +21,7 @@ use user::User;
 use version_words::{Naming, Opened};
 pub use vouched::play_vouched;
 
-/// Plays the case of an opening `words`.
+/// Plays the case of an opening `row`.
 pub fn play<R: Threads + Sync>(rt: &R, alloc: Global, opening: &Line, playing: &mut Playing<'_>) {
     for _ in 0..2 {
         let is_again = match opened(alloc, opening) {

@@ -108,7 +108,7 @@ impl<'a, R> Player<'a, R> {
 
 impl<'a, R: Wait + Clock> Player<'a, R> {
     fn client(&mut self, line: &Line) -> Result<usize> {
-        self.gateway.client(line.thread.as_slice())
+        self.gateway.client(line.thread())
     }
 
     /// Sends a line's request so often.

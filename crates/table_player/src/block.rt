@@ -109,7 +109,10 @@ impl<'c, T: Datum, J: Naming, B: QueueNaming> Job<'c, T, J, B> {
         } = self;
         let mut user = match user {
             Some(user) => Some(user),
-            None => User::enter(site.alloc, site.table, name, seat).unwrap_or(None),
+            None => match Vec::from_slice(site.alloc, name) {
+                Ok(name) => User::enter(site.table, name, seat),
+                Err(_) => None,
+            },
         };
         let mut meets = 0u64;
         for line in &lines {
@@ -178,7 +181,7 @@ fn jobs_of<'c, T: Datum, J: Naming, B: QueueNaming>(
 ) -> Result<Vec<Job<'c, T, J, B>>, Stop> {
     let mut jobs: Vec<Job<'c, T, J, B>> = Vec::new(alloc);
     for line in lines {
-        let name = line.thread.as_slice();
+        let name = line.thread();
         if place_of(jobs.as_slice(), name).is_none() {
             let mut job = Job::new(alloc, callers, name);
             job.replies.reserve(lines.len())?;
@@ -313,7 +316,7 @@ where
         }
     };
     for line in lines {
-        let reply = next_reply(done.as_mut_slice(), line.thread.as_slice());
+        let reply = next_reply(done.as_mut_slice(), line.thread());
         let _ = playing.tell(line, told(world.alloc, reply));
     }
     for one in done {

@@ -72,7 +72,7 @@ fn open<T: Datum, J: Naming, B: QueueNaming, D: Device, R: Wait>(
 ) -> Result<bool, Stop> {
     let alloc = site.alloc;
     let key = datum_at::<T>(alloc, line, 1)?;
-    let Some(user) = callers.user(alloc, site.table, line.thread.as_slice())? else {
+    let Some(user) = callers.user(alloc, site.table, line.thread())? else {
         return Err(Stop::Mistake("no pass is left for this caller"));
     };
     match site.table.open_scope(&mut user.caller, &key) {

@@ -46,26 +46,22 @@ pub struct User<T: Datum, J: Naming, B: QueueNaming> {
 impl<T: Datum, J: Naming, B: QueueNaming> User<T, J, B> {
     /// A caller who enters under this name, with a seat of the queue where one is left. None where no pass is left.
     pub fn enter<D: Device>(
-        alloc: Global,
         table: &Table<T, J, D>,
-        name: &[u8],
+        name: Vec<u8>,
         seat: Option<QueueSeat<T, T, J, B>>,
-    ) -> Result<Option<Self>, Stop> {
-        let name = Vec::from_slice(alloc, name)?;
-        let Some(caller) = entered(table) else {
-            return Ok(None);
-        };
+    ) -> Option<Self> {
+        let caller = entered(table)?;
         let hands = Hands {
             seat,
             taken: None,
             clock: None,
             room: None,
         };
-        Ok(Some(User {
+        Some(User {
             name,
             caller,
             hands,
-        }))
+        })
     }
 
     /// Reclaims the oldest spare. Where that is refused, it is the oldest again. None where no spare waits.

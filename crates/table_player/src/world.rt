@@ -39,8 +39,11 @@ impl<T: Datum, J: Naming, B: QueueNaming> Callers<T, J, B> {
         if let Some(place) = self.place(name) {
             return Ok(self.users.get_mut(place));
         }
+        // No pass is drawn, and no seat taken, that could not be kept.
+        let name = Vec::from_slice(alloc, name)?;
+        self.users.reserve(1)?;
         let seat = self.seats.pop();
-        match User::enter(alloc, table, name, seat)? {
+        match User::enter(table, name, seat) {
             None => Ok(None),
             Some(user) => {
                 self.users.push(user)?;
@@ -56,7 +59,7 @@ impl<T: Datum, J: Naming, B: QueueNaming> Callers<T, J, B> {
         site: &Site<'_, T, J, B, D>,
         line: &Line,
     ) -> Reply {
-        match self.user(site.alloc, site.table, line.thread.as_slice())? {
+        match self.user(site.alloc, site.table, line.thread())? {
             Some(user) => calls::call(rt, site, user, line),
             None => Err(Stop::Mistake("no pass is left for this caller")),
         }
@@ -125,7 +128,7 @@ where
         let alloc = self.alloc;
         let table = self.table.as_ref().ok_or(ENDED)?;
         match line.call() {
-            "enter" => match self.callers.user(alloc, table, line.thread.as_slice())? {
+            "enter" => match self.callers.user(alloc, table, line.thread())? {
                 Some(_) => replies::text(alloc, ""),
                 None => replies::text(alloc, "passes spent"),
             },
@@ -143,7 +146,7 @@ where
             "mark" => {
                 let word = line.word(1).ok_or(Stop::Mistake("a mark has a name"))?;
                 let name = Vec::from_slice(alloc, word)?;
-                let Some(user) = self.callers.user(alloc, table, line.thread.as_slice())? else {
+                let Some(user) = self.callers.user(alloc, table, line.thread())? else {
                     return Err(Stop::Mistake("no pass is left for this caller"));
                 };
                 let mark = user.caller.mark();
@@ -158,7 +161,7 @@ where
         let alloc = self.alloc;
         let table = self.table.as_ref().ok_or(ENDED)?;
         let name = line.word(1).unwrap_or(&[]);
-        let Some(user) = self.callers.user(alloc, table, line.thread.as_slice())? else {
+        let Some(user) = self.callers.user(alloc, table, line.thread())? else {
             return Err(Stop::Mistake("no pass is left for this caller"));
         };
         for marked in &self.marks {

@@ -3,7 +3,7 @@ use super::readers::read_and_reclaim;
 use super::reading::read_by_another;
 use super::shared::share;
 use super::user::User;
-use crate::replies::{byte, memory, named, no_call, number, refused, small};
+use crate::replies::{byte, named, no_call, number, refused, room, small};
 use crate::rows::object;
 use anyhow::{Result, bail};
 use case_files::{Line, Playing};
@@ -48,13 +48,8 @@ impl<'a, J: Naming> User<'a, J> {
     where
         J: Send + Sync,
     {
-        let Some(mut out) = self.room() else {
-            return memory(self.alloc);
-        };
-        if self.make_room().is_err() {
-            refused(&mut out)?;
-            return Ok(out);
-        }
+        let mut out = room(self.alloc)?;
+        self.make_room()?;
         match line.call() {
             "share" | "read_and_reclaim" | "read_by_another" => self.run(rt, line, &mut out)?,
             _ => self.call(line, &mut out)?,

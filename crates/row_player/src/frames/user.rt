@@ -3,7 +3,7 @@ ghost use Rattle.std.specs.Prelude.{◌≡◌, false};
 
 use super::held::{Open, Taken};
 use crate::held::{Drawn, Unused, place_in, take};
-use crate::replies::{refused, room};
+use crate::replies::refused;
 use crate::rows::one_pair;
 use anyhow::{Result, bail};
 use far_object::Text;
@@ -199,10 +199,5 @@ impl<'a, J: Naming> User<'a, J> {
             None => bail!("no scope on the frame {frame} is open"),
         }
         Ok(())
-    }
-
-    /// Room for a reply.
-    pub fn room(&self) -> Option<String> {
-        room(self.alloc)
     }
 }

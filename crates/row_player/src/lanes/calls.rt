@@ -3,7 +3,7 @@ use super::reading::read_by_another;
 use super::shared::share;
 use super::user::User;
 use super::waiting::write_beside;
-use crate::replies::{byte, memory, named, no_call, number, refused, room, small};
+use crate::replies::{byte, named, no_call, number, room, small};
 use anyhow::{Result, bail};
 use case_files::{Line, Playing};
 use far_device::Device;
@@ -47,13 +47,8 @@ impl<J: Naming, D: Device> User<J, D> {
         J: Send + Sync,
         D: Send,
     {
-        let Some(mut out) = room(self.alloc) else {
-            return memory(self.alloc);
-        };
-        if self.make_room().is_err() {
-            refused(&mut out)?;
-            return Ok(out);
-        }
+        let mut out = room(self.alloc)?;
+        self.make_room()?;
         match line.call() {
             "share" => {
                 let rounds = named(line, "rounds", 1_000_000, 100)?;

@@ -40,14 +40,33 @@ where
     }
 }
 
-/// What the opening asks for.
+/// The kind of the devices.
+fn kind(opening: &Line) -> &str {
+    str::from_utf8(opening.named("device").unwrap_or(b"memory")).unwrap_or("")
+}
+
+/// What the opening asks for. What the devices of its kind don't take is left unread.
 fn asked(opening: &Line) -> Result<Asked<'_>> {
-    Ok(Asked {
+    let mut asked = Asked {
         count: named(opening, "devices", 64, 1)?,
-        fails_at: named(opening, "fails_at", u64::MAX, 0)?,
-        fails_at_once: named(opening, "fails_at_once", 64, 0)?,
-        bytes: opening.named("bytes").unwrap_or(&[]),
-    })
+        fails_at: 0,
+        fails_at_once: 0,
+        bytes: &[],
+        is_locked: true,
+    };
+    match kind(opening) {
+        "memory" | "disk" => asked.fails_at = named(opening, "fails_at", u64::MAX, 0)?,
+        "broken" => asked.fails_at_once = named(opening, "fails_at_once", 64, 0)?,
+        "canned" => asked.bytes = opening.named("bytes").unwrap_or(&[]),
+        _ => {}
+    }
+    if let Some(lock) = opening.named("lock") {
+        if lock != b"no".as_slice() || asked.count != 1 {
+            bail!("`lock=no` opens one lane without a lock");
+        }
+        asked.is_locked = false;
+    }
+    Ok(asked)
 }
 
 /// Plays the case over the devices that are asked for. Answers whether the opening has to be made once more.
@@ -62,8 +81,7 @@ fn play_over<R>(
 where
     R: RandomSource + Threads + Wait + Sync,
 {
-    let kind = str::from_utf8(opening.named("device").unwrap_or(b"memory")).unwrap_or("");
-    match kind {
+    match kind(opening) {
         "memory" => {
             let devices = memory_devices(alloc, asked, &signs);
             over(rt, alloc, devices, signs, opening, playing)
@@ -138,7 +156,7 @@ fn play_in<J: Naming + Send + Sync, D: Device + Send, R: Threads + Wait + Sync>(
     requires limits { limits_of opened.sizes false ≡ J.limits }
 {
     let words = opened.named::<J>();
-    let Some(out) = room(alloc) else {
+    let Ok(out) = room(alloc) else {
         return tell_opened(alloc, opening, playing, false);
     };
     let is_locked = opening.named("lock").is_none();

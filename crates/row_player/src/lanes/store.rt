@@ -23,7 +23,7 @@ pub enum Lanes<J: Naming, D: Device> {
 }
 
 impl<J: Naming, D: Device> Lanes<J, D> {
-    /// A lane for each device, or one without a lock of the last device.
+    /// A lane for each device, or one without a lock.
     pub fn open(
         alloc: Global,
         devices: Vec<D>,

@@ -2,7 +2,7 @@
 use super::installs::{Asked, Over};
 use super::shared::{send, share};
 use super::user::User;
-use crate::replies::{memory, named, no_call, number, refused, room, word};
+use crate::replies::{named, no_call, number, room, word};
 use anyhow::{Result, bail};
 use case_files::{Line, Playing};
 use std::thread::Threads;
@@ -11,10 +11,10 @@ use version_words::Naming;
 
 /// The pass that makes the call: the first where none is named.
 fn pass_of(line: &Line) -> Result<u64> {
-    if line.thread.is_empty() {
+    if line.thread().is_empty() {
         return Ok(1);
     }
-    match str::from_utf8(line.thread.as_slice()) {
+    match str::from_utf8(line.thread()) {
         Ok(text) => match text.parse::<u64>() {
             Ok(number) => Ok(number),
             Err(_) => bail!("what makes a call is the number of a pass"),
@@ -65,9 +65,6 @@ fn over(line: &Line) -> Result<Over> {
         Some(b"far") => u64::from(FAR_PLACE),
         _ => named(line, "place", 16_777_215, 0)?,
     };
-    if place > 16_777_215 {
-        bail!("a place is below 2^24");
-    }
     Ok(Over {
         old: needed(line, "old")?,
         name: needed(line, "name")?,
@@ -98,13 +95,8 @@ impl<J: Naming> User<J> {
     where
         J: Send + Sync,
     {
-        let Some(mut out) = room(self.alloc) else {
-            return memory(self.alloc);
-        };
-        if self.make_room().is_err() {
-            refused(&mut out)?;
-            return Ok(out);
-        }
+        let mut out = room(self.alloc)?;
+        self.make_room()?;
         match line.call() {
             "share" => {
                 let rounds = named(line, "rounds", 1_000_000, 100)?;

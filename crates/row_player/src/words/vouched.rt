@@ -78,9 +78,7 @@ fn reply<J: Naming>(
     if line.call() != "set_twice" {
         return no_call(line);
     }
-    let Some(mut out) = room(alloc) else {
-        return memory(alloc);
-    };
+    let mut out = room(alloc)?;
     let Some(pair) = parts(alloc, word(line, 1)?, word(line, 2)?)? else {
         return memory(alloc);
     };
