@@ -1,3 +1,9 @@
 #!/usr/bin/env bash
-# Tries the links of the docs, and what they name: docs.py says how. The status is 1 where one fails.
-exec /usr/bin/python3 -B "$(dirname "$(readlink -f "${BASH_SOURCE[0]}")")/docs.py"
+# Tries the pages and the edits: the links of pages, what they name, and how long their sentences are (docs.py); the first line of each
+# edit, and the table that is made of these (edits.py). The status is 1 where one fails.
+set -uo pipefail
+tests=$(dirname "$(readlink -f "${BASH_SOURCE[0]}")")
+status=0
+/usr/bin/python3 -B "$tests/docs.py" || status=1
+/usr/bin/python3 -B "$tests/edits.py" || status=1
+exit "$status"
