@@ -1,13 +1,15 @@
-"""Tries the links of the docs, and what they name in backticks: docs.py.
+"""Tries the links of the docs, what they name in backticks, and how long their sentences are: docs.py.
 
-In README.md, CONTRIBUTING.md, docs/ and the READMEs of the crates, the tests, the front and the examples, but for what stands
+In README.md, CONTRIBUTING.md, CHANGELOG.md, docs/ and the READMEs of the crates, the tests, the front and the examples, but for what stands
 between lines of ```:
 
 - the file of a relative link is there, and where it names a place, so is the heading;
 - a path in backticks is there: from the top, from crates/, from the page's folder, or from a crate's folder or its src/, in
   a crate's README from that crate's. One with NAME, MODULE or FUNCTION in it, or of what is built, is passed over;
 - of `name()` there is a function, and of `Type::name` or `crate::name` a declaration in a source that has the type, or in the
-  crate's sources. A name of std or of another crate is passed over.
+  crate's sources. A name of std or of another crate is passed over;
+- no sentence has more than 35 words, outside tables and code. It ends at `.`, `?`, `!` or `:` before a blank or a line's end, or with
+  its list item. A text in backticks is one word.
 
 Each failure is a line `FILE:LINE: ..`, and the status is 1 where there is one.
 """
@@ -17,10 +19,11 @@ from functools import cache
 from pathlib import Path
 
 ROOT = Path(__file__).resolve().parent.parent
-PAGES = ("README.md", "CONTRIBUTING.md", "docs/*.md", "crates/README.md", "crates/*/README.md", "front/README.md",
+PAGES = ("README.md", "CONTRIBUTING.md", "CHANGELOG.md", "docs/*.md", "crates/README.md", "crates/*/README.md", "front/README.md",
          "examples/*/README.md", "tests/*/README.md", "tests/*/*/README.md")
 FOLDERS = {"src", "specs", "proofs", "must-fail", "more-edits", *(it.name for it in [*ROOT.iterdir(), *ROOT.glob("crates/*")])}
 FILE = re.compile(r"\.(rt|antt|md|sh|py|c|rs|txt|edit|svg)$")
+MOST_WORDS = 35
 PASSED_OVER = re.compile(r"NAME|MODULE|FUNCTION|(^|/)out(/|$)")
 # A declaration, a variant or a field on a line of its own, or a name that is taken from elsewhere.
 DECLARED = (r"\b(?:fn|mod|struct|enum|trait|type|const|static|def|abbrev|theorem|structure|inductive)\s+{0}\b"
@@ -103,9 +106,34 @@ def faults(page):
             yield from (f"{page.relative_to(ROOT)}:{number}: {it}" for it in told if it)
 
 
+def paragraphs(page):
+    """The prose of a page, each paragraph and list item with the number of the line that it begins at."""
+    fenced, text, begin = False, [], 0
+    for number, line in enumerate([*page.read_text().splitlines(), ""], 1):
+        fence = line.lstrip().startswith("```")
+        fenced ^= fence
+        ends = fence or fenced or not line.strip() or line.lstrip().startswith(("|", "#", "![")) or " | " in line
+        item = re.match(r"\s*([-*]|\d+\.)\s+", line)
+        if text and (ends or item):
+            yield begin, " ".join(text)
+            text = []
+        if not ends:
+            begin = begin if text else number
+            text.append(line[item.end():] if item else line)
+
+
+def long_sentences(page):
+    for number, paragraph in paragraphs(page):
+        prose = re.sub(r"`[^`]*`", "x", re.sub(r"\]\([^)\s]*\)", "]", paragraph))
+        for sentence in re.split(r"(?<=[.?!:])[)*_]*\s+", prose):
+            count = len(sentence.split())
+            if count > MOST_WORDS:
+                yield f"{page.relative_to(ROOT)}:{number}: a sentence of {count} words: {' '.join(sentence.split()[:8])} .."
+
+
 def main():
     pages = [page for pattern in PAGES for page in sorted(ROOT.glob(pattern))]
-    wrong = [it for page in pages for it in faults(page)]
+    wrong = [it for page in pages for it in [*faults(page), *long_sentences(page)]]
     print("".join(f"{it}\n" for it in wrong) + f"{len(pages)} pages, {len(wrong)} wrong")
     sys.exit(1 if wrong else 0)
 
