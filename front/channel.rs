@@ -1,13 +1,15 @@
-//! A pipe or a socket, which is read and written without waiting, and the bytes that it had no room for yet.
+//! A pipe or a socket that is read and written without waiting, and a queue of bytes that it had no room for
+//! yet.
 
 use crate::system::{self, Epoll, INPUT, OUTPUT};
 use std::collections::VecDeque;
 use std::fs::File;
 use std::io::{self, ErrorKind, IoSlice, Read, Write};
 
+/// A pipe or a socket, with its queue of output.
 pub struct Channel {
     file: File,
-    /// What its events are known by.
+    /// The token of its events.
     token: u64,
     watched: u32,
     queue: VecDeque<u8>,
@@ -18,17 +20,18 @@ impl Channel {
         Channel { file, token, watched: 0, queue: VecDeque::new() }
     }
 
-    /// Bytes that wait.
+    /// Bytes in the queue.
     pub fn waiting(&self) -> usize {
         self.queue.len()
     }
 
-    /// Bytes of memory that are taken for those that wait.
+    /// Bytes of memory that the queue takes.
     pub fn taken(&self) -> usize {
         self.queue.capacity()
     }
 
-    /// Has input wake who waits for events if it is wanted, and room if that is wanted or if bytes wait here.
+    /// Asks for events of input if `input` is set, and of room for output if `room` is set or the queue is
+    /// not empty.
     pub fn watch(&mut self, epoll: &Epoll, input: bool, room: bool) -> io::Result<()> {
         let flags = if input { INPUT } else { 0 } | if room || self.waiting() > 0 { OUTPUT } else { 0 };
         if flags != self.watched {
@@ -38,30 +41,31 @@ impl Channel {
         Ok(())
     }
 
-    /// How many bytes came, 0 at the end; None where none are there yet.
+    /// Reads once. Returns how many bytes were read, 0 at the end, and None if there are none yet.
     pub fn read(&self, room: &mut [u8]) -> io::Result<Option<usize>> {
         at_once((&self.file).read(room))
     }
 
-    /// Has the pipe that this is hold that many bytes at most. False if the system refuses it for now.
+    /// Sets how many bytes this pipe holds at most. False if the system refuses it for now.
     pub fn size_pipe(&self, bytes: usize) -> bool {
         system::size_pipe(&self.file, bytes)
     }
 
-    /// Bytes that are in the pipe that this is.
+    /// Bytes that are in this pipe.
     pub fn in_pipe(&self) -> io::Result<usize> {
         system::in_pipe(&self.file)
     }
 
-    /// Puts bytes behind those that wait, unless there is no memory for them.
+    /// Adds bytes to the queue. If there is no memory for them, an error is returned and none is added.
     pub fn put(&mut self, bytes: &[u8]) -> io::Result<()> {
         self.reserve(bytes.len())?;
         self.queue.extend(bytes);
         Ok(())
     }
 
-    /// Takes memory for that many bytes more. By a quarter at least, so that many small pieces don't move what waits each time;
-    /// by no more, since what is taken counts.
+    /// Takes memory for this many bytes more. A queue that has to grow grows by a quarter, so that many small
+    /// pieces don't move it each time, or by what is needed if that is more. It grows by no more, because its
+    /// memory counts.
     pub fn reserve(&mut self, count: usize) -> io::Result<()> {
         let (want, taken) = (self.waiting() + count, self.taken());
         if want > taken {
@@ -70,7 +74,7 @@ impl Channel {
         Ok(())
     }
 
-    /// Writes what there is room for.
+    /// Writes as much of the queue as there is room for.
     pub fn flush(&mut self) -> io::Result<()> {
         if self.waiting() > 0 {
             let (first, second) = self.queue.as_slices();
@@ -81,7 +85,8 @@ impl Channel {
         Ok(())
     }
 
-    /// Writes bytes, and has the rest wait, if no more than `limit` then do.
+    /// Writes bytes, and adds the rest to the queue. An error is returned if more than `limit` bytes would
+    /// wait then, or if there is no memory for them.
     pub fn send(&mut self, bytes: &[u8], limit: usize) -> io::Result<()> {
         let is_first = self.waiting() == 0;
         let written = if is_first { at_once((&self.file).write(bytes))?.unwrap_or(0) } else { 0 };
@@ -92,7 +97,7 @@ impl Channel {
         self.put(rest)
     }
 
-    /// Gives memory back if half of it is unused, as long as more than `keeps` is taken.
+    /// Gives memory back if half of it is unused and more than `keeps` bytes are taken.
     pub fn shrink(&mut self, keeps: usize) {
         let waiting = self.waiting();
         if self.taken() > keeps && waiting <= self.taken() / 2 {
@@ -101,6 +106,7 @@ impl Channel {
     }
 }
 
+/// None if the call would have had to wait, or was interrupted.
 fn at_once(result: io::Result<usize>) -> io::Result<Option<usize>> {
     match result {
         Err(fault) if matches!(fault.kind(), ErrorKind::WouldBlock | ErrorKind::Interrupted) => Ok(None),

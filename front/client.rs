@@ -1,4 +1,4 @@
-//! What a lane keeps of a client.
+//! What the gateway keeps of a client, which belongs to one worker of the server.
 
 use crate::channel::Channel;
 use crate::memory::Taken;
@@ -6,42 +6,46 @@ use crate::shared::Shared;
 use crate::stranger::{Fault, Reader, REPLIES};
 use std::time::Instant;
 
-/// Bytes that a client takes while nothing waits for it, rounded up. With 2,000 to 9,000 idle clients the gateway grew by 320 to 590
-/// for each, by how full the maps of clients are.
+/// Bytes that count for a client while nothing waits for it, rounded up. With 2,000 to 9,000 idle clients the
+/// gateway grew by 320 to 590 bytes for each, depending on how full the maps of clients were.
 pub const BASE: usize = 640;
 
 /// Whether a client's input waits for its turn.
 #[derive(Clone, Copy, PartialEq)]
 pub enum Turn {
     None,
-    /// It waits since the last events, and may have its turn before the next ones are waited for.
+    /// It waits since the last events, and may have its turn before the gateway waits for the next ones.
     New,
-    /// It waits, and no event tells of it meanwhile.
+    /// It waits, and its socket is not watched for input meanwhile.
     Waits,
 }
 
-/// Who has a number. It is removed once a close went both ways and the socket is closed, in whatever order.
+/// A client, which is known by its number. It is removed once a CLOSE went in both directions and its socket
+/// is closed, in any order.
 pub struct Client {
-    /// None once it is closed.
+    /// None once the socket is closed.
     pub socket: Option<Channel>,
+    /// The worker was sent a CLOSE, or is owed one.
     pub sent_close: bool,
-    /// The close that it was sent is not put yet, since there was no memory for it.
+    /// The CLOSE is not in the worker's queue yet, for example because there was no memory for it.
     pub owes_close: bool,
+    /// The worker has sent a CLOSE.
     pub got_close: bool,
     pub turn: Turn,
     /// When it was last read or written.
     pub active: Instant,
-    /// Since when it is a stranger, None while it is let in.
+    /// Since when it is unauthenticated. None while it is authenticated.
     pub stranger: Option<Instant>,
-    /// Follows its requests, None if it will never be a stranger again.
+    /// Follows its requests. None if it will never be unauthenticated again.
     pub reader: Option<Reader>,
-    /// How many of the bytes that wait for it it was owed before it was let out, `usize::MAX` until the lane has sent these all.
+    /// How many of the bytes that wait for it were owed before the worker let it out. `usize::MAX` until the
+    /// worker has sent all of these.
     pub owed: usize,
-    /// Input that is not handed over yet, because it breaks a limit of strangers.
+    /// Input that is not sent to the worker yet, and which limit of unauthenticated clients it exceeds.
     pub held: Option<(Fault, Vec<u8>)>,
-    /// How many times the lane was asked, and has not said yet, whether it has answered all that came before.
+    /// How many `sync` notes about it the worker has not answered yet.
     pub asked: u32,
-    /// What of it is counted.
+    /// What is counted of it in `Memory`.
     pub taken: Taken,
 }
 
@@ -63,32 +67,36 @@ impl Client {
         }
     }
 
+    /// Whether it can be removed.
     pub fn is_over(&self) -> bool {
         self.socket.is_none() && self.sent_close && !self.owes_close && self.got_close
     }
 
-    /// Bytes that it takes here. Once it is closed they are about to be given back, and no reason to close others.
+    /// Bytes that it takes in the gateway. Once its socket is closed there are none, because they are about
+    /// to be given back. They are no reason to close others.
     pub fn memory(&self) -> usize {
         let Some(socket) = &self.socket else { return 0 };
         BASE + socket.taken() + self.held.as_ref().map_or(0, |(_, bytes)| bytes.capacity())
     }
 
-    /// Whether its input is to wake us.
+    /// Whether its socket is watched for input.
     pub fn is_awaited(&self) -> bool {
         !self.sent_close && self.turn != Turn::Waits && self.held.is_none()
     }
 
+    /// Whether it has been unauthenticated for too long.
     pub fn is_late(&self, shared: &Shared) -> bool {
         let most = shared.auth_timeout;
         !most.is_zero() && self.stranger.is_some_and(|since| shared.now - since >= most)
     }
 
-    /// All that it is owed from before it was let out waits for it by now.
+    /// Ends `owed` at the bytes that wait now: the worker has sent all that was owed before it let the client
+    /// out.
     pub fn bound_owed(&mut self) {
         self.owed = self.owed.min(self.socket.as_ref().map_or(0, Channel::waiting));
     }
 
-    /// Bytes that may wait for it.
+    /// The most bytes that may wait for it.
     pub fn output_limit(&mut self, shared: &Shared) -> usize {
         if self.stranger.is_none() || self.owed == usize::MAX {
             return shared.output_limit;

@@ -1,4 +1,4 @@
-//! The packets on the pipes between the gateway and the server: docs/FORMATS.md has their one definition.
+//! Packets on the pipes between the gateway and the server. docs/FORMATS.md defines them.
 
 use crate::channel::Channel;
 use std::io::{self, ErrorKind};
@@ -6,41 +6,43 @@ use std::io::{self, ErrorKind};
 pub const DATA: u8 = 0;
 pub const OPEN: u8 = 1;
 pub const CLOSE: u8 = 2;
-/// A token is a place in its highest byte, which is a lane's or a link's, and a number in the others.
+/// An epoll token has a place in its highest byte, which is a worker's or a link's. Its other bytes are a
+/// number.
 pub const PLACE: u32 = 56;
-/// In the place of a number, the tokens of a pair of pipes.
+/// The numbers in the tokens of a pair of pipes.
 pub const REQUESTS: u64 = (1 << PLACE) - 1;
 pub const REPLIES: u64 = REQUESTS - 1;
 /// The most bytes of data in a packet.
 pub const LONGEST: usize = 1 << 20;
-/// Bytes of a packet before those that it brings.
+/// Bytes of a packet's head.
 const HEAD: usize = 13;
-/// Bytes of one read of a pipe.
+/// The most bytes of one read of a pipe.
 const READ: usize = 1 << 18;
 
+/// A packet that has arrived, or a piece of one with data.
 pub enum Frame<'a> {
-    /// The number of data, and some of its bytes: those that came.
+    /// A piece of data: the connection's number, and those bytes that have arrived.
     Data(u64, &'a [u8]),
-    /// The kind and the number of another packet, and all its bytes.
+    /// Another packet: its kind, its number, and all its bytes.
     Sign(u8, u64, &'a [u8]),
 }
 
-/// The most bytes that a packet of a kind brings, None for a kind that may not come. All but data is given whole, so it has less
-/// than a read of a pipe.
+/// The most bytes that a packet of a kind carries, None for a kind that is not allowed. A packet that is not
+/// data is given whole, so it has to be shorter than one read of a pipe.
 pub type Longest = fn(u8) -> Option<usize>;
 
-/// What came by a pipe.
+/// Cuts what arrives by a pipe into packets.
 #[derive(Default)]
 pub struct Frames {
-    /// Room for it, of which what is not taken yet is between `start` and `end`.
+    /// A buffer. Its bytes from `start` to `end` are not taken yet.
     room: Vec<u8>,
     start: usize,
     end: usize,
-    /// Whose data is coming, and how many bytes are still to come.
+    /// The number of the data that is arriving, and how many of its bytes are missing.
     coming: (u64, usize),
 }
 
-/// Puts a packet behind what waits for a pipe, or nothing of it where there is no memory for it.
+/// Adds a packet to a pipe's queue. If there is no memory for it, an error is returned and nothing is added.
 pub fn put(pipe: &mut Channel, kind: u8, number: u64, bytes: &[u8]) -> io::Result<()> {
     let mut head = [kind; HEAD];
     head[1..9].copy_from_slice(&number.to_be_bytes());
@@ -59,7 +61,8 @@ impl Frames {
         Frames { room: vec![0; READ], ..Frames::default() }
     }
 
-    /// Reads a pipe once, after `next` has given all that came before.
+    /// Reads a pipe once. Call it only after `next` has returned None. `ErrorKind::UnexpectedEof` is returned
+    /// at the end.
     pub fn read(&mut self, pipe: &Channel) -> io::Result<()> {
         match pipe.read(&mut self.room[self.end..])? {
             Some(0) => Err(ErrorKind::UnexpectedEof.into()),
@@ -70,8 +73,9 @@ impl Frames {
         }
     }
 
-    /// The next of what came. At None less than a packet is left, which is then moved to the front of the room. A packet that
-    /// may not come is InvalidData.
+    /// The next packet, or piece of data, of what was read. None if less than a packet is left, which is then
+    /// moved to the start of the buffer. `ErrorKind::InvalidData` is returned for a packet that is not
+    /// allowed.
     pub fn next(&mut self, longest: Longest) -> io::Result<Option<Frame<'_>>> {
         loop {
             let (start, came) = (self.start, self.end - self.start);
@@ -103,6 +107,7 @@ impl Frames {
         }
     }
 
+    /// Moves what is left to the start of the buffer.
     fn wait<T>(&mut self) -> Option<T> {
         self.room.copy_within(self.start..self.end, 0);
         (self.start, self.end) = (0, self.end - self.start);

@@ -1,16 +1,20 @@
-//! A lane of the server, and its clients: what comes from their sockets goes to the lane's one pipe in packets, and what comes
-//! by the other goes to them. docs/FORMATS.md says which packets there are.
+//! A worker of the server, and its clients. Bytes of their sockets go to the worker by one pipe, in packets.
+//! Packets that arrive by the other pipe go to the sockets. docs/FORMATS.md defines the packets.
 //!
-//! Each client gets a number of its own, drawn in order, which no other client of the lane ever gets. Who gets a close and has
-//! sent none answers with one. Once a close went both ways and the socket is closed the client is removed, and packets for its
-//! number are passed over. A lane passes over data that comes behind its own close. The gateway still delivers data behind its
-//! own close if the socket takes it, because a client may end its sending alone. Wakes that a lane has not read yet may be one.
+//! Each client gets a number, drawn in order, which no other client of the worker ever gets. A side that gets
+//! a CLOSE and has sent none answers with one. Once a CLOSE went in both directions and the socket is closed,
+//! the client is removed, and packets for its number are ignored.
 //!
-//! Replies are always read, and wait for their client up to a limit. Input is read in turns (`turns`) and only while little
-//! waits for the lane, so the rest waits in the sockets.
+//! A worker ignores data after its own CLOSE. The gateway still delivers data after its own CLOSE if the
+//! socket takes it, because a client may end only its sending. Several WAKE packets that a worker has not
+//! read yet may become one.
 //!
-//! A client that the lane has not let in, or has let out, is a stranger, with limits (`stranger`). Before input that breaks one
-//! the lane is asked to say when it has answered all that came before: if the client is let in by then, the input is handed over.
+//! Replies are always read, and wait for their client up to a limit. Input is read in turns (`turns`), and
+//! only while little waits for the worker. So the rest waits in the sockets.
+//!
+//! A client is unauthenticated until the worker lets it in, and after the worker lets it out. It has limits
+//! then (`stranger`). Before input beyond a limit the worker is asked to report when it has answered all that
+//! was sent before. If the client is authenticated by then, the input is sent.
 
 mod input;
 
@@ -32,14 +36,14 @@ const LET_IN: u8 = 4;
 const LET_OUT: u8 = 5;
 const NOTE: u8 = 6;
 const HOLDS: u8 = 7;
-/// The most bytes of a note.
+/// The most bytes of a note from the worker.
 const LONGEST_NOTE: usize = 4096;
-/// Bytes of a number of bytes that the lane holds.
+/// Bytes of the number that a HOLDS packet carries.
 const COUNT: usize = 8;
-/// The most bytes of a note for the lane.
+/// The most bytes of a note to the worker.
 const NOTED: usize = 64;
 
-/// The most bytes of a packet from the lane.
+/// The most bytes that a packet of this kind from the worker carries. None if it may not send the kind.
 fn longest(kind: u8) -> Option<usize> {
     match kind {
         DATA => Some(LONGEST),
@@ -50,8 +54,9 @@ fn longest(kind: u8) -> Option<usize> {
     }
 }
 
+/// A worker's two pipes, and its clients.
 pub struct Lane {
-    /// Which one it is, as the highest byte of a token.
+    /// Which worker it is, as the highest byte of its tokens.
     place: u64,
     requests: Channel,
     replies: Channel,
@@ -62,12 +67,13 @@ pub struct Lane {
     next: u64,
     /// Clients whose input waits for its turn.
     turns: Turns,
+    /// A WAKE is to be sent.
     owes_wake: bool,
-    /// A client's close could not be put.
+    /// Some client's CLOSE is not in the queue yet.
     owes_close: bool,
-    /// How many bytes the pipe of requests holds, as far as it is known.
+    /// How many bytes the pipe of requests holds, as far as this is known.
     pipe: usize,
-    /// It waits for the lane to read on, of which no event will tell.
+    /// It waits for the worker to read on, and no event will report that.
     is_blind: bool,
 }
 
@@ -96,7 +102,7 @@ impl Lane {
         !self.clients.is_empty()
     }
 
-    /// Takes a client with this address, as text. Gives it back if there is no memory for it.
+    /// Adds a client with this address, as text. Gives the socket back if there is no memory for it.
     pub fn take_client(&mut self, socket: File, address: &[u8], shared: &mut Shared) -> Result<(), File> {
         let number = self.next;
         if self.clients.try_reserve(1).is_err() || self.put(OPEN, number, address).is_err() {
@@ -109,12 +115,13 @@ impl Lane {
         Ok(())
     }
 
-    /// Puts a packet behind what waits for the lane. At Err there was no memory for it.
+    /// Adds a packet to the worker's queue. An error is returned if there is no memory for it.
     fn put(&mut self, kind: u8, number: u64, bytes: &[u8]) -> io::Result<()> {
         frame::put(&mut self.requests, kind, number, bytes)
     }
 
-    /// Sends the lane a text that is about no connection. At Err there was no memory for it.
+    /// Sends the worker a note: a text about no connection. An error is returned if there is no memory for
+    /// it.
     pub fn tell(&mut self, text: fmt::Arguments) -> io::Result<()> {
         let mut bytes = [0; NOTED];
         let mut rest = &mut bytes[..];
@@ -123,7 +130,7 @@ impl Lane {
         self.put(NOTE, 0, &bytes[..count])
     }
 
-    /// Does what an event asks for. Whether it still holds, reading and writing find out, so an old one does no harm.
+    /// Handles an event. An event may be out of date, and does no harm then: reading and writing find out.
     pub fn see(&mut self, token: u64, flags: u32, shared: &mut Shared) -> io::Result<()> {
         match token & REQUESTS {
             REQUESTS => Ok(()),
@@ -138,12 +145,12 @@ impl Lane {
         }
     }
 
-    /// Who has a number. None if it has gone, as it may have for an event that came too late.
+    /// The client with this number. None if it was removed, for example before a late event.
     fn client(&mut self, number: u64) -> Option<&mut Client> {
         self.clients.get_mut(&number)
     }
 
-    /// Counts what a client takes now, and has those events wake us that it now waits for.
+    /// Counts what a client takes now, and watches its socket for the events that it waits for now.
     fn update(&mut self, number: u64, shared: &mut Shared) {
         let Some(client) = self.client(number) else { return };
         let memory = client.memory() as u64;
@@ -154,7 +161,7 @@ impl Lane {
         }
     }
 
-    /// Does what a text of the lane says. Others than these are for later versions.
+    /// Handles a note of the worker. Other texts are for later versions, and are ignored.
     fn take_note(&mut self, text: &[u8], shared: &mut Shared) {
         let number = str::from_utf8(text).ok().and_then(|it| it.strip_prefix("synced ")?.parse().ok());
         if let Some(number) = number {
@@ -162,7 +169,8 @@ impl Lane {
         }
     }
 
-    /// The lane now holds that many bytes for a client.
+    /// Counts the bytes that the worker now holds for a client. `ErrorKind::InvalidData` is returned if they
+    /// are not given in 8 bytes.
     fn hold(&mut self, number: u64, bytes: &[u8], shared: &mut Shared) -> io::Result<()> {
         let bytes = bytes.try_into().map_err(|_| ErrorKind::InvalidData)?;
         let place = self.place;
@@ -177,12 +185,14 @@ impl Lane {
         self.clients.values().map(|it| it.taken)
     }
 
-    /// The client of those that are not closed which takes the most: how much, and its number. The newest of several.
+    /// Of the clients that are not closed, the one that takes the most of this half: how much, and its
+    /// number. If several take the same, it is the newest.
     pub fn greatest(&self, half: Half) -> Option<(u64, u64)> {
         let open = self.clients.iter().filter(|(_, it)| it.socket.is_some());
         open.map(|(number, it)| (it.taken.of(half), *number)).max()
     }
 
+    /// The worker has let a client in.
     fn let_in(&mut self, number: u64, shared: &Shared) {
         let Some(client) = self.client(number) else { return };
         client.stranger = None;
@@ -191,10 +201,11 @@ impl Lane {
         }
     }
 
+    /// The worker has let a client out again.
     fn let_out(&mut self, number: u64, shared: &mut Shared) {
         let Some(client) = self.client(number) else { return };
         client.stranger = Some(shared.now);
-        // Replies from before may come still.
+        // Replies from before may still arrive.
         client.owed = usize::MAX;
         if self.ask(number).is_err() {
             self.drop_client(number, shared);
@@ -214,7 +225,7 @@ impl Lane {
         }
     }
 
-    /// Takes no more from a client, nor what is held, and tells the lane so.
+    /// Takes no more input of a client, drops what is held of it, and sends the worker a CLOSE.
     fn end_input(&mut self, number: u64, shared: &mut Shared) {
         let Some(client) = self.clients.get_mut(&number) else { return };
         client.held = None;
@@ -225,18 +236,19 @@ impl Lane {
         }
     }
 
-    /// Takes no more from any client.
+    /// Takes no more input of any client.
     pub fn end_inputs(&mut self, shared: &mut Shared) {
         for client in self.clients.values_mut() {
             client.held = None;
             client.owes_close |= !mem::replace(&mut client.sent_close, true);
-            // One whose events can't be changed is closed with all others, a second later.
+            // If its events can't be changed, it is closed with all others, a second later.
             let _ = client.socket.as_mut().map(|it| it.watch(&shared.epoll, false, false));
         }
         self.owes_close = true;
     }
 
-    /// Puts the closes that are owed, and removes the clients that these were the last ends of.
+    /// Adds the CLOSE packets that are owed to the queue, and removes the clients for which they were the
+    /// last step.
     fn put_closes(&mut self, shared: &mut Shared) {
         if !mem::take(&mut self.owes_close) {
             return;
@@ -250,7 +262,8 @@ impl Lane {
         shared.clients -= count - self.clients.len();
     }
 
-    /// Closes a client's socket, whatever is owed. What the lane holds for it the lane is about to free.
+    /// Closes a client's socket, whatever it is owed. The worker is about to free what it holds for the
+    /// client.
     pub fn drop_client(&mut self, number: u64, shared: &mut Shared) {
         let place = self.place;
         let Some(client) = self.client(number) else { return };
@@ -261,7 +274,7 @@ impl Lane {
         self.free_if_over(number, shared);
     }
 
-    /// Removes a client whose last end has come.
+    /// Removes a client if it is over.
     fn free_if_over(&mut self, number: u64, shared: &mut Shared) {
         if self.client(number).is_some_and(|it| it.is_over()) {
             self.clients.remove(&number);
@@ -269,18 +282,19 @@ impl Lane {
         }
     }
 
-    /// Closes a client's socket where the lane has closed it and all is out.
+    /// Closes a client's socket if the worker has closed the connection and all replies are written.
     fn close_if_out(&mut self, number: u64, shared: &mut Shared) {
         let Some(client) = self.client(number) else { return };
         if !client.got_close || client.socket.as_ref().is_some_and(|it| it.waiting() > 0) {
             return self.update(number, shared);
         }
-        // What is not read the system would answer by a reset, which takes replies back that the client has not read.
+        // If input is unread, the system closes by a reset. A reset discards replies that the client has not
+        // read.
         let _ = client.socket.as_ref().map(|it| it.read(&mut shared.room));
         self.drop_client(number, shared);
     }
 
-    /// Reads the replies once, and does what its packets say.
+    /// Reads the pipe of replies once, and handles its packets.
     fn take_replies(&mut self, shared: &mut Shared) -> io::Result<()> {
         let mut frames = mem::take(&mut self.frames);
         frames.read(&self.replies)?;
@@ -300,7 +314,7 @@ impl Lane {
         Ok(())
     }
 
-    /// Gives a client what the lane sent it.
+    /// Sends a client bytes of the worker.
     fn send(&mut self, number: u64, bytes: &[u8], shared: &mut Shared) {
         let Some(client) = self.client(number).filter(|it| !it.got_close) else { return };
         client.active = shared.now;
@@ -311,7 +325,7 @@ impl Lane {
         }
     }
 
-    /// Does what a lane's close asks for.
+    /// Handles a CLOSE of the worker.
     fn end_output(&mut self, number: u64, shared: &mut Shared) {
         let place = self.place;
         let Some(client) = self.client(number) else { return };
@@ -323,12 +337,12 @@ impl Lane {
         }
     }
 
-    /// Closes who was silent for `idle`, unless it is zero, and asks the lane about those who were strangers for too long: it may
-    /// have let them in.
+    /// Closes clients that were silent for `idle`, unless it is zero. Asks the worker about clients that were
+    /// unauthenticated for too long, because it may have let them in.
     pub fn close_late(&mut self, idle: Duration, shared: &mut Shared) {
         let mut numbers = Vec::new();
         if numbers.try_reserve_exact(self.clients.len()).is_err() {
-            // Who is late is late at the next sweep too.
+            // A client that is late is still late at the next sweep.
             return;
         }
         numbers.extend(self.clients.keys());
@@ -338,7 +352,7 @@ impl Lane {
             if !idle.is_zero() && shared.now - client.active >= idle {
                 self.drop_client(number, shared);
             } else if is_late {
-                // If there is no memory for it, it is asked at the next sweep.
+                // If there is no memory for the note, the worker is asked at the next sweep.
                 let _ = self.ask(number);
             }
         }

@@ -1,14 +1,16 @@
-//! The link of a device of the server to the far store: what the device sends in packets goes to a connection to the store, and
-//! what the store sends comes back in packets. docs/FORMATS.md says which packets there are.
+//! The link of a device of the server to the far store. Packets of the device go to a connection to the store
+//! as bytes, and bytes of the store go back in packets. docs/FORMATS.md defines the packets.
 //!
-//! A device has one call in flight: it sends data, and then a wait before each packet that it takes of the reply. Data and waits
-//! of another number than the last open's are passed over, as are those of a connection that was closed.
+//! A device has one call in flight. It sends data, and then a WAIT before each packet that it takes of the
+//! reply. DATA and WAIT are ignored if their number is not that of the last OPEN, or if the connection was
+//! closed.
 //!
-//! An open takes the link's spare, a connection on which the store has answered already. Where there is none it gets a close, so
-//! that no call waits for a store that has gone. A new spare is made beside the loop (`store`).
+//! An OPEN takes the link's spare, a connection on which the store has already answered. If there is none,
+//! the device gets a CLOSE, so that no call waits for a store that has gone. A new spare is made by another
+//! thread (`store`).
 //!
-//! A connection is closed, too, where for too long no byte moves while the device waits or bytes wait for the store. An idle one
-//! may stay.
+//! A connection is also closed if no byte moves for too long while the device waits, or while bytes wait for
+//! the store. An idle connection may stay.
 
 use crate::channel::Channel;
 use crate::frame::{self, Frame, Frames, CLOSE, DATA, LONGEST, OPEN, PLACE, REPLIES, REQUESTS};
@@ -20,17 +22,19 @@ use std::mem;
 use std::time::{Duration, Instant};
 
 const WAIT: u8 = 3;
-/// Bytes that wait for the store before no more is read from the device, and the other way round.
+/// If this many bytes wait for the store, no more is read from the device. The same holds in the other
+/// direction.
 const LIMIT: usize = 1 << 16;
-/// Bytes of memory that are kept for bytes that will wait.
+/// Bytes of memory that a queue does not give back.
 const KEPT: usize = 1 << 18;
-/// How long after an attempt in vain none is made.
+/// The least time from one attempt to make a spare to the next one, and after an attempt failed.
 const PAUSE: Duration = Duration::from_secs(1);
-/// In the place of a number, the tokens of the connection and of the spare.
+/// The number in the token of the connection.
 const SOCKET: u64 = 0;
+/// The number in the token of the spare.
 const SPARE: u64 = 1;
 
-/// The most bytes of a packet from the device.
+/// The most bytes that a packet of this kind from the device carries. None if it may not send the kind.
 fn longest(kind: u8) -> Option<usize> {
     match kind {
         DATA => Some(LONGEST),
@@ -39,27 +43,30 @@ fn longest(kind: u8) -> Option<usize> {
     }
 }
 
+/// A device's two pipes, and its connections to the store.
 pub struct Link {
-    /// Which one it is, as the highest byte of a token.
+    /// Which link it is, as the highest byte of its tokens.
     place: u64,
     requests: Channel,
     replies: Channel,
     frames: Frames,
-    /// The number of the last open.
+    /// The number of the last OPEN.
     number: u64,
-    /// None once it is closed.
+    /// None once the connection is closed.
     socket: Option<Channel>,
-    /// The device was not told yet that it is closed.
+    /// The device is owed a CLOSE for this connection.
     owes_close: bool,
-    /// Packets that the device waits for and those that it got, since it last began to send data.
+    /// Packets that the device waits for, counted since it last began to send data.
     awaited: usize,
+    /// Packets that it was sent, counted since then.
     given: usize,
-    /// When a byte last moved on the connection, or began to be waited for.
+    /// When a byte last moved on the connection, or a wait for one began.
     moved: Instant,
+    /// A connection for the next OPEN.
     spare: Option<File>,
     /// A spare is being made.
     is_greeting: bool,
-    /// When the next may be made.
+    /// When the next spare may be made.
     next: Instant,
 }
 
@@ -87,19 +94,20 @@ impl Link {
         Ok(link)
     }
 
-    /// Does what an event asks for. Whether it still holds, reading and writing find out, so an old one does no harm.
+    /// Handles an event. An event may be out of date, and does no harm then: reading and writing find out.
     pub fn see(&mut self, token: u64, flags: u32, shared: &mut Shared) -> io::Result<()> {
         match token & REQUESTS {
             REQUESTS => self.take_requests(shared)?,
             SPARE => self.look_at_spare(),
             SOCKET if flags != OUTPUT => self.read_store(shared),
-            // What waits is written when all is handed over.
+            // `hand_over` writes what waits.
             _ => {}
         }
         Ok(())
     }
 
-    /// Hands over to the store and to the device what came for them. A store may be silent for so long.
+    /// Writes what waits for the store and for the device. Closes the connection if something is owed and no
+    /// byte has moved for `patience`. An error is returned if the device's pipe fails.
     pub fn hand_over(&mut self, patience: Duration, shared: &mut Shared) -> io::Result<()> {
         self.flush_socket(shared.now);
         let is_owed = self.awaited > self.given || self.waiting() > 0;
@@ -118,7 +126,7 @@ impl Link {
         self.requests.watch(&shared.epoll, has_room, false)
     }
 
-    /// Whether a spare is to be made now.
+    /// Whether to make a spare now. If so, this is noted.
     pub fn wants_spare(&mut self, now: Instant) -> bool {
         let wants = self.spare.is_none() && !self.is_greeting && now >= self.next;
         if wants {
@@ -128,7 +136,7 @@ impl Link {
         wants
     }
 
-    /// Takes the spare that was made, None if none could be.
+    /// Takes the spare that was made. None if it could not be made.
     pub fn take_spare(&mut self, made: Option<File>, shared: &Shared) {
         let is_watched = |file: &File| shared.epoll.watch(file, 0, INPUT, self.place | SPARE).is_ok();
         self.spare = made.filter(is_watched);
@@ -138,7 +146,7 @@ impl Link {
         }
     }
 
-    /// Gives up a spare that was closed, or on which something came that nobody asked for.
+    /// Gives up a spare that was closed, or on which bytes arrived that nobody asked for.
     fn look_at_spare(&mut self) {
         let is_quiet = |mut it: &File| it.read(&mut [0]).is_err_and(|fault| fault.kind() == ErrorKind::WouldBlock);
         self.spare = self.spare.take().filter(is_quiet);
@@ -149,7 +157,7 @@ impl Link {
         self.socket.as_ref().map_or(0, Channel::waiting)
     }
 
-    /// Reads the requests once, and does what its packets say.
+    /// Reads the pipe of requests once, and handles its packets.
     fn take_requests(&mut self, shared: &mut Shared) -> io::Result<()> {
         let mut frames = mem::take(&mut self.frames);
         frames.read(&self.requests)?;
@@ -168,6 +176,7 @@ impl Link {
         Ok(())
     }
 
+    /// Handles an OPEN: the last connection is over, and the spare takes its place.
     fn open(&mut self, number: u64, shared: &Shared) -> io::Result<()> {
         (self.number, self.socket, self.owes_close) = (number, None, false);
         (self.awaited, self.given, self.moved) = (0, 0, shared.now);
@@ -182,16 +191,16 @@ impl Link {
         Ok(())
     }
 
-    /// Ends the connection, which the device is told once there is memory for that.
+    /// Ends the connection. The device gets a CLOSE once there is memory for it.
     fn close(&mut self) {
         (self.socket, self.owes_close) = (None, true);
     }
 
-    /// Puts bytes of the device behind those that wait for the store.
+    /// Adds bytes of the device to those that wait for the store.
     fn send(&mut self, bytes: &[u8], now: Instant) {
         let Some(socket) = &mut self.socket else { return };
         if self.awaited > 0 {
-            // It is a new call: what was given before is taken.
+            // It is a new call: the device has taken what it was given before.
             (self.awaited, self.given) = (0, 0);
         }
         if socket.waiting() == 0 {

@@ -1,4 +1,4 @@
-//! Where clients come from: a port of TCP, or a Unix socket.
+//! Accepts clients: at a port of TCP, or at a Unix socket.
 
 use crate::system;
 use std::fs::{self, File};
@@ -13,13 +13,14 @@ use std::path::{Path, PathBuf};
 /// The most bytes of a client's address.
 const ADDRESS: usize = 64;
 
+/// A socket at which clients connect.
 pub struct Listener {
     pub file: OwnedFd,
-    /// Of a Unix socket.
+    /// The path of a Unix socket. None for TCP.
     pub path: Option<PathBuf>,
 }
 
-/// A client's address as text, cut where it is longer.
+/// A client's address as text, cut if it is longer than 64 bytes.
 pub struct Address(Cursor<[u8; ADDRESS]>);
 
 impl Address {
@@ -27,10 +28,10 @@ impl Address {
         &self.0.get_ref()[..self.0.position() as usize]
     }
 
-    /// At Err it is cut.
+    /// At an error the address is cut.
     fn put(&mut self, socket: &TcpStream, path: Option<&Path>) -> io::Result<()> {
         let Some(path) = path else {
-            // Built again without the scope of IPv6. A client that has gone has none.
+            // The address is built again without the scope of IPv6. A client that has gone has none.
             return match socket.peer_addr() {
                 Ok(it) => write!(self.0, "{}", SocketAddr::new(it.ip(), it.port())),
                 Err(_) => self.0.write_all(b"?:0"),
@@ -42,7 +43,8 @@ impl Address {
 }
 
 impl Listener {
-    /// A new connection, and the client's address as CLIENT LIST of redis-server shows it. Allocates nothing.
+    /// Accepts a connection. Returns it with the client's address as CLIENT LIST of redis-server shows it.
+    /// Allocates nothing.
     pub fn accept(&self) -> io::Result<(File, Address)> {
         let socket = TcpStream::from(OwnedFd::from(system::accept(&self.file)?));
         let mut address = Address(Cursor::new([0; ADDRESS]));
@@ -51,9 +53,9 @@ impl Listener {
     }
 }
 
-/// Listens at a path to which nobody but the owner may connect.
+/// Listens at a path. Only the owner may connect there.
 pub fn listen_at(path: &Path) -> io::Result<UnixListener> {
-    // A socket that nobody listens on is left of a front that was killed.
+    // A socket at which nobody listens was left by a gateway that was killed.
     let is_left = fs::metadata(path).is_ok_and(|it| it.file_type().is_socket())
         && UnixStream::connect(path).is_err_and(|it| it.kind() == ErrorKind::ConnectionRefused);
     if is_left {

@@ -1,5 +1,8 @@
-//! Joins TCP connections and a Unix socket to the pipes of a server's lanes (`lane`), and the pipes of its devices to a far store
-//! (`link`), on one thread, which only ever waits in `Epoll::wait`; only new connections to the store are made beside it.
+//! The gateway. It joins TCP connections and a Unix socket to the pipes of the server's workers (`lane`), and
+//! the pipes of the server's devices to a far store (`link`).
+//!
+//! One thread does this. It waits in `Epoll::wait`, and otherwise only for 10 ms when the system refuses a
+//! connection. Other threads only make new connections to the store (`store`).
 #![deny(unsafe_code)]
 
 mod channel;
@@ -39,21 +42,23 @@ use system::{Epoll, Event, INPUT};
 use words::{Options, USAGE};
 
 const REFUSAL: &[u8] = b"-ERR max number of clients reached\r\n";
-/// How long replies that are owed are waited for at the end.
+/// How long pending replies are waited for at the end.
 const END: Duration = Duration::from_secs(1);
-/// How often it is looked for who was silent too long, and what is resident.
+/// How often silent clients are looked for, and resident memory is read.
 const SWEEP: Duration = Duration::from_secs(1);
-/// How often a pipe is looked at of which no event tells.
+/// How often a pipe is looked at if no event will report that it has room.
 const LOOK: Duration = Duration::from_millis(1);
-/// How long is waited where the server has not opened a pipe, or the system has no room for a connection.
+/// How long to wait if the server has not opened a pipe yet, or if the system has no room for a connection.
 const PAUSE: Duration = Duration::from_millis(10);
-/// Files beside the connections, the two of each lane, and those of each link: its two, its connection and its spare.
+/// Files besides the connections, the two of each worker, and those of each link.
 const FILES: usize = 16;
+/// Files of each link: its two pipes, its connection and its spare.
 const LINK_FILES: usize = 4;
 const EVENTS: usize = 256;
 /// ENXIO: nobody has opened a pipe for reading.
 const NO_READER: i32 = 6;
-/// Tokens of what is no lane's and no link's, whose place is the highest: the signals, and the listeners and the store below.
+/// Tokens that belong to no worker and no link. Their place is the highest: the signals, and below them the
+/// listeners and the store.
 const SIGNALS: u64 = u64::MAX;
 const LISTENERS: u64 = SIGNALS - 2;
 const STORE: u64 = LISTENERS - 1;
@@ -78,7 +83,7 @@ fn seconds(count: u32) -> Duration {
     Duration::from_secs(count.into())
 }
 
-/// Says of what a fault is.
+/// Says in a fault's text what it is about.
 fn of<T>(what: impl Display, result: io::Result<T>) -> Result<T, String> {
     result.map_err(|fault| format!("{what}: {fault}"))
 }
@@ -124,7 +129,8 @@ fn far_store(options: &Options) -> Result<Option<Store>, String> {
     of(format_args!("far store {}", address.to_string_lossy()), store).map(Some)
 }
 
-/// How many connections there may be, since each is a file, and takes memory. Who comes beyond that is told so.
+/// How many connections there may be, because each is a file and takes memory. Standard error gets a line if
+/// the limit of open files makes them fewer.
 fn room_for(options: &Options) -> Result<usize, String> {
     let files = of("files", system::raise_files())?;
     let room = files.saturating_sub(FILES + 2 * options.lanes.len() + LINK_FILES * options.far_links.len());
@@ -134,25 +140,27 @@ fn room_for(options: &Options) -> Result<usize, String> {
     Ok(room.min(options.connections).min(options.clients_memory / 2 / BASE))
 }
 
+/// All that the main thread works with.
 struct Front {
     signals: File,
     listeners: Vec<Listener>,
     lanes: Vec<Lane>,
     store: Option<Store>,
-    /// Their tokens come behind those of the lanes.
+    /// Their tokens follow those of the workers.
     links: Vec<Link>,
     shared: Shared,
     connections: usize,
-    /// Whose turn it is to get a connection.
+    /// Which worker gets the next connection.
     next: usize,
     /// How many clients were refused since the start.
     refused: u64,
-    /// Bytes of both programs.
+    /// Resident bytes of both programs.
     resident: u64,
     figures: [Figure; 4],
 }
 
 impl Front {
+    /// Reaches the store, opens the pipes, reports that it is ready, and serves until a signal arrives.
     fn run(&mut self, options: &Options, ready: &str) -> Result<(), String> {
         let Some(spares) = self.reach_store(options)? else { return Ok(()) };
         if !self.open_pipes(options, spares)? {
@@ -165,7 +173,7 @@ impl Front {
         if let Some(store) = &self.store {
             of("events", self.shared.epoll.watch(&store.wake, 0, INPUT, STORE))?;
         }
-        // Who doesn't hear it may be served all the same.
+        // If nobody reads this line, clients may be served all the same.
         let _ = writeln!(io::stdout(), "{ready}").and_then(|()| io::stdout().flush());
         let (idle, resident) = (seconds(options.timeout), Resident::new(options.server_pid));
         let mut swept = Instant::now();
@@ -181,7 +189,7 @@ impl Front {
         Ok(())
     }
 
-    /// How long events may be waited for.
+    /// How long to wait for events.
     fn patience(&self) -> Duration {
         if self.lanes.iter().any(Lane::is_blind) {
             LOOK
@@ -190,7 +198,7 @@ impl Front {
         }
     }
 
-    /// Makes a first connection to the store for each link. None where a signal came first.
+    /// Makes a first connection to the store for each link. None if a signal arrived first.
     fn reach_store(&self, options: &Options) -> Result<Option<Vec<File>>, String> {
         let Some(store) = &self.store else { return Ok(Some(Vec::new())) };
         of("events", self.shared.epoll.watch(&store.wake, 0, INPUT, STORE))?;
@@ -211,14 +219,14 @@ impl Front {
                 spares[link] = Some(made.map_err(|fault| store.fault(fault))?);
             }
         }
-        // Its last byte may be still to come.
+        // Its last byte may still arrive.
         of("events", self.shared.epoll.watch(&store.wake, INPUT, 0, STORE))?;
         Ok(Some(spares.into_iter().flatten().collect()))
     }
 
-    /// Opens the pipes, in whatever order the server does. False where a signal came first.
+    /// Opens the pipes, in whatever order the server opens them. False if a signal arrived first.
     fn open_pipes(&mut self, options: &Options, spares: Vec<File>) -> Result<bool, String> {
-        // By which input comes, and by which output goes: a lane's requests are output, a device's are input.
+        // Pairs of a pipe for input and one for output. A worker's requests are output, a device's are input.
         let lanes = options.lanes.iter().map(|(requests, replies)| (replies, requests));
         let links = options.far_links.iter().map(|(requests, replies)| (requests, replies));
         let paths: Vec<_> = lanes.chain(links).collect();
@@ -240,7 +248,7 @@ impl Front {
                     opened => *file = Some(of(path.display(), opened)?),
                 }
             }
-            // Nothing but a signal can come yet.
+            // Only a signal can arrive yet.
             if of("events", self.shared.epoll.wait(&mut [Event::default()], PAUSE))? > 0 {
                 return Ok(false);
             }
@@ -255,7 +263,7 @@ impl Front {
         Ok(true)
     }
 
-    /// Waits for events, so long at most, and does what they ask for. True where a signal came.
+    /// Waits for events, for `patience` at most, and handles them. True if a signal arrived.
     fn turn(&mut self, patience: Duration) -> Result<bool, String> {
         let mut events = [Event::default(); EVENTS];
         let count = of("events", self.shared.epoll.wait(&mut events, patience))?;
@@ -274,6 +282,7 @@ impl Front {
         Ok(ends)
     }
 
+    /// Handles an event of a worker or of a link.
     fn see(&mut self, place: usize, token: u64, flags: u32) -> Result<(), String> {
         let shared = &mut self.shared;
         match place.checked_sub(self.lanes.len()) {
@@ -286,12 +295,12 @@ impl Front {
         }
     }
 
-    /// Hands over to the lanes and by the links what came for them.
+    /// Sends to the workers, the devices and the store what is there for them.
     fn hand_over(&mut self) -> Result<(), String> {
         self.tell_figures();
         self.hand_over_to_lanes()?;
         self.shared.wakes = false;
-        // What is held of a client counts too, and a lane is to be told at once who was closed.
+        // Input that is held of a client counts too, and its worker has to learn at once that it was closed.
         while self.close_greatest() {
             self.hand_over_to_lanes()?;
         }
@@ -312,7 +321,8 @@ impl Front {
         Ok(())
     }
 
-    /// Closes the clients that take the most, while all together take more than they may. Says whether there were any.
+    /// Closes the clients that take the most, while all together take more than they may. Returns whether
+    /// there were any.
     fn close_greatest(&mut self) -> bool {
         let closed = self.shared.memory.closed;
         while let Some(half) = self.shared.memory.above() {
@@ -325,7 +335,7 @@ impl Front {
         self.shared.memory.closed > closed
     }
 
-    /// Reports to the first lane those figures that have changed.
+    /// Reports to the first worker the figures that have changed.
     fn tell_figures(&mut self) {
         let (memory, now) = (&self.shared.memory, self.shared.now);
         let values = [self.refused, memory.closed, memory.sum(), self.resident];
@@ -343,6 +353,8 @@ impl Front {
         }
     }
 
+    /// Accepts a client for the next worker. Refuses it if there are too many, or if there is no memory for
+    /// it.
     fn take_client(&mut self, listener: usize) {
         match self.listeners[listener].accept() {
             Ok((socket, address)) => {
@@ -362,13 +374,15 @@ impl Front {
         self.close_greatest();
     }
 
+    /// Refuses a client by an error.
     fn refuse(&mut self, mut socket: File) {
         // A new socket has room for it.
         let _ = socket.write(REFUSAL);
         self.refused += 1;
     }
 
-    /// Takes no new input, and waits until nothing is owed, a second at most. A lane that fails by now owes nothing.
+    /// Takes no more input, and waits until no reply is owed, a second at most. If a worker fails now, it
+    /// owes nothing.
     fn stop(&mut self) {
         self.listeners.clear();
         self.lanes.iter_mut().for_each(|it| it.end_inputs(&mut self.shared));

@@ -1,15 +1,18 @@
-//! The memory that clients may take: half of it here, and half in the lanes, which say what they hold for each client.
+//! The memory that clients may take: half of it in the gateway, and half in the workers, which report what
+//! they hold for each client.
 //!
-//! A limit for each client alone bounds no sum: many clients below it may take all memory. And to close whoever asks for more once
-//! the sum is reached would close those who take little. So the client that takes the most is closed, until the sum is within its
-//! half again. Sums are kept at each change; the greatest is looked for only then.
+//! A limit for each client bounds no sum, because many clients below it may take all memory. Closing the
+//! client that asks for more at the limit of the sum would hit clients that take little. So the client that
+//! takes the most is closed, until the sum is within its half again. Sums are kept at each change. The
+//! greatest client is looked for only if a sum is too great.
 //!
-//! Many clients that send long requests at once would be above it soon, and none of them is to blame. So while the lanes hold much
-//! one client at a time goes on with a request of which they hold a part, and the others wait.
+//! Many clients that send long requests at once would exceed the sum soon, and none of them is to blame. So
+//! while the workers hold much, one client at a time goes on with a request of which they hold a long part.
+//! The others wait.
 
 use std::time::{Duration, Instant};
 
-/// More than a lane can hold for a client, so that no sum of such numbers is too great.
+/// More than a worker can hold for a client, and so little that no sum overflows.
 const MOST: u64 = 1 << 40;
 
 /// Where memory is taken.
@@ -26,21 +29,23 @@ pub struct Taken {
     lanes: u64,
 }
 
-/// A client: its lane, and its number.
+/// A client: the place of its worker, and its number.
 pub type Who = (u64, u64);
 
-/// Bytes that the lanes may hold for a client that goes on at any time.
+/// If the workers hold no more bytes than this for a client, it goes on at any time.
 const SMALL: u64 = 1 << 14;
 /// How long others wait for a client that sends no more of its request.
 const PATIENCE: Duration = Duration::from_secs(1);
 
+/// Counts what all clients take.
 pub struct Memory {
     /// Bytes that may be taken in each half.
     most: u64,
+    /// Bytes that are taken in each half.
     sum: Taken,
-    /// Who alone goes on with a long request, and since when it has sent nothing.
+    /// The one client that goes on with a long request, and since when it has sent nothing.
     first: Option<(Who, Instant)>,
-    /// How many clients were closed since they took the most.
+    /// How many clients were closed because they took the most.
     pub closed: u64,
 }
 
@@ -65,7 +70,7 @@ impl Memory {
         Memory { most: most as u64 / 2, sum: Taken::default(), first: None, closed: 0 }
     }
 
-    /// Replaces what is counted of a client by that many bytes.
+    /// Replaces the bytes that are counted for a client in this half.
     pub fn count(&mut self, client: &mut Taken, half: Half, bytes: u64) {
         let bytes = bytes.min(MOST);
         let (sum, before) = (self.sum.of_mut(half), client.of_mut(half));
@@ -73,7 +78,8 @@ impl Memory {
         *before = bytes;
     }
 
-    /// The lanes hold that many bytes for a client now. Whoever ended a request is no longer the one that alone goes on.
+    /// The workers hold this many bytes for a client now. If these are fewer than before, its request has
+    /// ended, and another client may go on.
     pub fn hold(&mut self, who: Who, client: &mut Taken, bytes: u64) {
         if bytes < client.lanes {
             self.pass(who);
@@ -81,12 +87,13 @@ impl Memory {
         self.count(client, Half::Lanes, bytes);
     }
 
-    /// A client no longer goes on alone.
+    /// This client is no longer the one that goes on.
     pub fn pass(&mut self, who: Who) {
         self.first = self.first.filter(|(first, _)| *first != who);
     }
 
-    /// Whether input of a client may be taken now. If the lanes hold much, that of only one with a long request is.
+    /// Whether input of a client may be taken now. If the workers hold more than a quarter of their half,
+    /// only one client with a long request goes on.
     pub fn may_go_on(&mut self, who: Who, client: Taken, now: Instant) -> bool {
         if client.lanes <= SMALL || self.sum.lanes <= self.most / 4 {
             return true;
@@ -98,7 +105,7 @@ impl Memory {
         goes
     }
 
-    /// A half of which more is taken than may be.
+    /// A half in which more is taken than may be. None if there is none.
     pub fn above(&self) -> Option<Half> {
         [Half::Gateway, Half::Lanes].into_iter().find(|half| self.sum.of(*half) > self.most)
     }

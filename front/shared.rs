@@ -1,4 +1,4 @@
-//! What all lanes and links share.
+//! What all workers and links of the gateway share.
 
 use crate::memory::Memory;
 use crate::system::Epoll;
@@ -6,23 +6,24 @@ use crate::turns::ALONE;
 use crate::words::Options;
 use std::time::{Duration, Instant};
 
+/// The one value of this kind, which the main thread passes to each of its parts.
 pub struct Shared {
     pub epoll: Epoll,
-    /// Bytes that may wait for a client.
+    /// The most bytes that may wait for a client.
     pub output_limit: usize,
-    /// Whether a client that was let in may be let out again, as the server asks for a password.
+    /// Whether the server asks for a password. If so, a client that was let in may be let out again.
     pub is_guarded: bool,
-    /// How long a client may be a stranger, zero for ever.
+    /// How long a client may be unauthenticated; zero for ever.
     pub auth_timeout: Duration,
-    /// Clients of all lanes.
+    /// How many clients all workers have.
     pub clients: usize,
     /// What they take.
     pub memory: Memory,
-    /// When the last events came.
+    /// When the last events arrived.
     pub now: Instant,
-    /// Every lane is to be woken.
+    /// Every worker is to get a WAKE.
     pub wakes: bool,
-    /// Room for what came by a socket.
+    /// A buffer for what is read from a socket.
     pub room: Vec<u8>,
 }
 

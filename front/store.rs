@@ -1,7 +1,10 @@
-//! The far store, and connections to it. The loop may wait for nothing, so a thread for each link makes its connections: it
-//! connects, logs in, sees that the store answers, leaves the connection where the loop finds it, and wakes the loop.
+//! The far store, and connections to it.
 //!
-//! The threads are there from the start, and allocate nothing: a thread that the system has no memory for would end the process.
+//! The main thread may not wait for a store. So each link has a thread that makes its connections. It
+//! connects, logs in, checks that the store answers, leaves the connection for the main thread, and wakes it.
+//!
+//! These threads are started once, and allocate nothing later. A thread for which the system has no memory
+//! would end the process.
 
 use std::ffi::{OsStr, OsString};
 use std::fmt::{self, Display, Formatter};
@@ -16,64 +19,70 @@ use std::sync::{Arc, Condvar, Mutex, MutexGuard, PoisonError};
 use std::time::{Duration, Instant};
 use std::{mem, thread};
 
-/// The most bytes that are read of a password's file.
+/// The most bytes of a password file that are read.
 const PASSWORD: u64 = 4096;
-/// The most bytes that are read of a reply's line.
+/// The most bytes of a reply's line that are read.
 const LINE: usize = 256;
 const PING: &[u8] = b"*1\r\n$4\r\nPING\r\n";
 
+/// The far store, and the threads that connect to it.
 pub struct Store {
     name: OsString,
     greeter: Arc<Greeter>,
-    /// It has input once a connection was made, or could not be.
+    /// It has input after a connection was made, or could not be made.
     pub wake: UnixStream,
 }
 
-/// For which link a connection was to be, and whether there is one.
+/// A link, and the connection that was made for it, or why there is none.
 pub type Greeted = (usize, Result<File, Fault>);
 
 /// Why there is no connection.
 pub enum Fault {
     System(io::Error),
+    /// AUTH was replied `-WRONGPASS` or `-ERR`.
     RefusesPassword,
+    /// A command was replied `-NOAUTH`.
     AsksForPassword,
+    /// The store has closed the connection.
     Ends,
+    /// The store replied another line.
     Replies(Line),
 }
 
-/// A reply's line, as far as it was read.
+/// The line of a reply, as far as it was read.
 pub struct Line {
     bytes: [u8; LINE],
     length: usize,
 }
 
-/// What a link's thread is asked for.
+/// What a link's thread was asked for, and what it has done.
 enum Task {
     None,
     Asked,
     Done(Result<File, Fault>),
 }
 
-/// What the threads have.
+/// What the threads share.
 struct Greeter {
     address: Address,
-    /// AUTH with the password, if there is one.
+    /// The AUTH command with the password, if there is one.
     login: Option<Vec<u8>>,
     patience: Duration,
-    /// By links.
+    /// The task of each link.
     tasks: Mutex<Vec<Task>>,
-    /// A task was asked for.
+    /// Notified when a connection is asked for.
     asked: Condvar,
     wake: UnixStream,
 }
 
 enum Address {
-    /// All that a name stood for at the start.
+    /// All addresses that the name had at the start.
     Internet(Vec<SocketAddr>),
     Unix(PathBuf),
 }
 
-/// The first line of a file, without its LF and a CR before that.
+/// The password: the first line of a file, without its LF and a CR before it. An error is returned if the
+/// file can't be read, or if the line is empty.
 pub fn password(path: &Path) -> io::Result<Vec<u8>> {
     let mut bytes = Vec::new();
     File::open(path)?.take(PASSWORD).read_to_end(&mut bytes)?;
@@ -86,7 +95,9 @@ pub fn password(path: &Path) -> io::Result<Vec<u8>> {
 }
 
 impl Store {
-    /// The store at HOST:PORT or at the path of a Unix socket, which may be silent for so long, and the threads of that many links.
+    /// The store at `name`, that is `HOST:PORT` or the path of a Unix socket, and the threads of this many
+    /// links. The store may be silent for `patience`. An error is returned if the name has no address, or if
+    /// a thread can't be started.
     pub fn new(name: &OsStr, password: Option<Vec<u8>>, patience: Duration, links: usize) -> io::Result<Store> {
         let address = match name.as_bytes() {
             [b'/', ..] => Address::Unix(name.into()),
@@ -107,25 +118,26 @@ impl Store {
         Ok(Store { name: name.into(), greeter, wake })
     }
 
+    /// How long the store may be silent.
     pub fn patience(&self) -> Duration {
         self.greeter.patience
     }
 
-    /// Has a link's thread make a connection.
+    /// Asks a link's thread for a connection.
     pub fn greet(&self, link: usize) {
         self.greeter.tasks()[link] = Task::Asked;
         self.greeter.asked.notify_all();
     }
 
-    /// What the threads have done.
+    /// The connections that the threads have made since the last call, and those that they could not make.
     pub fn greeted(&self) -> impl Iterator<Item = Greeted> + '_ {
-        // First, so that what comes later wakes again.
+        // This is read first, so that a later connection wakes the main thread again.
         let _ = (&self.wake).read(&mut [0; LINE]);
         let count = self.greeter.tasks().len();
         (0..count).filter_map(|link| self.greeter.tasks()[link].take().map(|made| (link, made)))
     }
 
-    /// Says that there is no connection, and why.
+    /// The text that there is no connection, and why.
     pub fn fault(&self, fault: Fault) -> String {
         let why = match fault {
             Fault::System(fault) if matches!(fault.kind(), ErrorKind::WouldBlock | ErrorKind::TimedOut) => {
@@ -138,7 +150,7 @@ impl Store {
 }
 
 impl Task {
-    /// What was done.
+    /// The result, if the thread is done.
     fn take(&mut self) -> Option<Result<File, Fault>> {
         match mem::replace(self, Task::None) {
             Task::Done(made) => Some(made),
@@ -155,19 +167,19 @@ impl Greeter {
         self.tasks.lock().unwrap_or_else(PoisonError::into_inner)
     }
 
-    /// Makes connections for a link whenever one is asked for.
+    /// The thread of a link: makes a connection whenever one is asked for.
     fn run(&self, link: usize) {
         loop {
             let is_idle = |tasks: &mut Vec<Task>| !matches!(tasks[link], Task::Asked);
             drop(self.asked.wait_while(self.tasks(), is_idle).unwrap_or_else(PoisonError::into_inner));
             let made = self.connect();
             self.tasks()[link] = Task::Done(made);
-            // It does not fail while there is a loop.
+            // This does not fail while the main thread runs.
             let _ = (&self.wake).write(&[0]);
         }
     }
 
-    /// A connection that is logged in, and on which nothing is owed.
+    /// Makes a connection that is logged in, and on which no reply is pending.
     fn connect(&self) -> Result<File, Fault> {
         let end = Instant::now() + self.patience;
         let mut socket = self.open()?;
@@ -188,7 +200,7 @@ impl Greeter {
 
     fn open(&self) -> io::Result<TcpStream> {
         let addresses = match &self.address {
-            // What std calls a TCP stream does all that is asked of it here with a Unix socket too.
+            // A `TcpStream` of std that holds a Unix socket does all that is needed here.
             Address::Unix(path) => return Ok(OwnedFd::from(UnixStream::connect(path)?).into()),
             Address::Internet(addresses) => addresses,
         };
@@ -203,7 +215,7 @@ impl Greeter {
     }
 }
 
-/// Reads a line, and nothing behind it, so that a store that sends more is found out.
+/// Reads a line until `end`, and nothing after it. So it is found out if a store sends more.
 fn read_line(socket: &mut TcpStream, end: Instant) -> Result<Line, Fault> {
     let mut line = Line { bytes: [0; LINE], length: 0 };
     while !line.bytes().ends_with(b"\r\n") && line.length < LINE {

@@ -1,8 +1,10 @@
-//! What a client may ask before it is let in, that is before the server has seen its password: the limits of redis-server, in
-//! its words. They bound what a client without a password has the server keep.
+//! What a client may send while it is unauthenticated, that is before the server has seen its password. The
+//! limits and the texts of the errors are those of redis-server. They bound what such a client can make the
+//! server keep.
 //!
-//! A `Reader` follows a client's requests, which the server reads in full. It only finds where a request begins and how long its
-//! arguments are; what is no request it leaves to the server, whose error is about to end the connection.
+//! A `Reader` follows a client's requests, which the server reads in full. It only finds where a request
+//! begins, and how long its arguments are. If something is no request, it leaves that to the server, which
+//! replies an error and ends the connection.
 
 /// The most arguments of a request.
 const ARGUMENTS: u64 = 10;
@@ -10,22 +12,26 @@ const ARGUMENTS: u64 = 10;
 const ARGUMENT: u64 = 16_384;
 /// The most bytes of a line of words, before its LF.
 const LINE: usize = 16_384;
-/// Bytes of a line that is no request's, by which the server has seen that it is none.
+/// After this many bytes of a line that is no request, the server has seen that it is none.
 const ENOUGH: usize = 1024;
-/// The greatest number that a length may be for anyone.
+/// The greatest length that any client may give.
 const GREATEST: u64 = u32::MAX as u64;
-/// Bytes of replies that may wait for a client that is not let in.
+/// Bytes of replies that may wait for an unauthenticated client.
 pub const REPLIES: usize = 1024;
-/// Bytes of one read of such a client, the rest of which is kept while the lane is asked about the client.
+/// Bytes of one read from an unauthenticated client. What exceeds a limit is kept while the worker is asked
+/// about the client.
 pub const READ: usize = 1 << 14;
 
-/// Why the next byte is not for a client that is not let in.
+/// Why an unauthenticated client may not send the next byte.
 #[derive(Clone, Copy)]
 pub enum Fault {
+    /// The request has too many arguments.
     Arguments,
+    /// An argument is too long.
     Argument,
+    /// A line of words is too long.
     Line,
-    /// What came is no request.
+    /// What arrived is no request.
     Broken,
 }
 
@@ -47,23 +53,24 @@ enum Place {
     /// A new request.
     #[default]
     Start,
-    /// A line of words, of which so many bytes came.
+    /// A line of words, and how many of its bytes have arrived.
     Words(usize),
-    /// The number of arguments, behind `*`.
+    /// The number of arguments, after `*`.
     Count(Number),
-    /// `$`, before so many more arguments.
+    /// The `$` of an argument, and how many more arguments follow it.
     Mark(u64),
-    /// The length of an argument, the first of so many.
+    /// The length of an argument, and how many more arguments follow it.
     Length(u64, Number),
-    /// An argument, of which so many bytes are still to come, CR LF included, before so many more.
+    /// An argument: how many of its bytes are missing, including CR LF, and how many more arguments follow
+    /// it.
     Argument(u64, u64),
-    /// A line that is no request's, of which so many bytes came.
+    /// A line that is no request, and how many of its bytes have arrived.
     Broken(usize),
-    /// What is behind it.
+    /// What follows such a line.
     End,
 }
 
-/// A number and its CR, as far as they came.
+/// A number and its CR, as far as they have arrived.
 #[derive(Clone, Copy, Default)]
 struct Number {
     value: u64,
@@ -72,14 +79,15 @@ struct Number {
     has_cr: bool,
 }
 
-/// Where in a request a client is.
+/// Follows the requests of a client.
 #[derive(Default)]
 pub struct Reader {
     place: Place,
 }
 
 impl Reader {
-    /// Reads on. At a fault it says how many of the bytes come before it; it goes on from there.
+    /// Follows these bytes. If one exceeds a limit, returns how many bytes are before it, and why. The next
+    /// call goes on there.
     pub fn read(&mut self, bytes: &[u8], is_let_in: bool) -> Result<(), (usize, Fault)> {
         let mut at = 0;
         while at < bytes.len() {
@@ -88,7 +96,7 @@ impl Reader {
         Ok(())
     }
 
-    /// Reads one byte or more, and says how many.
+    /// Follows some bytes, and returns how many: none if only the place has changed.
     fn step(&mut self, bytes: &[u8], is_let_in: bool) -> Result<usize, Fault> {
         let byte = bytes[0];
         self.place = match self.place {
@@ -130,12 +138,13 @@ impl Reader {
         Ok(1)
     }
 
-    /// Leaves the line to the server, which may read all of it before it answers.
+    /// Leaves the line to the server, which may read all of it before it replies.
     fn give_up(&mut self) -> usize {
         self.place = Place::Broken(0);
         0
     }
 
+    /// Follows a line of words.
     fn read_words(&mut self, length: usize, bytes: &[u8], is_let_in: bool) -> Result<usize, Fault> {
         let end = bytes.iter().position(|it| *it == b'\n');
         let count = end.unwrap_or(bytes.len());
@@ -152,7 +161,7 @@ impl Reader {
     }
 }
 
-/// The greatest number that may be behind a mark.
+/// The greatest number that may follow a `*` or a `$`.
 fn limit(of_strangers: u64, is_let_in: bool) -> u64 {
     if is_let_in {
         GREATEST
@@ -161,15 +170,17 @@ fn limit(of_strangers: u64, is_let_in: bool) -> u64 {
     }
 }
 
+/// What a byte makes of a number.
 enum Digit {
     More(Number),
     /// The line is over. A negative number is 0.
     End(u64),
+    /// This is no number, or one that is too great for any client.
     Bad,
 }
 
 impl Number {
-    /// The number with a byte more. None if it is greater than `most`.
+    /// The number with one more byte. None if it exceeds `most`, a limit of unauthenticated clients.
     fn with(mut self, byte: u8, most: u64) -> Option<Digit> {
         match byte {
             b'-' if !self.has_digit && !self.is_negative => self.is_negative = true,

@@ -1,4 +1,4 @@
-//! The calls of Linux that std lacks, declared by hand. All that is unsafe stands here.
+//! The calls of Linux that std lacks, declared by hand. All unsafe code is here.
 #![allow(unsafe_code)]
 
 use std::ffi::{c_int, c_long, c_uint, c_ulong, c_void};
@@ -10,14 +10,15 @@ use std::time::Duration;
 
 pub const INPUT: u32 = 1;
 pub const OUTPUT: u32 = 4;
-/// O_NONBLOCK, and SOCK_NONBLOCK and SFD_NONBLOCK with their CLOEXEC.
+/// O_NONBLOCK.
 pub const NONBLOCK: c_int = 0o4000;
+/// SOCK_NONBLOCK and SFD_NONBLOCK, each with its CLOEXEC.
 const PRIVATE: c_int = 0o2004000;
-/// What epoll_ctl is asked for.
+/// Operations of epoll_ctl.
 const ADD: c_int = 1;
 const REMOVE: c_int = 2;
 const CHANGE: c_int = 3;
-/// SIGINT and SIGTERM, in a set of signals as the C library has it.
+/// SIGINT and SIGTERM, as a set of signals of the C library.
 const ENDS: [u64; 16] = [1 << (2 - 1) | 1 << (15 - 1), 0, 0, 0, 0, 0, 0, 0, 0, 0, 0, 0, 0, 0, 0, 0];
 const SIG_BLOCK: c_int = 0;
 const IPPROTO_TCP: c_int = 6;
@@ -25,13 +26,15 @@ const TCP_NODELAY: c_int = 1;
 const RLIMIT_NOFILE: c_int = 7;
 const SC_PAGESIZE: c_int = 30;
 const F_SETPIPE_SZ: c_int = 1031;
-/// What mallopt is told: from how many bytes on a block is a mapping of its own, and how many free bytes the heap may end with.
+/// A parameter of mallopt: from how many bytes on a block is a mapping of its own.
 const M_MMAP_THRESHOLD: c_int = -3;
+/// A parameter of mallopt: how many free bytes the heap may end with.
 const M_TRIM_THRESHOLD: c_int = -1;
+/// The value of both parameters.
 const LARGE: c_int = 1 << 17;
 const FIONREAD: c_ulong = 0x541B;
 
-/// What came to a file that an `Epoll` watches: events, and what it was told of the file.
+/// Events of a file that an `Epoll` watches, and the token that was given for the file.
 #[repr(C)]
 #[cfg_attr(target_arch = "x86_64", repr(packed))]
 #[derive(Clone, Copy, Default)]
@@ -58,16 +61,17 @@ extern "C" {
     fn umask(mask: c_uint) -> c_uint;
 }
 
+/// The result of a call, or the system's error if it is negative.
 fn checked(result: c_int) -> io::Result<c_int> {
     (result >= 0).then_some(result).ok_or_else(io::Error::last_os_error)
 }
 
-/// Owns a file that a call has just made.
+/// Owns the file that a call has just made.
 fn made(result: c_int) -> io::Result<File> {
     Ok(unsafe { File::from_raw_fd(checked(result)?) })
 }
 
-/// Files whose events one can wait for.
+/// Watches files for events.
 pub struct Epoll(File);
 
 impl Epoll {
@@ -75,7 +79,7 @@ impl Epoll {
         Ok(Epoll(made(unsafe { epoll_create1(PRIVATE & !NONBLOCK) })?))
     }
 
-    /// Waits for other events of a file from now on, where 0 is none, not even a hang-up.
+    /// Watches a file for other events from now on. 0 is for none, not even a hang-up.
     pub fn watch(&self, file: &impl AsRawFd, old: u32, flags: u32, token: u64) -> io::Result<()> {
         let what = [[CHANGE, REMOVE], [ADD, ADD]][usize::from(old == 0)][usize::from(flags == 0)];
         let mut event = Event { flags, token };
@@ -83,7 +87,7 @@ impl Epoll {
         Ok(())
     }
 
-    /// Waits for events, so long at most, and says how many came.
+    /// Waits for events, for `patience` at most, and returns how many arrived.
     pub fn wait(&self, events: &mut [Event], patience: Duration) -> io::Result<usize> {
         let (room, most) = (events.as_mut_ptr(), events.len() as c_int);
         let milliseconds = patience.as_millis() as c_int;
@@ -94,26 +98,27 @@ impl Epoll {
     }
 }
 
-/// A file with input once SIGINT or SIGTERM has come, which end nothing else from now on.
+/// A file with input once SIGINT or SIGTERM has arrived. These signals have no other effect from now on.
 pub fn ends() -> io::Result<File> {
     checked(unsafe { sigprocmask(SIG_BLOCK, &ENDS, null_mut()) })?;
     made(unsafe { signalfd(-1, &ENDS, PRIVATE) })
 }
 
-/// Has a listener keep as many who wait as the system allows.
+/// Lets as many connections wait at a listener as the system allows.
 pub fn widen(listener: &impl AsRawFd) -> io::Result<()> {
     checked(unsafe { listen(listener.as_raw_fd(), c_int::MAX) }).map(|_| ())
 }
 
-/// A connection, of which nothing waits, and what is written goes out at once.
+/// Accepts a connection. No call on it waits, and what is written goes out at once.
 pub fn accept(listener: &impl AsRawFd) -> io::Result<File> {
     let socket = made(unsafe { accept4(listener.as_raw_fd(), null_mut(), null_mut(), PRIVATE) })?;
-    // A Unix socket has no such delay, and refuses it.
+    // A Unix socket has no such delay, and refuses this option.
     unsafe { setsockopt(socket.as_raw_fd(), IPPROTO_TCP, TCP_NODELAY, &1, 4) };
     Ok(socket)
 }
 
-/// Has a pipe hold that many bytes at most. False if the system refuses, as it does while more is in the pipe.
+/// Sets how many bytes a pipe holds at most. False if the system refuses it, as it does while more is in the
+/// pipe.
 pub fn size_pipe(pipe: &impl AsRawFd, bytes: usize) -> bool {
     unsafe { fcntl(pipe.as_raw_fd(), F_SETPIPE_SZ, bytes as c_int) >= 0 }
 }
@@ -125,7 +130,7 @@ pub fn in_pipe(pipe: &impl AsRawFd) -> io::Result<usize> {
     Ok(count as usize)
 }
 
-/// Has a file that `make` makes be for its owner alone.
+/// Runs `make`, and lets only the owner use the file that it makes.
 pub fn for_owner_alone<T>(make: impl FnOnce() -> T) -> T {
     let old = unsafe { umask(0o177) };
     let made = make();
@@ -133,8 +138,10 @@ pub fn for_owner_alone<T>(make: impl FnOnce() -> T) -> T {
     made
 }
 
-/// Has large blocks go back to the system as soon as they are freed. Else the first of up to 32 MiB that is freed has all later
-/// ones of that size come from the heap, which gives nothing back while anything stands behind it.
+/// Makes malloc give large blocks back to the system as soon as they are freed.
+///
+/// By default the first free of a block of up to 32 MiB raises malloc's threshold. Later blocks of that size
+/// are then in the heap, which gives nothing back while anything is allocated after them.
 pub fn free_at_once() {
     unsafe {
         mallopt(M_MMAP_THRESHOLD, LARGE);
@@ -147,7 +154,7 @@ pub fn page() -> u64 {
     unsafe { sysconf(SC_PAGESIZE) as u64 }
 }
 
-/// Has the process open as many files as it may, and says how many.
+/// Raises the limit of open files as far as it may be raised, and returns it.
 pub fn raise_files() -> io::Result<usize> {
     let mut limits = [0; 2];
     checked(unsafe { getrlimit(RLIMIT_NOFILE, &mut limits) })?;

@@ -1,47 +1,53 @@
-//! Whose input a lane gets next, and how much of it.
+//! Whose input a worker gets next, and how much of it.
 //!
-//! A lane answers in the order in which input came, so all that waits for it is waited for by whoever comes next. Clients with
-//! input therefore take turns: who has had one goes to the back of the queue. While several clients of a lane have input, a turn
-//! is short, and little waits for the lane. A client that is alone gets long turns, which cost less for each byte.
+//! A worker answers input in the order in which it arrived. So input waits for all the input that arrived
+//! before it. Clients with input therefore take turns: after its turn a client goes to the back of the queue.
+//! While several clients of a worker have input, a turn is short, and little waits for the worker. A client
+//! that is alone gets long turns, which cost less for each byte.
 //!
-//! A client that asks and waits for the reply has no input most of the time. So a lane counts as shared until one client has
-//! had all turns for a while: for long enough to think about a reply, and for more input than may come before a reply.
+//! A client that sends a request and waits for the reply has no input most of the time. So a worker counts as
+//! shared until one client has had all turns for a while. That is long enough to think about a reply, and for
+//! more input than may be sent before a reply.
 
 use std::collections::{TryReserveError, VecDeque};
 use std::mem;
 use std::ops::Range;
 use std::time::{Duration, Instant};
 
-/// How much input a lane gets.
+/// How much input a worker gets.
 pub struct Share {
-    /// Bytes of one turn at most.
+    /// The most bytes of one turn.
     pub piece: usize,
-    /// Bytes that may wait for the lane, those of the last turn among them.
+    /// The most bytes that may wait for the worker, including those of the last turn.
     pub most: usize,
-    /// Bytes that its pipe holds.
+    /// How many bytes the worker's pipe holds.
     pub pipe: usize,
-    /// What is in the pipe counts as waiting.
+    /// Whether bytes in the pipe count as waiting.
     pub counts_pipe: bool,
 }
 
-/// Of a lane with several clients that have input.
+/// For a worker with several clients that have input.
 const SHARED: Share = Share { piece: 1 << 12, most: 1 << 14, pipe: 1 << 14, counts_pipe: true };
-/// Of a lane with one client that has input.
+/// For a worker with one client that has input.
 pub const ALONE: Share = Share { piece: 1 << 16, most: 1 << 17, pipe: 1 << 16, counts_pipe: false };
-/// How long one client has all turns before it counts as alone, and how many bytes it has had by then.
+/// How long one client has all turns before it counts as alone.
 const WHILE: Duration = Duration::from_secs(1);
+/// How many bytes it has sent by then.
 const RUN: usize = 1 << 16;
 
 #[derive(Default)]
+/// The queue of a worker's clients that have input.
 pub struct Turns {
-    /// The next is at the front. A client is in it once at most, or its number after it has gone.
+    /// The next client is at the front. A client is in the queue once at most. Its number may be there after
+    /// it has gone.
     queue: VecDeque<u64>,
-    /// How many at the back are new, since `settle`.
+    /// How many clients at the back are new since `settle`.
     fresh: usize,
-    /// Who had the last turn.
+    /// Which client had the last turn.
     last: Option<u64>,
-    /// When another than the one before had a turn, and how many bytes were taken since.
+    /// When a client other than the one before had a turn.
     changed: Option<Instant>,
+    /// How many bytes were taken since then.
     taken: usize,
 }
 
@@ -54,7 +60,7 @@ impl Turns {
         self.queue.len()
     }
 
-    /// Puts a client at the back, unless there is no memory for it.
+    /// Adds a client to the back of the queue. An error is returned if there is no memory for it.
     pub fn put(&mut self, number: u64) -> Result<(), TryReserveError> {
         self.queue.try_reserve(1)?;
         self.queue.push_back(number);
@@ -62,12 +68,12 @@ impl Turns {
         Ok(())
     }
 
-    /// Whose turn it is.
+    /// Removes the client whose turn it is from the queue.
     pub fn take(&mut self) -> Option<u64> {
         self.queue.pop_front()
     }
 
-    /// A client had that many bytes of input at its turn.
+    /// A client had this many bytes of input at its turn.
     pub fn had(&mut self, number: u64, count: usize, now: Instant) {
         if self.last.replace(number).is_some_and(|last| last != number) {
             (self.changed, self.taken) = (Some(now), 0);
@@ -75,6 +81,7 @@ impl Turns {
         self.taken = self.taken.saturating_add(count);
     }
 
+    /// How much input the worker gets now.
     pub fn share(&self, now: Instant) -> &'static Share {
         let is_recent = |at| now - at < WHILE || self.taken < RUN;
         if self.queue.len() > 1 || self.changed.is_some_and(is_recent) {
@@ -84,12 +91,13 @@ impl Turns {
         }
     }
 
-    /// The places in the queue of those who are new and still wait. They are new no more.
+    /// The places in the queue of clients that are new and still wait. They are not new any more.
     pub fn settle(&mut self) -> Range<usize> {
         let fresh = mem::take(&mut self.fresh).min(self.queue.len());
         self.queue.len() - fresh..self.queue.len()
     }
 
+    /// The client at this place of the queue.
     pub fn at(&self, place: usize) -> u64 {
         self.queue[place]
     }

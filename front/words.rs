@@ -1,4 +1,4 @@
-//! The words of the command.
+//! The gateway's command line.
 
 use std::ffi::OsString;
 use std::fmt::Display;
@@ -11,39 +11,45 @@ pub const USAGE: &str = "usage: front [--port N] [--bind ADDRESS] [--guarded] [-
     [--auth-timeout SECONDS] [--connections N] [--output-limit BYTES] [--clients-memory BYTES] [--server-pid N] [--far-resp HOST:PORT|PATH --far-link REQUESTS REPLIES... \
     [--far-password-file FILE] [--far-timeout SECONDS]] --lane REQUESTS REPLIES [--lane REQUESTS REPLIES]...";
 const FAR_TIMEOUTS: RangeInclusive<u32> = 1..=3600;
-/// The most lanes, and the most links: each has a byte's value as its place in a token.
+/// The most workers, and the most links. The place of each in a token is a byte.
 const MOST: usize = 64;
 
+/// What the command line asks for. Options that it leaves out have their defaults.
 pub struct Options {
-    /// The port of TCP, 0 for any that is free.
+    /// The port of TCP, 0 for any that is free. None if there is no TCP.
     pub port: Option<u16>,
+    /// The IP address to listen at.
     pub bind: IpAddr,
-    /// The server asks for a password, so that others than this machine may come.
+    /// Whether the server asks for a password. Without one only a loopback address is taken.
     pub guarded: bool,
+    /// The path of a Unix socket.
     pub unix: Option<PathBuf>,
-    /// Seconds that a client may be silent, 0 for any.
+    /// Seconds after which a silent client is closed; 0 for never.
     pub timeout: u32,
-    /// Seconds in which a client has to be let in, 0 for any.
+    /// Seconds in which a client has to be authenticated; 0 for any time.
     pub auth_timeout: u32,
+    /// The most clients at once.
     pub connections: usize,
+    /// Bytes of replies that may wait for a client.
     pub output_limit: usize,
-    /// Bytes that clients may take together, half of them here and half in the lanes.
+    /// Bytes that all clients may take together: half in the gateway, half in the workers.
     pub clients_memory: usize,
-    /// The server's process, whose memory is reported with that of this one.
+    /// The server's process. Its memory is reported together with the gateway's.
     pub server_pid: Option<u32>,
-    /// The pipes of each lane: its requests, its replies.
+    /// The pipes of each worker: its requests, its replies.
     pub lanes: Vec<(PathBuf, PathBuf)>,
-    /// Where the far store is, to which links lead.
+    /// The address of the far store.
     pub far_resp: Option<OsString>,
+    /// The file whose first line is the store's password.
     pub far_password_file: Option<PathBuf>,
-    /// Seconds that the far store may be silent where something is owed.
+    /// Seconds that the far store may be silent while something is owed.
     pub far_timeout: u32,
     /// The pipes of each link: the device's requests, the replies for it.
     pub far_links: Vec<(PathBuf, PathBuf)>,
 }
 
 impl Options {
-    /// At Err what is wrong with the words.
+    /// Reads the words of the command line. An error is a text about the first thing that is wrong.
     pub fn read(mut words: impl Iterator<Item = OsString>) -> Result<Options, String> {
         let mut it = Options {
             port: None,
@@ -107,7 +113,7 @@ fn read<T: FromStr>(name: &str, value: OsString) -> Result<T, String> {
     value.parse().map_err(|_| refused(name, value))
 }
 
-/// Takes HOST:PORT, or the path of a Unix socket.
+/// Takes `HOST:PORT`, or the path of a Unix socket.
 fn address(name: &str, value: OsString) -> Result<OsString, String> {
     let text = value.to_string_lossy();
     let is_pair = |(host, port): (&str, &str)| !host.is_empty() && port.parse::<u16>().is_ok();

@@ -1,4 +1,4 @@
-//! The way of clients' input to the lane, turn by turn.
+//! Sends clients' input to the worker, turn by turn.
 
 use super::{Lane, WAKE};
 use crate::client::Turn;
@@ -8,11 +8,12 @@ use crate::stranger;
 use crate::turns::Share;
 use std::io;
 
-/// Bytes of memory that are kept for requests that will wait.
+/// Bytes of memory that the queue of requests does not give back.
 const KEPT: usize = 1 << 18;
 
 impl Lane {
-    /// Hands over to the lane what came for it.
+    /// Sends the worker what waits for it: CLOSE packets that are owed, a WAKE, and clients' input while
+    /// there is room. An error is returned if the worker's pipe fails.
     pub fn hand_over(&mut self, shared: &mut Shared) -> io::Result<()> {
         self.requests.flush()?;
         self.put_closes(shared);
@@ -37,7 +38,7 @@ impl Lane {
         self.await_room(wants_room, share, shared)
     }
 
-    /// Has no event tell of the clients that go on waiting for their turn.
+    /// Watches no socket of clients that go on waiting for their turn.
     fn settle_turns(&mut self, shared: &mut Shared) {
         for place in self.turns.settle() {
             let number = self.turns.at(place);
@@ -48,7 +49,7 @@ impl Lane {
         }
     }
 
-    /// How many bytes more may wait for the lane.
+    /// How many more bytes may wait for the worker.
     fn room(&mut self, share: &Share) -> io::Result<usize> {
         if self.pipe != share.pipe && self.requests.size_pipe(share.pipe) {
             self.pipe = share.pipe;
@@ -57,20 +58,21 @@ impl Lane {
         Ok(share.most.saturating_sub(self.requests.waiting() + in_pipe))
     }
 
-    /// If room is wanted, has an event tell once the lane has read so much that the next turn can be given.
+    /// If room is needed, asks for an event once the worker has read enough for the next turn.
     fn await_room(&mut self, wants_room: bool, share: &Share, shared: &Shared) -> io::Result<()> {
-        // A pipe has room again once what is in it leaves room for a turn. This isn't so of one that holds more.
+        // A pipe of this size reports room once a turn fits into it. A larger pipe reports it earlier.
         let is_told = self.pipe <= share.pipe || self.requests.waiting() > 0;
         self.is_blind = wants_room && !is_told;
         self.requests.watch(&shared.epoll, false, wants_room && is_told)
     }
 
-    /// Whether it has to be handed over again soon, though no event comes.
+    /// Whether `hand_over` has to be called again soon, although no event will arrive.
     pub fn is_blind(&self) -> bool {
         self.is_blind
     }
 
-    /// Has a client wait for its turn, at which its input is taken.
+    /// Puts a client into the queue for a turn, at which its input is taken. Without memory for that it is
+    /// closed.
     pub(super) fn want_turn(&mut self, number: u64, shared: &mut Shared) {
         let Some(client) = self.clients.get_mut(&number).filter(|it| it.turn == Turn::None) else { return };
         match self.turns.put(number) {
@@ -96,6 +98,7 @@ impl Lane {
         self.read_client(number, share, shared);
     }
 
+    /// Reads a client's socket once, and sends the worker what was read.
     fn read_client(&mut self, number: u64, share: &Share, shared: &mut Shared) {
         let Some(client) = self.clients.get_mut(&number).filter(|it| it.is_awaited()) else { return };
         let Some(socket) = client.socket.as_ref() else { return };
@@ -113,7 +116,7 @@ impl Lane {
         }
     }
 
-    /// Goes on with a client, unless there was no memory for its input.
+    /// Goes on with a client, or closes it if there was no memory for its input.
     fn go_on(&mut self, number: u64, taken: io::Result<()>, shared: &mut Shared) {
         match taken {
             Ok(()) => self.update(number, shared),
@@ -121,7 +124,8 @@ impl Lane {
         }
     }
 
-    /// Hands over to the lane what came from a client, and holds what is not for a stranger. At Err there was no memory for it.
+    /// Sends the worker input of a client, and holds the part that exceeds a limit of unauthenticated
+    /// clients. An error is returned if there is no memory for it.
     fn take_input(&mut self, number: u64, bytes: &[u8]) -> io::Result<()> {
         let Some(client) = self.client(number) else { return Ok(()) };
         let is_let_in = client.stranger.is_none();
@@ -142,7 +146,8 @@ impl Lane {
         Ok(())
     }
 
-    /// Asks the lane to say when it has answered all that was handed over. At Err there was no memory for it.
+    /// Asks the worker to report when it has answered all that was sent. An error is returned if there is no
+    /// memory for it.
     pub(super) fn ask(&mut self, number: u64) -> io::Result<()> {
         self.tell(format_args!("sync {number}"))?;
         if let Some(client) = self.client(number) {
@@ -151,7 +156,8 @@ impl Lane {
         Ok(())
     }
 
-    /// The lane has answered all that came before it was asked: whether the client is a stranger is certain now.
+    /// The worker has answered all that was sent before it was asked. So it is certain now whether the client
+    /// is authenticated.
     pub(super) fn see_answered(&mut self, number: u64, shared: &mut Shared) {
         let Some(client) = self.client(number).filter(|it| it.asked > 0) else { return };
         client.asked -= 1;

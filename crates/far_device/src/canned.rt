@@ -1,4 +1,4 @@
-//! A device that gives the same bytes at each read.
+//! A device for tests that returns the same bytes at each read.
 ghost use Rattle.std.specs.Prelude.{◌≡◌, ◌++◌, false, IfOk};
 ghost use Rattle.std.specs.Bool.{OnTrue};
 ghost use Rattle.far_device.specs.Calls.{Constructs, Writes, Reads, Removes};
@@ -7,8 +7,11 @@ ghost use Rattle.far_device.specs.Canned.{Canned};
 use crate::{Device, DeviceFault};
 use std::marker::Model;
 
-/// A device whose every read gives the same bytes, chosen when it is made, wherever the device that
-/// it wraps has the id; for tests.
+/// A device for tests: each read of an id that the inner device has appends the same bytes.
+///
+/// The bytes are chosen when it is made. Which ids there are, errors and the count of failures are the
+/// inner device's. A read also returns `Memory` if there is no memory to append the bytes. It is not
+/// honest, and keeps no labels. Contracts see the inner device and the bytes.
 #[derive(Drop)]
 pub struct CannedDevice<D> {
     inner: D,
@@ -22,6 +25,7 @@ impl<D> Model for CannedDevice<D> {
 }
 
 impl<D: Device> CannedDevice<D> {
+    /// Wraps a device. Each read appends these bytes.
     pub fn new(inner: D, bytes: Vec<u8>) -> Self
         ensures { result ≡ record { inner = inner; bytes = bytes.items } }
     {

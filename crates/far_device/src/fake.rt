@@ -1,4 +1,4 @@
-//! A device that lies in the process, in a hash map of the standard library.
+//! A device in the process, over a hash map of the standard library.
 ghost use Rattle.std.specs.Prelude.{◌≡◌, true, IsOk, IsOkUnless, OnErr};
 ghost use Rattle.std.specs.FinMap.{empty};
 ghost use Rattle.far_device.specs.Calls.{Constructs, Writes, Reads, Removes};
@@ -9,7 +9,10 @@ use std::alloc::Global;
 use std::collections::HashMap;
 use std::marker::Model;
 
-/// A device in the process. It gives what was written and never answers `Failed`; contracts see it
+/// A device in the memory of the process: a hash map from ids to copies of their bytes.
+///
+/// It is honest, keeps no labels, and never returns `Failed`. `write` and `read` return `Memory` if an
+/// allocation fails. The hash map keeps its own room when objects are removed. Contracts see the device
 /// as its map from ids to bytes.
 #[derive(Drop)]
 pub struct FakeDevice {
@@ -56,7 +59,7 @@ impl Device for FakeDevice {
         Ok(())
     }
 
-    /// After a refused growth the whole device is as before.
+    /// After an error, which is `Memory`, the whole device is as before.
     fn write(&mut self, id: u64, bytes: &[u8]) -> Result<(), DeviceFault>
         ensures writes { Writes (fake_state self.old) (fake_state self.new) id bytes.now result }
         ensures memory { IsOkUnless result DeviceFault.Memory }

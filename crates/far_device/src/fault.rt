@@ -5,10 +5,11 @@ use thiserror::Error;
 /// Why a call of a device failed.
 #[derive(Clone, Copy, Debug, PartialEq, Eq, Error)]
 pub enum DeviceFault {
-    /// A growth of memory was refused.
+    /// An allocation failed. The count of failures does not rise.
     #[error("memory")]
     Memory,
-    /// The device itself failed, and counted the failure.
+    /// The device itself failed, for example because a disk is full. The count of failures has risen by
+    /// one.
     #[error("device failed")]
     Failed,
 }

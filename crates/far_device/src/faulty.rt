@@ -1,4 +1,4 @@
-//! A device that fails one call, chosen when it is made.
+//! A device for tests that fails one call, which is chosen when it is made.
 ghost use Rattle.std.specs.Prelude.{◌≡◌, ◌≢◌, Err, IsTrue, ◌↔◌};
 ghost use Rattle.std.specs.Bool.{OnTrue, OnFalse};
 ghost use Rattle.far_device.specs.Calls.{Constructs, Writes, Reads, Removes};
@@ -7,10 +7,16 @@ ghost use Rattle.far_device.specs.Faulty.{faulty_state, after_failed, after_pass
 use crate::{Device, DeviceFault};
 use std::marker::Model;
 
-/// A device that fails the k-th of its `write`, `read` and `remove` calls, counted together from 1,
-/// and passes every other call on to the one that it wraps; for tests. Contracts see the inner
-/// device, how many counted calls there are until the failing one (`due`, 0 for none to come), and
-/// how many have failed here.
+/// A device for tests that fails the k-th of its `write`, `read` and `remove` calls, counted together
+/// from 1.
+///
+/// The failing call returns `Failed`, and the inner device is not called. All other calls are passed
+/// on. `construct` is not counted, and `write_labelled` is a `write`, because no labels are kept. The
+/// count of failures is the inner device's and this device's together, at most 2^64 - 1.
+///
+/// Contracts see the inner device, `due` and `failed`. `due` is the place of the failing call among the
+/// counted calls to come, from 1. It is 0 if none of them fails. `failed` is how many calls have failed
+/// here.
 #[derive(Drop)]
 pub struct FaultyDevice<D> {
     inner: D,
@@ -27,7 +33,7 @@ impl<D> Model for FaultyDevice<D> {
 }
 
 impl<D: Device> FaultyDevice<D> {
-    /// Fails the k-th call, and none where k is 0.
+    /// Wraps a device. The k-th counted call fails. If k is 0, none does.
     pub fn new(inner: D, k: u64) -> Self
         ensures { result ≡ record { inner = inner; due = k; failed = 0 } }
     {
@@ -38,7 +44,7 @@ impl<D: Device> FaultyDevice<D> {
         }
     }
 
-    /// Counts a call, and answers whether it is the one that fails.
+    /// Counts a call, and returns whether it is the one that fails.
     fn count_call(&mut self) -> bool
         ensures due { IsTrue result ↔ (self.old.due ≡ 1) }
         ensures fails { OnTrue result (self.new ≡ after_failed self.old) }
@@ -58,7 +64,7 @@ impl<D: Device> Device for FaultyDevice<D> {
 
     ghost HONEST = { D.HONEST };
 
-    /// Passed on; it is none of the counted calls.
+    /// Passed on, and not counted.
     fn construct(&mut self) -> Result<(), DeviceFault>
         ensures constructs { Constructs (faulty_state D.state self.old) (faulty_state D.state self.new)
             result }
@@ -72,7 +78,7 @@ impl<D: Device> Device for FaultyDevice<D> {
         ensures writes { Writes (faulty_state D.state self.old) (faulty_state D.state self.new)
             id bytes.now result }
 
-        // The call whose turn it is fails, and the inner device stays.
+        // The k-th call fails, and the inner device is as before.
         ensures fails { self.old.due ≡ 1 → result ≡ Err DeviceFault.Failed }
         ensures stays { self.old.due ≡ 1 → self.new ≡ after_failed self.old }
 
@@ -91,7 +97,7 @@ impl<D: Device> Device for FaultyDevice<D> {
         ensures reads { Reads D.HONEST (faulty_state D.state self.old) (faulty_state D.state self.new)
             id out.old.items out.new.items result }
 
-        // The call whose turn it is fails, and the inner device stays.
+        // The k-th call fails, and the inner device is as before.
         ensures fails { self.old.due ≡ 1 → result ≡ Err DeviceFault.Failed }
         ensures stays { self.old.due ≡ 1 → self.new ≡ after_failed self.old }
 
@@ -111,7 +117,7 @@ impl<D: Device> Device for FaultyDevice<D> {
         ensures removes { Removes (faulty_state D.state self.old) (faulty_state D.state self.new)
             id result }
 
-        // The call whose turn it is fails, and the inner device stays.
+        // The k-th call fails, and the inner device is as before.
         ensures fails { self.old.due ≡ 1 → result ≡ Err DeviceFault.Failed }
         ensures stays { self.old.due ≡ 1 → self.new ≡ after_failed self.old }
 

@@ -1,5 +1,9 @@
-//! Devices that keep bytes under ids, apart from the program's own memory: one that lies in the
-//! process, and four that wrap another device and misbehave, or watch it, in a known way.
+//! What a far device is, one device in the process, and four devices for tests.
+//!
+//! A far device stores objects as bytes under ids, outside the frames of the table. To store objects in
+//! a place of your choice, implement `Device`. Its docstrings state what each call is given and what it
+//! has to return. `FakeDevice` is the shortest complete example. The others wrap a device: they fail,
+//! return wrong bytes or count calls, in a known way.
 #![tactic(auto)]
 
 mod canned;

@@ -1,4 +1,4 @@
-//! A device whose reads lose their last byte.
+//! A device for tests whose reads lose their last byte.
 ghost use Rattle.std.specs.Prelude.{◌≡◌, ◌++◌, false, IsTrue, IfOk, IfSome};
 ghost use Rattle.std.specs.Bool.{OnTrue};
 ghost use Rattle.std.specs.FinMap.{get};
@@ -8,8 +8,10 @@ ghost use Rattle.far_device.specs.Lying.{without_last};
 use crate::{Device, DeviceFault};
 use std::marker::Model;
 
-/// A device that gives the bytes of a read without their last one, and none of none; for tests.
-/// Contracts see it as the device that it wraps.
+/// A device for tests: each read appends the inner device's bytes without the last one.
+///
+/// If there are no bytes, it appends none. All other calls are passed on. It is not honest, and keeps
+/// no labels. Contracts see it as the device that it wraps.
 #[derive(Drop)]
 pub struct LyingDevice<D> {
     inner: D,
@@ -24,6 +26,7 @@ impl<D> Model for LyingDevice<D> {
 }
 
 impl<D: Device> LyingDevice<D> {
+    /// Wraps a device.
     pub fn new(inner: D) -> Self
         ensures { result ≡ inner }
     {
@@ -48,14 +51,14 @@ impl<D: Device> Device for LyingDevice<D> {
         ensures reads { Reads false (D.state self.old) (D.state self.new)
             id out.old.items out.new.items result }
 
-        // Over an honest device it gives the written bytes but for the last one.
+        // Over an honest device a read appends the written bytes without the last one.
         ensures lies { IsTrue D.HONEST → IfOk result (λ there. OnTrue there (IfSome
             (get (D.state self.old).contents id)
             (λ bytes. out.new.items ≡ out.old.items ++ without_last bytes))) }
     {
         let before = out.len();
         let there = self.inner.read(id, out)?;
-        // Nothing that stood there before is lost.
+        // The bytes that `out` had before stay.
         out.truncate(before.max(out.len().saturating_sub(1)));
         Ok(there)
     }

@@ -1,4 +1,4 @@
-//! A device that tells others of its writes and failures.
+//! A device for tests that counts its writes and failures where others can read the counts.
 ghost use Rattle.std.specs.Prelude.{◌≡◌};
 
 use crate::{Device, DeviceFault};
@@ -6,9 +6,11 @@ use std::marker::Model;
 use std::sync::Arc;
 use std::sync::atomic::{AtomicU64, Ordering};
 
-/// A device that passes each call on, and adds one to a shared number at each write, and one to
-/// another after each call in which the count of failures of the device that it wraps rose; for
-/// tests. Both numbers wrap. Contracts see it as the device that it wraps.
+/// A device for tests that passes each call on, and counts in two shared numbers.
+///
+/// `writes` rises by one at each write, also one that fails. `failures` rises by one after each call in
+/// which the inner device's count of failures rose. Both wrap at 2^64. It keeps no labels, so
+/// `write_labelled` is a `write`. Contracts see it as the device that it wraps.
 #[derive(Drop)]
 pub struct WatchedDevice<D> {
     inner: D,
@@ -25,6 +27,7 @@ impl<D> Model for WatchedDevice<D> {
 }
 
 impl<D: Device> WatchedDevice<D> {
+    /// Wraps a device. It counts in these two numbers.
     pub fn new(inner: D, writes: Arc<AtomicU64>, failures: Arc<AtomicU64>) -> Self
         ensures { result ≡ inner }
     {
@@ -35,7 +38,7 @@ impl<D: Device> WatchedDevice<D> {
         }
     }
 
-    /// Tells of a failure since the count was so.
+    /// Counts a failure if the inner device's count is above `before`.
     fn tell_failure(&self, before: u64) {
         if self.inner.failures() > before {
             self.failures.fetch_add(1, Ordering::SeqCst);

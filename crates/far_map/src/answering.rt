@@ -1,4 +1,4 @@
-//! A change until it is answered, or refused for good.
+//! A change, from the first try to its answer or a final refusal.
 ghost use Rattle.far_map.specs.Asks.{asked};
 ghost use Rattle.far_map.specs.Answers.{AnswersBy};
 ghost use Rattle.far_map.specs.Spares.{LosesNone};
@@ -15,7 +15,7 @@ use std::sync::Wait;
 use swapper::QueueNaming;
 use version_words::Naming;
 
-/// The answer. After each refusal that room may help, room is made and the call is tried again, 1,000 times at most.
+/// Makes the change. If a refusal shows a lack of room, it makes room and tries again, 1,000 times at most.
 fn answer<V: Value, J: Naming, B: QueueNaming, D: Device, R: Wait>(
     rt: &R,
     alloc: Global,
@@ -43,7 +43,7 @@ fn answer<V: Value, J: Naming, B: QueueNaming, D: Device, R: Wait>(
     }
 }
 
-/// The same, and what follows each call.
+/// The same, with what follows each call.
 pub(crate) fn answer_and_keep<V: Value, J: Naming, B: QueueNaming, D: Device, R: Wait>(
     rt: &R,
     alloc: Global,

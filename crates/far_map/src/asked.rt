@@ -1,4 +1,4 @@
-//! A change that a session is asked for, whose key and values are lent.
+//! A change that a session is asked for. Its key and values are lent.
 ghost use mathlib.Core.List.{IsPrefix};
 ghost use Rattle.far_map.specs.Asks.{asked};
 ghost use Rattle.far_map.specs.Answers.{Tries};
@@ -19,7 +19,7 @@ pub(crate) enum Asked<'a, V: Value> {
     PutIf(&'a Text, Option<&'a V>, &'a V),
 }
 
-/// One call of the table.
+/// Makes one call of the table.
 #[tactic(auto, using(crate::proofs::Trying::change_refused))]
 pub(crate) fn call<V: Value, J: Naming, D: Device, R: Wait>(
     rt: &R,

@@ -25,11 +25,11 @@ use std::thread::Threads;
 use swapper::QueueNaming;
 use version_words::{Mark, Naming};
 
-/// How many times a map is closed before what a frame or a lane does not give is taken for lost: no thread works any more, and
-/// only a device whose bytes come late may give it still.
+/// How many times a map is closed before a version that a frame or a lane did not return counts as missed. No
+/// thread works any more, so only a device whose bytes come late can return it still.
 const MOST_CLOSES: u32 = 1_000;
 
-/// The callers, and one of the map's own behind them.
+/// The callers, and then one of the map's own.
 pub(crate) fn with_own<V: Value, J: Naming>(
     mut callers: Vec<Caller<Text, V, J>>,
     own: Caller<Text, V, J>,
@@ -43,7 +43,7 @@ pub(crate) fn with_own<V: Value, J: Naming>(
     }
 }
 
-/// Closes the table, again where a name was missed.
+/// Closes the table, and tries again after `Missed`.
 fn close_again<V, J, D, R>(
     rt: &R,
     alloc: Global,
@@ -71,7 +71,7 @@ where
     Err(CloseFault::Missed)
 }
 
-/// Afterwards the caller has seen what each of the others has.
+/// Has the map's own caller learn what each of the others has seen.
 fn tell_all<V: Value, J: Naming, D: Device>(
     table: &FarTable<Text, V, J, D>,
     own: &mut Caller<Text, V, J>,
@@ -90,9 +90,11 @@ fn tell_all<V: Value, J: Naming, D: Device>(
 }
 
 impl<V: Value, J: Naming, B: QueueNaming, D: Device> FarMap<V, J, B, D> {
-    /// Ends the map, where all sessions have left, and gives all pairs in key order. The map is dropped at a fault.
+    /// Ends the map after all sessions have left, and returns all pairs in key order. After a fault the map
+    /// is dropped.
     ///
-    /// `PassesSpent` comes where a session's caller is not handed in; the others as at `FarTable::close`.
+    /// `PassesSpent` is returned if the caller of a session is not handed in. The others are those of
+    /// `FarTable::close`.
     pub(crate) fn close<R: Wait>(
         self,
         rt: &R,
@@ -110,7 +112,8 @@ impl<V: Value, J: Naming, B: QueueNaming, D: Device> FarMap<V, J, B, D> {
         }
     }
 
-    /// The same for a map whose pairs have no room in memory together: the taker is handed them, bucket by bucket.
+    /// The same for a map whose pairs don't fit in memory together: the taker is handed them, bucket after
+    /// bucket.
     pub(crate) fn close_through<R: Wait, T: TakesPairs<Text, V>>(
         self,
         rt: &R,
@@ -132,8 +135,8 @@ impl<V: Value, J: Naming, B: QueueNaming, D: Device> FarMap<V, J, B, D> {
         }
     }
 
-    /// Ends the map, where all sessions have left, and drops what it holds: a front at which these are all. The map is dropped at a
-    /// fault too.
+    /// Ends the map after all sessions have left, and drops what it holds. It returns a mark whose front has
+    /// just the calls of these callers. After a fault the map is dropped too.
     pub(crate) fn end(
         self,
         alloc: Global,
@@ -150,8 +153,8 @@ impl<V: Value, J: Naming, B: QueueNaming, D: Device> FarMap<V, J, B, D> {
         }
     }
 
-    /// Ends the map, where all sessions have left, and hands over what it holds. What can't be read is passed over. The map is dropped at
-    /// a fault.
+    /// Ends the map after all sessions have left, and hands over its pairs. Buckets that can't be read are
+    /// left out and counted. After a fault the map is dropped.
     pub(crate) fn drain<R: Wait>(
         self,
         rt: &R,
@@ -174,8 +177,8 @@ impl<V: Value, J: Naming, B: QueueNaming, D: Device> FarMap<V, J, B, D> {
         }
     }
 
-    /// Ends the map, where all sessions have left, and drops what it holds. One front is told what each of them has seen, so that
-    /// theirs are beginnings of one history.
+    /// Ends the map after all sessions have left, and drops what it holds. One caller learns what each of
+    /// them has seen, so their fronts are prefixes of one log.
     pub(crate) fn abandon(self, callers: &[Caller<Text, V, J>])
         ensures { IsLeft V.enc J.limits (map (λ c. c.pass) callers.now) }
     {
@@ -192,8 +195,8 @@ where
     B: QueueNaming,
     D: Device + Send,
 {
-    /// The same for a map of many pairs: they come as they are written, and the buckets are read side by side. Where a frame or a
-    /// lane does not give a name the map is closed again, 1,000 times in all.
+    /// As `close`, for a map of many pairs: they are returned as the bytes that they are written as, and
+    /// several threads read the buckets. After `Missed` the map is closed again, 1,000 times in all.
     pub(crate) fn close_on_threads<R: Threads + Wait + Sync>(
         self,
         rt: &R,

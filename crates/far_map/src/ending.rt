@@ -1,4 +1,4 @@
-//! What a run gives beside what its workers gave back.
+//! What a run returns in addition to the workers' results.
 ghost use Rattle.std.specs.Prelude.{MatchResult, ⊤};
 
 use crate::values::Value;
@@ -11,15 +11,15 @@ use hash_table::{Stopped, TakesPairs};
 pub enum End {
     /// All pairs, in key order.
     Pairs,
-    /// All pairs, as they are written.
+    /// All pairs, as the bytes that they are written as.
     Bundles,
-    /// No pairs: they go to a taker, bucket by bucket.
+    /// No pairs: they are handed to a taker, bucket after bucket.
     Buckets,
     /// No pairs.
     Nothing,
 }
 
-/// What it gave.
+/// What the end returned.
 #[derive(Drop)]
 pub enum Given<V: Value> {
     Pairs(Vec<(Text, V)>),

@@ -1,4 +1,5 @@
-//! Sessions enter. Their passes are drawn before any worker begins, so that a run for which there are too few does nothing.
+//! Sessions enter. Their passes are drawn before any worker begins, so a run that has too few of them does
+//! nothing.
 ghost use Rattle.std.specs.Prelude.{◌≡◌, ◌<◌, ◌^◌, [], vec_len, IfOk, IfErr};
 ghost use mathlib.Core.List.{IsPrefix};
 ghost use Rattle.version_words.specs.Views.{calls};
@@ -26,7 +27,7 @@ pub(crate) struct Newcomer<V: Value, J: Naming, B: QueueNaming> {
     ghost new: { calls seated.caller.pass ≡ [] },
 }
 
-/// A new caller, also while others enter. `PassesSpent` comes where the last pass was drawn.
+/// Draws a pass for a new caller, also while others enter. Returns `PassesSpent` if none is left.
 pub(crate) fn enter<V: Value, J: Naming, D: Device, R: Wait>(
     rt: &R,
     table: &FarTable<Text, V, J, D>,
@@ -44,8 +45,8 @@ pub(crate) fn enter<V: Value, J: Naming, D: Device, R: Wait>(
     unreachable!()
 }
 
-/// A newcomer for each seat, who enter in the order of the seats. Where they recycle, each owns a frame between its calls.
-/// `Memory` comes where a growth is refused.
+/// A newcomer for each seat, who enter in the order of the seats. If `recycles` is set, each owns a frame
+/// between its calls. Returns `Memory` if an allocation failed.
 pub(crate) fn enter_all<V: Value, J: Naming, B: QueueNaming, D: Device, R: Wait>(
     rt: &R,
     alloc: Global,
@@ -86,7 +87,7 @@ pub(crate) fn enter_all<V: Value, J: Naming, B: QueueNaming, D: Device, R: Wait>
 }
 
 impl<V: Value, J: Naming, B: QueueNaming, D: Device> FarMap<V, J, B, D> {
-    /// A session that has made no call.
+    /// Begins a session. It has made no call.
     pub(crate) fn begin(
         &self,
         alloc: Global,
@@ -105,7 +106,7 @@ impl<V: Value, J: Naming, B: QueueNaming, D: Device> FarMap<V, J, B, D> {
         }
     }
 
-    /// The same, where the session has seen what the mark has.
+    /// The same, with a session that has seen what the mark has.
     pub(crate) fn begin_behind(
         &self,
         alloc: Global,

@@ -10,17 +10,17 @@ use std::time::Duration;
 use swapper::QueueNaming;
 use version_words::Naming;
 
-/// How many microseconds the evictor sleeps where a round found nothing to do and the one before did: few enough that few spares
-/// wait.
+/// How many microseconds the evictor sleeps if a round found nothing to do and the round before did. It is
+/// short, so that few retired words wait.
 const SHORTEST_NAP: u64 = 100;
 
-/// How many it sleeps at most. Each nap is twice as long as the one before, since each that ends takes a processor from a worker,
-/// to find nothing.
+/// How many microseconds it sleeps at most. Each nap is twice as long as the one before, because each time
+/// that it wakes for nothing it takes a processor from a worker.
 const LONGEST_NAP: u64 = 3_200;
 
 impl<V: Value, J: Naming, B: QueueNaming, D: Device> FarMap<V, J, B, D> {
-    /// Has spares reclaimed, and frames emptied while too few are free, until all workers have ended. A nap ends early where
-    /// somebody wakes it.
+    /// Reclaims retired words, and empties frames while too few are free, until all workers have ended.
+    /// `stop_evicting` wakes it.
     pub(crate) fn evict<R: Wait>(&self, rt: &R) {
         self.started.store(true, Ordering::SeqCst);
         let mut nap = SHORTEST_NAP;

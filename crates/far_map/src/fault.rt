@@ -11,28 +11,34 @@ use hash_table::{CloseFault, HandFault, OpenFault, TakesPairs};
 use thiserror::Error;
 use version_words::Naming;
 
-/// Why a run gave nothing. What its workers had made is gone then.
+/// Why a run failed. Its map is gone then, with all pairs.
+///
+/// `run_bundled` and `run_through` return a fault at the end together with what the workers returned. After
+/// each other fault that is gone too.
 #[derive(Clone, Copy, Debug, PartialEq, Eq, Error)]
 pub enum RunFault {
-    /// The first setting that is outside its limits.
+    /// This setting is the first one outside its limits. Nothing was done yet.
     #[error("bad setting: {0}")]
     BadSetting(Setting),
-    /// There are not as many passes as workers and one more.
+    /// `Settings::passes` is too small: a run needs one for each worker and one more, and `run_renewed` two
+    /// more. No worker has begun then. It is also returned if a worker left another session in place of the
+    /// one that it was handed.
     #[error("passes spent")]
     PassesSpent,
-    /// A growth of memory was refused.
+    /// An allocation failed.
     #[error("memory")]
     Memory,
-    /// A device failed as it was made empty, or at the end.
+    /// A device failed when it was made empty, or at the end of the run.
     #[error("device")]
     Device,
-    /// The bytes that were read at the end are no object of their bucket and name.
+    /// The bytes that a device returned at the end are no object of the bucket and version that they were
+    /// asked for. Over an honest device it is proved that this is not returned.
     #[error("damaged")]
     Damaged,
-    /// A frame or a lane did not give a name at the end.
+    /// At the end, a frame or a lane did not have the version that the word of a bucket names.
     #[error("missed")]
     Missed,
-    /// The taker of a run that hands its pairs over takes no more.
+    /// The taker of `run_through` took no more pairs.
     #[error("stopped")]
     Stopped,
 }

@@ -1,4 +1,4 @@
-//! A value that is held from one call to another.
+//! A value that is held in its frame from one call to another.
 ghost use Rattle.std.specs.Prelude.{◌≡◌, IfErr};
 ghost use mathlib.Core.List.{IsPrefix};
 ghost use Rattle.table_core.specs.declared.operation.Operation.TheVariants.{Get};
@@ -25,7 +25,7 @@ use version_words::Naming;
 /// A value that is held, or none.
 pub(crate) type Held<'a, V, J> = Option<TableScope<'a, Text, V, J>>;
 
-/// One try to fetch the key's object into a frame. What another try may not meet is no refusal.
+/// One try to fetch the key's object into a frame. It is no refusal if another thread was faster.
 fn bring<V: Value, J: Naming, D: Device, R: Wait>(
     rt: &R,
     alloc: Global,
@@ -45,7 +45,7 @@ fn bring<V: Value, J: Naming, D: Device, R: Wait>(
     }
 }
 
-/// Tries to open a scope until the key's object lies in a frame; it is fetched where it does not.
+/// Opens a scope on the key's value. While the object is not in a frame, it is fetched first.
 pub(crate) fn open_near<'a, V: Value, J: Naming, D: Device, R: Wait>(
     rt: &R,
     alloc: Global,
@@ -69,8 +69,8 @@ pub(crate) fn open_near<'a, V: Value, J: Naming, D: Device, R: Wait>(
     unreachable!()
 }
 
-/// Opens a scope on the key's value. After each refusal that room may help, room is made and it is tried again, 1,000 times at
-/// most.
+/// Opens a scope on the key's value. If a refusal shows a lack of room, it makes room and tries again, 1,000
+/// times at most.
 fn open<'a, V: Value, J: Naming, B: QueueNaming, D: Device, R: Wait>(
     rt: &R,
     alloc: Global,
@@ -97,7 +97,7 @@ fn open<'a, V: Value, J: Naming, B: QueueNaming, D: Device, R: Wait>(
     }
 }
 
-/// The same, and what follows each call.
+/// The same, with what follows each call.
 fn open_and_keep<'a, V: Value, J: Naming, B: QueueNaming, D: Device, R: Wait>(
     rt: &R,
     alloc: Global,
@@ -114,7 +114,7 @@ fn open_and_keep<'a, V: Value, J: Naming, B: QueueNaming, D: Device, R: Wait>(
 }
 
 impl<'m, V: Value, J: Naming, B: QueueNaming, D: Device> Session<'m, V, J, B, D> {
-    /// Holds the key's value where it lies, or none where the key has none.
+    /// Holds the key's value in its frame. `None` if the key has no value.
     pub(crate) fn take_hold<R: Wait>(
         &mut self,
         rt: &R,

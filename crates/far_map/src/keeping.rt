@@ -1,11 +1,15 @@
-//! What keeps frames free: spares are reclaimed or handed over, and objects go to the devices.
+//! What keeps frames free: retired words are reclaimed or handed over, and objects are moved to the devices.
 //!
 //! # With the evictor's thread, and without
 //!
-//! Each session sees to its own: it reclaims the spare of its last call, whose frame it fills by its next one where frames are at
-//! least four times the sessions (`Caller::recycle`). Beside the evictor's thread it also gives a frame up where it found none, side
-//! by side with others, and hands over the spares that came back. Where there is no such thread, since there is one worker or it
-//! could not be started, the evictor does that in the session's thread: so what a single worker meets follows from its calls alone.
+//! Each session reclaims the retired word of its last call itself. If there are at least four times as many
+//! frames as sessions, it fills the frame that this empties with its next object (`Caller::recycle`).
+//!
+//! If the evictor's thread runs, a session that found no frame also swaps an object out itself, at the same
+//! time as others do. It hands over the retired words that it could not reclaim.
+//!
+//! There is no such thread if there is one worker, or if the thread could not be started. Then the evictor
+//! does its work in the session's thread. So what a single worker meets depends only on its own calls.
 ghost use Rattle.std.specs.Prelude.{◌≡◌, IfErr};
 ghost use Rattle.version_words.specs.Views.{Goes};
 ghost use Rattle.far_map.specs.Refusals.{IsTurnFault};
@@ -23,23 +27,23 @@ use std::sync::atomic::Ordering;
 use swapper::{Collected, Evictor, QueueNaming, QueueSeat, RoomMaker, reclaim_oldest};
 use version_words::Naming;
 
-/// How many turns are made at most before the evictor is let go: others may wait for it meanwhile.
+/// How many turns are made at most before the evictor's lock is released. Others may wait for it.
 const MOST_TURNS: u32 = 16;
 
-/// A caller, its seat at the queue of spares, and what it makes room by itself with.
+/// A caller, its seat at the queue of retired words, and what it makes room by itself with.
 #[derive(Drop)]
 pub struct Seated<V: Value, J: Naming, B: QueueNaming> {
     pub(crate) caller: Caller<Text, V, J>,
     pub(crate) seat: QueueSeat<Text, V, J, B>,
     pub(crate) room: RoomMaker,
     pub(crate) number: u32,
-    // How many bytes it last told that its calls had brought into frames.
+    // How many bytes its calls had brought into frames when it last reported that.
     pub(crate) told: i64,
 }
 
 impl<V: Value, J: Naming, B: QueueNaming, D: Device> FarMap<V, J, B, D> {
-    /// A turn of the evictor, and whether it emptied a frame. Where it is refused the caller has seen afterwards what the evictor
-    /// had.
+    /// Makes a turn of the evictor, and returns whether it emptied a frame. After a refusal the caller has
+    /// seen what the evictor had seen.
     pub(crate) fn turn<R: Wait>(
         &self,
         rt: &R,
@@ -64,13 +68,14 @@ impl<V: Value, J: Naming, B: QueueNaming, D: Device> FarMap<V, J, B, D> {
         }
     }
 
-    /// Whether the evictor's thread has frames to empty: fewer are free than it keeps so, or more bytes lie in frames than may.
+    /// Whether the evictor's thread has frames to empty: fewer are free than it keeps free, or more bytes are
+    /// in frames than may be.
     pub(crate) fn is_short(&self) -> bool {
         self.table.free() < self.reserve || self.bytes.is_above()
     }
 
-    /// Turns while that is so, and whether they emptied a frame. They are made by one
-    /// hold of the evictor. A refusal is the answer only where no turn before it emptied a frame.
+    /// Makes turns while that is so, and returns whether they emptied a frame. The evictor is not released
+    /// between them. A refusal is returned only if no turn before it emptied a frame.
     fn turns<R: Wait>(
         &self,
         rt: &R,
@@ -94,13 +99,13 @@ impl<V: Value, J: Naming, B: QueueNaming, D: Device> FarMap<V, J, B, D> {
         Ok(emptied)
     }
 
-    /// Turns by the evictor's thread, and whether they emptied a frame.
+    /// Makes turns by the evictor's thread, and returns whether they emptied a frame.
     pub(crate) fn turns_by_thread<R: Wait>(&self, rt: &R) -> bool {
         let mut evictor = self.evictor.lock(rt);
         matches!(self.turns(rt, &mut evictor), Ok(true))
     }
 
-    /// Turns for a caller, who has seen afterwards what the evictor had where it is refused.
+    /// Makes turns for a caller. After a refusal it has seen what the evictor had seen.
     fn turns_for<R: Wait>(
         &self,
         rt: &R,
@@ -120,14 +125,14 @@ impl<V: Value, J: Naming, B: QueueNaming, D: Device> FarMap<V, J, B, D> {
         }
     }
 
-    /// Has spares reclaimed, and says how many were, and whether the device failed.
+    /// Has retired words reclaimed, and returns how many were, and whether the device failed.
     pub(crate) fn collect<R: Wait>(&self, rt: &R) -> Collected {
         let collected = self.evictor.lock(rt).collect(rt, &self.table, &self.queue);
         self.keeps.store(collected.kept > 0, Ordering::SeqCst);
         collected
     }
 
-    /// Hands over the spares that the caller's calls have left, as far as the queue has room.
+    /// Hands over the retired words that the caller's calls have left, if the queue has room.
     pub(crate) fn settle<R: Wait>(&self, rt: &R, seated: &mut Seated<V, J, B>)
         ensures pass { seated.new.caller.pass ≡ seated.old.caller.pass }
         ensures none_lost { LosesNone seated.old.caller.limbo seated.old.seat seated.new.caller.limbo seated.new.seat }
@@ -135,7 +140,8 @@ impl<V: Value, J: Naming, B: QueueNaming, D: Device> FarMap<V, J, B, D> {
         self.queue.settle(rt, &mut seated.seat, &mut seated.caller);
     }
 
-    /// The caller makes room itself. Spares that waited go first, so that the one which it reclaims is that of the frame.
+    /// The caller swaps an object out itself. The retired words that waited are handed over first, so that
+    /// the one which it reclaims then is that of the frame.
     fn make_own_room<R: Wait>(
         &self,
         rt: &R,
@@ -149,7 +155,7 @@ impl<V: Value, J: Naming, B: QueueNaming, D: Device> FarMap<V, J, B, D> {
         seated.room.make_room(rt, &self.table, &mut seated.caller)
     }
 
-    /// What makes room for a caller that found no frame.
+    /// Makes room for a caller that found no frame.
     pub(crate) fn empty_frames<R: Wait>(
         &self,
         rt: &R,
@@ -168,7 +174,7 @@ impl<V: Value, J: Naming, B: QueueNaming, D: Device> FarMap<V, J, B, D> {
         }
     }
 
-    /// What comes before a change: a frame for it, where frames were lacking of late.
+    /// Has a frame ready before a change, if the caller found none lately.
     pub(crate) fn before_change<R: Wait>(&self, rt: &R, seated: &mut Seated<V, J, B>)
         ensures goes { Goes seated.old.caller.pass seated.new.caller.pass }
         ensures none_lost { LosesNone seated.old.caller.limbo seated.old.seat seated.new.caller.limbo seated.new.seat }
@@ -176,7 +182,7 @@ impl<V: Value, J: Naming, B: QueueNaming, D: Device> FarMap<V, J, B, D> {
         seated.room.make_ready(rt, &self.table, &mut seated.caller);
     }
 
-    /// Tells how many bytes its calls have brought into frames, and answers whether too many lie there by now.
+    /// Reports how many bytes its calls have brought into frames, and returns whether too many are there.
     fn tell(&self, seated: &mut Seated<V, J, B>) -> bool
         ensures caller { seated.new.caller ≡ seated.old.caller }
         ensures seat { seated.new.seat ≡ seated.old.seat }
@@ -186,7 +192,7 @@ impl<V: Value, J: Naming, B: QueueNaming, D: Device> FarMap<V, J, B, D> {
         self.bytes.is_above()
     }
 
-    /// Has a frame emptied where too many bytes lie in frames, and says whether it did.
+    /// Empties a frame if too many bytes are in frames, and returns whether it did.
     #[tactic(auto, using(crate::proofs::Losses::loses_self))]
     fn empty_above<R: Wait>(&self, rt: &R, seated: &mut Seated<V, J, B>) -> bool
         ensures goes { Goes seated.old.caller.pass seated.new.caller.pass }
@@ -198,7 +204,8 @@ impl<V: Value, J: Naming, B: QueueNaming, D: Device> FarMap<V, J, B, D> {
         matches!(self.empty_frames(rt, seated), Ok(true))
     }
 
-    /// Has frames emptied while too many bytes lie there. It looks where the caller's own count has changed by enough.
+    /// Empties frames while too many bytes are in frames. It looks only if the caller's own count has changed
+    /// by enough.
     #[tactic(auto, using(crate::proofs::Losses::loses_self))]
     fn keep_below<R: Wait>(&self, rt: &R, seated: &mut Seated<V, J, B>)
         ensures goes { Goes seated.old.caller.pass seated.new.caller.pass }
@@ -214,7 +221,8 @@ impl<V: Value, J: Naming, B: QueueNaming, D: Device> FarMap<V, J, B, D> {
         }
     }
 
-    /// What follows each call: where too many bytes lie in frames some are emptied, and its spares are seen to.
+    /// What follows each call: if too many bytes are in frames some are emptied, and the call's retired words
+    /// are handled.
     pub(crate) fn after_call<R: Wait>(&self, rt: &R, seated: &mut Seated<V, J, B>)
         ensures goes { Goes seated.old.caller.pass seated.new.caller.pass }
         ensures none_lost { LosesNone seated.old.caller.limbo seated.old.seat seated.new.caller.limbo seated.new.seat }
@@ -223,8 +231,8 @@ impl<V: Value, J: Naming, B: QueueNaming, D: Device> FarMap<V, J, B, D> {
         self.see_to_spares(rt, seated);
     }
 
-    /// Has the spares handed over that its calls have left, and without the evictor's thread reclaimed, with those that came back
-    /// before.
+    /// Hands over the retired words that its calls have left. Without the evictor's thread it then has them
+    /// reclaimed, with those that came back before.
     #[tactic(auto, using(crate::proofs::Losses::loses_self))]
     fn hand_over<R: Wait>(&self, rt: &R, seated: &mut Seated<V, J, B>)
         ensures goes { Goes seated.old.caller.pass seated.new.caller.pass }
@@ -240,7 +248,8 @@ impl<V: Value, J: Naming, B: QueueNaming, D: Device> FarMap<V, J, B, D> {
         }
     }
 
-    /// The caller reclaims its oldest spare, which is mostly the only one, and what still waits is handed over.
+    /// The caller reclaims its oldest retired word, which is mostly the only one. What still waits is handed
+    /// over.
     fn recycle_own<R: Wait>(&self, rt: &R, seated: &mut Seated<V, J, B>)
         ensures goes { Goes seated.old.caller.pass seated.new.caller.pass }
         ensures none_lost { LosesNone seated.old.caller.limbo seated.old.seat seated.new.caller.limbo seated.new.seat }
@@ -249,7 +258,7 @@ impl<V: Value, J: Naming, B: QueueNaming, D: Device> FarMap<V, J, B, D> {
         self.hand_over(rt, seated);
     }
 
-    /// Sees to the spares that its calls have left.
+    /// Handles the retired words that its calls have left.
     fn see_to_spares<R: Wait>(&self, rt: &R, seated: &mut Seated<V, J, B>)
         ensures goes { Goes seated.old.caller.pass seated.new.caller.pass }
         ensures none_lost { LosesNone seated.old.caller.limbo seated.old.seat seated.new.caller.limbo seated.new.seat }

@@ -1,12 +1,12 @@
-//! What the last generation of a map left is put into the next, before any worker is at work.
+//! What the last generation of a map left is put into the next one, before any worker works.
 //!
 //! # What is lost
 //!
-//! A part of the handover that can't be taken, and a pair whose put is refused for good, are passed over and counted: a far store may
-//! have lost an object, and a map of many pairs is not to end for one.
+//! A part of the handover that can't be taken is left out and counted. So is a pair whose put is refused for
+//! good. A far store may have lost an object, and a map of many pairs should not end because of one.
 //!
-//! A put may be refused only for now, since frames wait for old versions that are not reclaimed yet. Where nobody but the loader is
-//! at work nothing else frees them, so it sees to them and puts again.
+//! A put may also be refused only for now, because frames wait for old versions that are not reclaimed yet.
+//! Only the loader works, so it has to free them itself. Then it puts again.
 ghost use Rattle.std.specs.Prelude.{◌≡◌, [], ◌∷◌, ◌++◌, IfSome, IfNone};
 ghost use Rattle.std.specs.Bool.{OnFalse};
 ghost use Rattle.version_words.specs.Views.{Goes};
@@ -30,11 +30,11 @@ use std::thread::yield_now;
 use swapper::QueueNaming;
 use version_words::Naming;
 
-/// How many times a part is asked for that is refused its memory, and how many further tries a put has.
+/// How many times a part is asked for if there is no memory for it, and how many further tries a put has.
 const MOST_TRIES: u32 = 1_000;
 
-/// Another part of the pairs, or none of its pairs where it is lost. Where it is refused its memory an object is moved to a device,
-/// and it is asked for again, 1,000 times in all.
+/// Another part of the pairs, or `Some(None)` if it is lost. If there is no memory for it, an object is moved
+/// to a device and the part is asked for again, 1,000 times in all. `None` if no part is left.
 fn next_part<V: Value, S: Calls<V>, D: Device, R: Wait>(
     rt: &R,
     alloc: Global,
@@ -69,7 +69,8 @@ fn stays(refusal: Refusal) -> bool {
     )
 }
 
-/// What may help a put that was refused for now: old versions are seen to, and an object is moved to a device.
+/// Does what may help a put that was refused for now: it handles old versions, and moves an object to a
+/// device.
 fn make_way<V: Value, S: Calls<V>, R: Wait>(rt: &R, me: &mut S)
     ensures { Goes (S.shown me.old).pass (S.shown me.new).pass }
 {
@@ -78,9 +79,10 @@ fn make_way<V: Value, S: Calls<V>, R: Wait>(rt: &R, me: &mut S)
     yield_now();
 }
 
-/// Puts a pair behind others, of which so many were refused, and answers how many are by now. `tries` says how often the puts that
-/// are refused one after another may still be tried again: all 1,000 times once one is put, so that a map whose pairs find no room
-/// any more is loaded in time.
+/// Puts a pair after others, of which `refused` were refused, and returns how many are refused now.
+///
+/// `tries` is how often puts that are refused one after another may still be tried again. It is 1,000 again
+/// after each pair that was put. So the loading ends in time for a map whose pairs find no room any more.
 fn put_one<V: Value, S: Calls<V>, R: Wait>(
     rt: &R,
     me: &mut S,
@@ -115,7 +117,7 @@ fn put_one<V: Value, S: Calls<V>, R: Wait>(
     }
 }
 
-/// Puts these pairs, and answers how many were refused.
+/// Puts these pairs, and returns how many were refused.
 fn put_each<V: Value, S: Calls<V>, R: Wait>(
     rt: &R,
     me: &mut S,
@@ -131,7 +133,7 @@ fn put_each<V: Value, S: Calls<V>, R: Wait>(
     refused
 }
 
-/// Puts another part of the pairs, and answers whether there was one.
+/// Puts another part of the pairs, and returns whether there was one.
 fn put_part<V: Value, S: Calls<V>, D: Device, R: Wait>(
     rt: &R,
     alloc: Global,
@@ -158,7 +160,7 @@ fn put_part<V: Value, S: Calls<V>, D: Device, R: Wait>(
     true
 }
 
-/// Puts all pairs of the handover. What was lost before them is counted already.
+/// Puts all pairs of the handover. `before` counts what was lost before.
 fn put_all<V: Value, S: Calls<V>, D: Device, R: Wait>(
     rt: &R,
     alloc: Global,

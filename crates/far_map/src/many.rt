@@ -15,7 +15,7 @@ use swapper::QueueNaming;
 use version_words::Naming;
 
 impl<'m, V: Value, J: Naming, B: QueueNaming, D: Device> Session<'m, V, J, B, D> {
-    /// Begins to load what calls with the first of these keys are about to read.
+    /// Begins to load what calls with the first of these keys are going to read.
     pub(crate) fn bring_near(&mut self, keys: &[Text])
         ensures goes { Goes self.old.pass self.new.pass }
         ensures same { (self.new.limit ≡ self.old.limit) × (self.new.stats ≡ self.old.stats) }
@@ -24,7 +24,7 @@ impl<'m, V: Value, J: Naming, B: QueueNaming, D: Device> Session<'m, V, J, B, D>
         table.prefetch(&mut self.seated.caller, keys);
     }
 
-    // Does so where so many calls were made, each of which was brought near.
+    // Does so after each group of calls that were prefetched together. `made` is how many were made.
     fn bring_next(&mut self, keys: &[Text], made: usize)
         ensures goes { Goes self.old.pass self.new.pass }
         ensures same { (self.new.limit ≡ self.old.limit) × (self.new.stats ≡ self.old.stats) }
@@ -34,7 +34,7 @@ impl<'m, V: Value, J: Naming, B: QueueNaming, D: Device> Session<'m, V, J, B, D>
         }
     }
 
-    /// The values of the keys, each copied by a get of its own.
+    /// Returns the values of the keys, each copied by a get of its own.
     pub(crate) fn copy_many<R: Wait>(
         &mut self,
         rt: &R,

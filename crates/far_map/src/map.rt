@@ -12,7 +12,8 @@ use std::thread::Parker;
 use swapper::{Evictor, QueueNaming, SpareQueue};
 use version_words::Naming;
 
-/// A table, its queue of spares and its evictor. `J` and `B` are their names in types, which `run` picks.
+/// A table, its queue of retired words and its evictor. `J` and `B` are their names in types, which a run
+/// picks.
 #[derive(Drop)]
 pub struct FarMap<V: Value, J: Naming, B: QueueNaming, D: Device> {
     pub(crate) table: FarTable<Text, V, J, D>,
@@ -22,13 +23,13 @@ pub struct FarMap<V: Value, J: Naming, B: QueueNaming, D: Device> {
     pub(crate) buckets: u32,
     // How many frames the evictor's thread keeps free.
     pub(crate) reserve: u32,
-    // The bytes in frames, as the sessions and the evictor tell of them.
+    // The bytes in frames, as the sessions and the evictor report them.
     pub(crate) bytes: FrameBytes,
-    // Whether the evictor may keep spares: some came back, or a turn was refused.
+    // Whether the evictor may keep retired words: some came back to it, or a turn was refused.
     pub(crate) keeps: AtomicBool,
     // Whether the evictor's thread has started.
     pub(crate) started: AtomicBool,
-    // Where the evictor's thread sleeps while it has nothing to do.
+    // On this the evictor's thread sleeps while it has nothing to do.
     pub(crate) bed: Parker,
     // Whether all workers have ended.
     pub(crate) ended: AtomicBool,

@@ -1,4 +1,4 @@
-//! A map over a table and a queue that are open.
+//! A map is made over a table and a queue that are open.
 ghost use Rattle.std.specs.Prelude.{◌≡◌, ◌<◌, ◌^◌, IfOk, IfErr, vec_len};
 ghost use Rattle.far_map.specs.Faults.{IsOfEntering};
 
@@ -17,12 +17,12 @@ use std::thread::Parker;
 use swapper::{Evictor, QueueNaming, QueueOpening};
 use version_words::Naming;
 
-/// How many frames the evictor's thread keeps free: a quarter of all, and one at least.
+/// How many frames the evictor's thread keeps free: a quarter of all, and at least one.
 fn reserve_of(frames: u32) -> u32 {
     (frames / 4).max(1)
 }
 
-/// How many times the sessions frames have to be, so that each session may own one between its calls.
+/// How many frames there have to be for each session, so that each may own one between its calls.
 const FRAMES_TO_OWN: u32 = 4;
 
 /// The map, and a newcomer for each worker. They enter before the evictor does.

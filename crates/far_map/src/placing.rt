@@ -1,4 +1,5 @@
-//! Where a key's bucket lies, a frame that is emptied on request, and old versions that are seen to. They are no calls of the map.
+//! Calls that look at a bucket's place, empty a frame, or handle old versions. They are no calls of the
+//! history.
 ghost use Rattle.std.specs.Prelude.{◌≡◌, ◌<◌, [], true, false, IfSome};
 ghost use Rattle.far_object.specs.Encodings.{enc_text};
 ghost use Rattle.far_object.specs.Buckets.{bucket};
@@ -22,7 +23,8 @@ use swapper::QueueNaming;
 use table_core::contents_are_map;
 use version_words::{Naming, empty_holds};
 
-/// A turn of the evictor, and whether it emptied a frame. Where another thread was faster it is made again.
+/// Makes a turn of the evictor, and returns whether it emptied a frame. If another thread was faster it is
+/// made again.
 #[tactic(auto, using(hash_table::proofs::Fronts::goes_trans))]
 fn turn<V: Value, J: Naming, B: QueueNaming, D: Device, R: Wait>(
     rt: &R,
@@ -43,7 +45,7 @@ fn turn<V: Value, J: Naming, B: QueueNaming, D: Device, R: Wait>(
     unreachable!()
 }
 
-/// The same. Where too many spares wait they go first, 1,000 times at most.
+/// The same. If too many retired words wait, they are reclaimed first, 1,000 times at most.
 fn give_up<V: Value, J: Naming, B: QueueNaming, D: Device, R: Wait>(
     rt: &R,
     map: &FarMap<V, J, B, D>,
@@ -97,7 +99,7 @@ impl<'m, V: Value, J: Naming, B: QueueNaming, D: Device> Session<'m, V, J, B, D>
         names_nothing(&self.map.table, &mut self.seated.caller, bucket)
     }
 
-    /// The bucket of the frame's object, if nothing has read the frame since this was last asked.
+    /// The bucket of the frame's object, if the frame's mark of use is not set. The mark is cleared.
     pub(crate) fn unread_bucket(&self, frame: u32) -> Option<u32>
         ensures { IfSome result (λ bucket. bucket < J.limits.buckets) }
     {
@@ -111,7 +113,7 @@ impl<'m, V: Value, J: Naming, B: QueueNaming, D: Device> Session<'m, V, J, B, D>
         }
     }
 
-    /// Where the contents of the key's bucket lie.
+    /// Where the contents of the key's bucket are.
     pub(crate) fn place(&mut self, key: &Text) -> BucketState
         ensures goes { Goes self.old.pass self.new.pass }
         ensures state { IsState (word enc_text J.limits.buckets self.new.pass.front (bucket enc_text J.limits.buckets key.now)) result }
@@ -122,7 +124,7 @@ impl<'m, V: Value, J: Naming, B: QueueNaming, D: Device> Session<'m, V, J, B, D>
         table.state_of(&mut self.seated.caller, bucket)
     }
 
-    /// Sees to the spares that its calls have left.
+    /// Handles the retired words that its calls have left.
     pub(crate) fn see_to_spares<R: Wait>(&mut self, rt: &R)
         ensures goes { Goes self.old.pass self.new.pass }
         ensures same { (self.new.limit ≡ self.old.limit) × (self.new.stats ≡ self.old.stats) }

@@ -1,4 +1,4 @@
-//! Gets: a value that is copied, or read where it lies. They need no room, and are tried once.
+//! Gets: a value is copied, or read in its frame. They need no room, and are tried once.
 ghost use Rattle.std.specs.Prelude.{◌≡◌, Some, IfErr};
 ghost use mathlib.Core.List.{IsPrefix};
 ghost use Rattle.std.specs.Fn.{FnOnceReturnsAt};
@@ -22,7 +22,7 @@ use std::sync::Wait;
 use swapper::QueueNaming;
 use version_words::Naming;
 
-/// The key's value, copied.
+/// Copies the key's value.
 fn copy_value<V: Value, J: Naming, D: Device, R: Wait>(
     rt: &R,
     alloc: Global,
@@ -40,7 +40,7 @@ fn copy_value<V: Value, J: Naming, D: Device, R: Wait>(
     }
 }
 
-/// The same, and what follows each call.
+/// The same, with what follows each call.
 fn copy_and_keep<V: Value, J: Naming, B: QueueNaming, D: Device, R: Wait>(
     rt: &R,
     alloc: Global,
@@ -57,7 +57,7 @@ fn copy_and_keep<V: Value, J: Naming, B: QueueNaming, D: Device, R: Wait>(
     copied
 }
 
-/// What the reader makes of bytes.
+/// What the reader returns for these bytes.
 fn read_bytes<T, F: FnOnce(&[u8]) -> T>(bytes: &[u8], read: F) -> T
     requires { F.IsAlwaysCallable read }
     ensures { FnOnceReturnsAt F.FnOnce read bytes.now result }
@@ -65,7 +65,7 @@ fn read_bytes<T, F: FnOnce(&[u8]) -> T>(bytes: &[u8], read: F) -> T
     read(bytes)
 }
 
-/// What the reader makes of the value of a scope, which is closed then.
+/// What the reader returns for the value of a scope, which is then closed.
 fn read_held<V: Value, J: Naming, T, F: FnOnce(&[u8]) -> T>(
     scope: TableScope<'_, Text, V, J>,
     read: F,
@@ -78,7 +78,8 @@ fn read_held<V: Value, J: Naming, T, F: FnOnce(&[u8]) -> T>(
     made
 }
 
-/// What the reader makes of the key's value, where it lies in a frame, or of a copy where it can't be brought into one.
+/// What the reader returns for the key's value in its frame. If the object can't be brought into a frame, the
+/// value is copied for it.
 fn read_value<
     V: Value,
     J: Naming,
@@ -112,7 +113,7 @@ fn read_value<
     }
 }
 
-/// The same, and what follows each call.
+/// The same, with what follows each call.
 fn read_and_keep<
     V: Value,
     J: Naming,
@@ -140,7 +141,7 @@ fn read_and_keep<
 }
 
 impl<'m, V: Value, J: Naming, B: QueueNaming, D: Device> Session<'m, V, J, B, D> {
-    /// The key's value, copied, or none.
+    /// Copies the key's value. `None` if the key has none.
     pub(crate) fn copy<R: Wait>(&mut self, rt: &R, key: &Text) -> Result<Option<V>, Refusal>
         ensures answers { Answers V.enc J.limits self.old self.new (Get key.now) result }
         ensures unread { IfErr result (IsUnread J.limits.honest) }
@@ -151,7 +152,7 @@ impl<'m, V: Value, J: Naming, B: QueueNaming, D: Device> Session<'m, V, J, B, D>
         copied
     }
 
-    /// What the reader makes of the key's value, or none where the key has none.
+    /// What the reader returns for the key's value. `None` if the key has none.
     pub(crate) fn read<T, F: FnOnce(&[u8]) -> T + Drop, R: Wait>(
         &mut self,
         rt: &R,

@@ -5,40 +5,48 @@ ghost use Rattle.far_map.specs.Refusals.{said};
 use hash_table::Refusal as TableRefusal;
 use thiserror::Error;
 
-/// Why a call was not finished. The map stands as before then, and so does every value.
+/// Why a call of a session was not made. No pair of the map has changed then.
+///
+/// It is final: if another try or more room may help, the call has tried that itself. `Calls` lists which
+/// call returns which of these.
 #[derive(Clone, Copy, Debug, PartialEq, Eq, Error)]
 pub enum Refusal {
-    /// The bucket's new object would be longer than the limit, or a text than 65,535 bytes.
+    /// The pairs of the key's bucket would take more bytes than `Settings::limit`. `text` and
+    /// `Value::from_bytes` return it for more bytes than a value of the type may have.
     #[error("too long")]
     TooLong,
-    /// There was no room by 1,000 further tries, of the kind that is told.
+    /// The call found no room within 1,000 further tries. `Lack` states which kind of room.
     #[error("full")]
     Full(Lack),
-    /// The last name was drawn: the call needs one, or a frame that was to be emptied for it. Gets go on.
+    /// The last version number was drawn, and the call needs one: for a new object, or to move another one
+    /// out of its frame. Gets go on. A fresh map has all numbers again (`run_renewed`).
     #[error("names spent")]
     NamesSpent,
-    /// A device failed in this call.
+    /// A device failed in this call: it did not read or write an object, or did not remove an old one. A
+    /// later call may succeed.
     #[error("device")]
     Device,
-    /// The bytes that were read are no object of their bucket and name.
+    /// The bytes that a device returned are no object of the bucket and version that they were asked for.
+    /// Over an honest device it is proved that no call of the history and no visit returns this.
     #[error("damaged")]
     Damaged,
-    /// A growth of memory was refused.
+    /// An allocation failed, or the bucket has 1,048,576 pairs and can't count one more.
     #[error("memory")]
     Memory,
 }
 
-/// What a call lacked room for.
+/// What a call that was refused with `Refusal::Full` found no room for.
 #[derive(Clone, Copy, Debug, PartialEq, Eq)]
 pub enum Lack {
-    /// A frame for its object: none was free, and none could be emptied.
+    /// A frame for its object. None was free, and none could be emptied, for example because all are held.
     Frame,
-    /// The version that it would replace: as many old ones wait as may, and none could be removed, since they are read or a
-    /// device fails.
+    /// The version that it would replace. As many old ones wait as may, and none could be removed, for
+    /// example because they are still read.
     Spare,
 }
 
-/// A refusal of the table that is the last word. `Full` stands for those that another try may not meet.
+/// What a call returns for a refusal of the table that is final. `Full` is returned for those that another
+/// try might not meet.
 pub(crate) fn said(refusal: TableRefusal) -> Refusal
     ensures { result ≡ said refusal }
 {

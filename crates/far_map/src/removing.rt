@@ -1,4 +1,4 @@
-//! A removal on a condition.
+//! Conditional removals.
 ghost use Rattle.std.specs.Prelude.{IfOk, IfSome};
 ghost use mathlib.Core.List.{IsPrefix};
 ghost use Rattle.far_map.specs.Answers.{Tries, AnswersBy, Answers};
@@ -20,7 +20,7 @@ use std::sync::Wait;
 use swapper::QueueNaming;
 use version_words::Naming;
 
-/// Tells of a value that was found that it is one which its type admits.
+/// Shows of a value that was found that its type admits it.
 fn admitted<V: Value>(found: &Option<V>)
     ensures { IfSome found.now V.admits }
 {
@@ -29,7 +29,7 @@ fn admitted<V: Value>(found: &Option<V>)
     }
 }
 
-/// One removal of the table.
+/// Makes one removal of the table.
 fn remove_now<V: Value, J: Naming, D: Device, R: Wait>(
     rt: &R,
     alloc: Global,
@@ -53,7 +53,7 @@ fn remove_now<V: Value, J: Naming, D: Device, R: Wait>(
     }
 }
 
-/// The removal. After each refusal that room may help, room is made and it is tried again, 1,000 times at most.
+/// Makes the removal. If a refusal shows a lack of room, it makes room and tries again, 1,000 times at most.
 fn remove_in_room<V: Value, J: Naming, B: QueueNaming, D: Device, R: Wait>(
     rt: &R,
     alloc: Global,
@@ -83,7 +83,7 @@ fn remove_in_room<V: Value, J: Naming, B: QueueNaming, D: Device, R: Wait>(
     }
 }
 
-/// The same, and what follows each call.
+/// The same, with what follows each call.
 fn remove_and_keep<V: Value, J: Naming, B: QueueNaming, D: Device, R: Wait>(
     rt: &R,
     alloc: Global,
@@ -102,7 +102,7 @@ fn remove_and_keep<V: Value, J: Naming, B: QueueNaming, D: Device, R: Wait>(
 }
 
 impl<'m, V: Value, J: Naming, B: QueueNaming, D: Device> Session<'m, V, J, B, D> {
-    /// Takes the key out where its value is the expected one.
+    /// Removes the key if its value is the expected one.
     pub(crate) fn take_out<R: Wait>(
         &mut self,
         rt: &R,

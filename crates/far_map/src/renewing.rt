@@ -1,16 +1,17 @@
-//! A run of many generations: as names get few its workers leave, what the map holds goes into a fresh one, whose names count from 1
-//! again, and they go on there.
+//! A run of many generations. Before version numbers run out, the workers leave the map, and its pairs go
+//! into a fresh one. There numbers are counted from 1 again, and the workers go on.
 //!
-//! # One loop makes them all
+//! # Why one loop makes all generations
 //!
-//! The types of a map name its row of words, which each generation picks anew. A call that picks may stand in no cycle of calls, so no
-//! generation begins the next one; and a loop keeps no value whose type names a row. So a generation ends as a `Handover`, which
-//! names none, and the loop here hands that to the next.
+//! The types of a map name its row of words, and each generation picks a row of its own. A call that picks
+//! one can't be in a cycle of calls, so no generation can begin the next one. And a loop can't keep a value
+//! whose type names a row. So a generation ends as a `Handover`, whose type names none, and the loop hands
+//! that to the next generation.
 //!
 //! # Devices
 //!
-//! A map that is drained leaves its devices, over which the next one is opened, and they are made empty then. What lay on them waits
-//! on a device of the handover meanwhile.
+//! A map that is drained leaves its devices. The next map is opened over them, and they are made empty then.
+//! Meanwhile the objects that were stored there wait on a device of the handover, the spool.
 ghost use Rattle.std.specs.Prelude.{◌≡◌, ◌<◌, ◌+◌, ◌^◌, None, IfOk, IfErr, IfSome, vec_len};
 ghost use Rattle.version_words.specs.Rows.{limits_of};
 ghost use Rattle.hash_table.specs.Configs.{sizes_of, first_bad_wide_with};
@@ -39,18 +40,18 @@ use std::thread::Threads;
 use swapper::{QueueNaming, QueueOpening};
 use version_words::Naming;
 
-/// What a renewed run gave back.
+/// What `run_renewed` returns.
 #[derive(Drop)]
 pub struct Renewals<T> {
-    /// What the workers kept at last, in their order.
+    /// What each worker returned from its last term, in the order of the workers' numbers.
     pub kept: Vec<T>,
-    /// How much was lost between the generations: buckets that could not be read, parts that could not be taken, and pairs whose
-    /// put was refused. A count of 2^64 - 1 stays.
+    /// How much was lost between the generations: buckets that could not be read, parts that could not be
+    /// taken, and pairs whose put was refused. A count of 2^64 - 1 stays.
     pub lost: u64,
 }
 
-/// A generation that is over: what its workers kept, how much was lost on the way into it, and what is left of its map where another
-/// one follows.
+/// A generation that has ended: what its workers kept, and how much was lost on the way into it. `next` is
+/// what is left of its map, if another generation follows.
 #[derive(Drop)]
 struct Generation<D, T> {
     kept: Vec<T>,
@@ -208,7 +209,7 @@ where
     )
 }
 
-/// The table's settings over these devices, where none is bad.
+/// The table's settings over these devices, if none is bad.
 fn good_config<D: Device>(settings: Settings, devices: &Vec<D>) -> Result<Config, RunFault>
     ensures config { IfOk result (λ config. config ≡ config_of settings (vec_len devices.now)) }
     ensures good { IfOk result (λ config. first_bad_wide_with (vec_len devices.now) config ≡ None) }
@@ -222,14 +223,43 @@ fn good_config<D: Device>(settings: Settings, devices: &Vec<D>) -> Result<Config
     }
 }
 
-/// As `run_apart`, generation after generation: once all workers have left a map and `Stints::after` asks for another one, what it
-/// holds is put into a fresh one over the same devices, and the workers go on there, each with what it kept. There is a worker for
-/// each of these states. The spool is a device of the handover's own, for objects that lie on a device. The last map is gone at the end.
+/// Runs workers on a map that is renewed. It returns what each worker kept from its last term, and how much
+/// was lost.
 ///
-/// What can't be read or put on the way from one generation to the next is passed over, and counted.
+/// There is a worker for each of `states`, which is what it begins its first term with. A generation is one
+/// map, and a term is what a worker does in it (`Stints::stint`). Once all workers have returned from their
+/// terms, `Stints::after` decides. After `After::Renewed`, the map's pairs are put into a fresh one over the
+/// same devices, and each worker begins another term with the state that it returned. After `After::End` the
+/// run ends, and the last map is dropped.
 ///
-/// The faults are those of `run`, of any generation, where for `PassesSpent` there is one worker more, which loads: `BadSetting` comes
-/// before anything else is done, and `Device` also where the spool fails as it is made empty.
+/// `spool` is a device on which objects wait between two generations, if they were stored on a device. It is
+/// made empty first.
+///
+/// What can't be read or put on the way into the next generation is left out and counted, in `Carried` and
+/// `Renewals`.
+///
+/// # Errors
+///
+/// - `BadSetting`: a setting is outside its limits, and this is the first one. It is returned before anything
+///   is done.
+/// - `Device`: a device failed when it was made empty, at the beginning of any generation, or `spool` did.
+/// - `PassesSpent`: `settings.passes` is less than the workers + 2. One more session puts the pairs, and the
+///   map itself needs one.
+/// - `Memory`: an allocation failed, in any generation.
+///
+/// After each of these the map and the states are gone. A bucket that can't be read is no error here.
+///
+/// # What is proved
+///
+/// Each generation has one lawful history with the calls of its sessions and no others. It begins with puts
+/// only, before any worker's session begins. Over an honest device these are of the pairs that the generation
+/// before left: of all of them if nothing was lost, and otherwise of a part. Each worker's `done` holds for
+/// each term.
+///
+/// # Cost
+///
+/// Between two generations no worker works. Each pair is read once and put once. An object that was in a
+/// frame stays in memory meanwhile, and one that was on a device is written to the spool and read again.
 pub fn run_renewed<V, D, W, R>(
     rt: &R,
     alloc: Global,

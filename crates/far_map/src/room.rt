@@ -1,10 +1,11 @@
 //! What is done between two tries of a call.
 //!
-//! # A call is not tried again before there may be room
+//! # A call is tried again only when there may be room
 //!
-//! Each try of a call reads its bucket, from a device where the object is far. So a call that found no frame waits until one was
-//! emptied or is named as free, and is tried again only then. A name is a hint: another thread may take the frame first. So all that
-//! is done for one call, its tries and its waits, is counted together.
+//! Each try of a call reads its bucket, from a device if the object is far. So a call that found no frame
+//! waits until one was emptied or one is listed as free, and is tried again only then. The list is a hint,
+//! because another thread may take the frame first. So all that is done for one call, its tries and its
+//! waits, is counted together.
 ghost use Rattle.std.specs.Prelude.{◌≡◌, ◌⊎◌, IfErr};
 ghost use Rattle.far_map.specs.Refusals.{said, IsOfRoom};
 ghost use Rattle.far_map.specs.Spares.{LosesNone};
@@ -24,8 +25,9 @@ use version_words::Naming;
 /// How many further tries a call has.
 pub(crate) const MOST_TRIES: u32 = 1_000;
 
-/// Has spares go. Where none did since the device failed, the call is refused for that at once: each further try would ask the
-/// device again. Where none did for another reason, those who read what they name go first.
+/// Has retired words reclaimed. If none was because the device failed, the call is refused at once, because
+/// each further try would ask the device again. If none was for another reason, other threads run first: a
+/// reader may be in a frame that waits.
 fn free_spares<V: Value, J: Naming, B: QueueNaming, D: Device, R: Wait>(
     rt: &R,
     map: &FarMap<V, J, B, D>,
@@ -47,7 +49,7 @@ fn free_spares<V: Value, J: Naming, B: QueueNaming, D: Device, R: Wait>(
     Ok(())
 }
 
-/// Has a frame emptied, and answers whether one was. Where that is refused for a reason that stays, so is the call.
+/// Empties a frame, and returns whether one was emptied. A refusal that is final is that of the call.
 fn empty_frame<V: Value, J: Naming, B: QueueNaming, D: Device, R: Wait>(
     rt: &R,
     map: &FarMap<V, J, B, D>,
@@ -62,7 +64,7 @@ fn empty_frame<V: Value, J: Naming, B: QueueNaming, D: Device, R: Wait>(
         Err(TableRefusal::Device) => Err(Refusal::Device),
         Err(TableRefusal::NamesSpent) => Err(Refusal::NamesSpent),
         Ok(true) => Ok(true),
-        // Frames may wait for spares, and these for a removal that fails.
+        // Frames may wait for retired words, and these for a removal that fails.
         _ => match free_spares(rt, map, seated) {
             Ok(()) => Ok(false),
             Err(why) => Err(why),
@@ -70,8 +72,9 @@ fn empty_frame<V: Value, J: Naming, B: QueueNaming, D: Device, R: Wait>(
     }
 }
 
-/// Waits until there may be a frame for the caller, for so many rounds at most, which it counts down. Where none was emptied in one,
-/// those who hold frames, and may wait for this thread's processor, go first.
+/// Waits until there may be a frame for the caller, for `tries` rounds at most, which it counts down. After a
+/// round that emptied none, other threads run first: they may hold frames, and wait for this thread's
+/// processor.
 fn wait_for_frame<V: Value, J: Naming, B: QueueNaming, D: Device, R: Wait>(
     rt: &R,
     map: &FarMap<V, J, B, D>,
@@ -96,8 +99,8 @@ fn wait_for_frame<V: Value, J: Naming, B: QueueNaming, D: Device, R: Wait>(
     Err(said(TableRefusal::NoFrame))
 }
 
-/// Makes room after a refusal: a frame where none was free, and spares go where too many wait. `tries` says how often that may still
-/// be done for this call. Every other refusal is the call's.
+/// Makes room after a refusal. It empties a frame if none was free, and reclaims retired words if too many
+/// wait. `tries` is how often that may still be done for this call. Every other refusal is that of the call.
 pub(crate) fn make_room<V: Value, J: Naming, B: QueueNaming, D: Device, R: Wait>(
     rt: &R,
     map: &FarMap<V, J, B, D>,

@@ -1,4 +1,5 @@
-//! A run: from settings and devices to a map, its workers, and its end. The names in types are picked here.
+//! A run: it opens a map from settings and devices, has workers work on it, and ends it. The names in types
+//! are picked here.
 ghost use Rattle.std.specs.Prelude.{◌≡◌, ◌<◌, None, IfOk, IfErr, vec_len};
 ghost use Rattle.version_words.specs.Rows.{limits_of};
 ghost use Rattle.hash_table.specs.Configs.{sizes_of};
@@ -170,15 +171,39 @@ where
     )
 }
 
-/// Opens a map over these devices, one for each lane, and has so many workers do the work on it, each on a thread of its own as
-/// far as threads can be started, and where they are several beside a thread that keeps frames free; then it closes the map. It
-/// answers what the workers gave back, in their order, and all pairs in key order.
+/// Opens a map, has workers work on it, and closes it. It returns what each worker returned, in the order of
+/// the workers' numbers, and all pairs in key order.
 ///
-/// The faults come in the order of the work. `BadSetting` names the first setting that is outside its limits, before anything else
-/// is done; `Device` comes where a device fails as it is made empty; `PassesSpent` where there are not as many passes as workers
-/// and one more, before any worker begins. At the end `Device` comes where a device fails, `Damaged` where what it gives is no
-/// object of its bucket and name, and `Missed` where a frame or a lane does not give a name. `Memory` comes where a growth is
-/// refused. The map is gone after each.
+/// Each device becomes a lane of the map, and is made empty first. `workers` is the number of workers. They
+/// are counted from 0, and each does `work` once. Key order means that shorter keys come first, and keys of
+/// one length in the order of their bytes.
+///
+/// Each worker has its own thread, which is the caller's for worker 0. If there are several, one more thread
+/// keeps frames free. If a thread can't be started, its worker works after others on their thread. So a
+/// worker that waits for another one may wait forever.
+///
+/// # Errors
+///
+/// - `BadSetting`: a setting is outside its limits, and this is the first one. It is returned before anything
+///   is done.
+/// - `Device`: a device failed when it was made empty, or when it was read at the end.
+/// - `PassesSpent`: `settings.passes` is less than `workers` + 1. It is returned before any worker begins.
+/// - `Damaged`: at the end, bytes from a device are no object of their bucket and version.
+/// - `Missed`: at the end, a frame or a lane did not have the version that the word of a bucket names.
+/// - `Memory`: an allocation failed.
+///
+/// After each of these the map and the workers' results are gone. The devices are dropped.
+///
+/// # What is proved
+///
+/// There is one lawful history with the calls of the workers' sessions and no others. Over an honest device,
+/// the pairs are the map of that history. Each worker's `done` holds for what it returned. A bad setting is
+/// named exactly if there is one.
+///
+/// # Cost
+///
+/// At the end all pairs are copied, and are in memory together. `run_through` and `run_apart` are for larger
+/// maps.
 pub fn run<V, D, W, R>(
     rt: &R,
     alloc: Global,
@@ -216,9 +241,16 @@ where
     }
 }
 
-/// As `run`, for a map of many pairs: they come as they are written, in no order, and the buckets are read side by side;
-/// `far_pairs::in_key_order` lends the pairs in key order. Where a frame or a lane does not give a name at the end it is tried
-/// again, 1,000 times in all. A fault at the end comes beside what the workers gave back.
+/// As `run`, for a map of many pairs: they are returned in bundles, as the bytes that they are written as.
+///
+/// The bundles are in no order. `far_pairs::in_key_order` lends their pairs in key order. If the map has more
+/// than 16,384 buckets, up to four threads read them.
+///
+/// # Errors
+///
+/// `BadSetting`, `PassesSpent`, and `Device` and `Memory` before the end are returned as by `run`. A fault at
+/// the end is returned with what the workers returned, in place of the bundles: `Device`, `Damaged`, `Missed`
+/// or `Memory`, as by `run`. `Missed` is returned only after 1,000 tries.
 pub fn run_bundled<V, D, W, R>(
     rt: &R,
     alloc: Global,
@@ -256,9 +288,18 @@ where
     }
 }
 
-/// As `run`, for a map that has more than memory holds: at the end the taker is handed the pairs of each bucket, in the order of the
-/// buckets' numbers and in key order within each, and no more than one bucket's are copied at a time. A fault at the end comes beside
-/// what the workers gave back: those of `run`, and `Stopped` where the taker stopped. No further bucket is handed over then.
+/// As `run`, for a map that has more pairs than fit in memory: at the end they are handed to `taker`, bucket
+/// after bucket.
+///
+/// `taker` gets the pairs of each bucket once, in the order of the buckets' numbers, and in key order within
+/// a bucket. For a bucket without pairs it gets an empty list. The pairs of one bucket at a time are copied.
+///
+/// # Errors
+///
+/// `BadSetting`, `PassesSpent`, and `Device` and `Memory` before the end are returned as by `run`, and
+/// `taker` is as before. A fault at the end is returned with what the workers returned: `Device`, `Damaged`,
+/// `Missed` or `Memory`, as by `run`, or `Stopped` if `taker` stopped. No further bucket is handed over then,
+/// and `taker` keeps what it took.
 pub fn run_through<V, D, W, T, R>(
     rt: &R,
     alloc: Global,
@@ -299,8 +340,11 @@ where
     }
 }
 
-/// As `run`, but the pairs are not collected at the end, for a map that has more than memory holds: it answers what the workers
-/// gave back, in their order. The map is gone then. Its faults are those of `run` before the end.
+/// As `run`, without the pairs: it returns only what each worker returned, in the order of the workers'
+/// numbers.
+///
+/// The map is dropped at the end, and no bucket is read. Errors: `BadSetting`, `Device`, `PassesSpent` and
+/// `Memory`, as by `run` before the end.
 pub fn run_apart<V, D, W, R>(
     rt: &R,
     alloc: Global,

@@ -1,4 +1,4 @@
-//! One thread's way to the map.
+//! A session: how one thread makes calls on the map.
 ghost use Rattle.std.specs.Prelude.{◌≡◌};
 ghost use Rattle.far_map.specs.Asks.{asked};
 ghost use Rattle.far_map.specs.Answers.{Answers};
@@ -20,8 +20,10 @@ use std::sync::Wait;
 use swapper::QueueNaming;
 use version_words::Naming;
 
-/// A pass of its own, with all that its calls need; workers see it through `Calls`. Contracts see the pass, the most bytes of an
-/// object of the map, and what it has counted.
+/// What one worker makes calls by: a pass of its own, with all that its calls need. Workers see it through
+/// `Calls`.
+///
+/// Contracts see the pass, the most bytes of an object of the map, and what the session has counted.
 #[derive(Drop)]
 pub struct Session<'m, V: Value, J: Naming, B: QueueNaming, D: Device> {
     pub(crate) map: &'m FarMap<V, J, B, D>,
@@ -39,7 +41,7 @@ impl<'m, V: Value, J: Naming, B: QueueNaming, D: Device> Model for Session<'m, V
 }
 
 impl<'m, V: Value, J: Naming, B: QueueNaming, D: Device> Session<'m, V, J, B, D> {
-    /// One change.
+    /// Makes one change.
     pub(crate) fn ask<R: Wait>(&mut self, rt: &R, ask: &Asked<'_, V>) -> Result<Option<V>, Refusal>
         ensures answers { Answers V.enc J.limits self.old self.new (asked ask.now) result }
         ensures counts { Counts self.old self.new (asked ask.now) result }
@@ -49,7 +51,8 @@ impl<'m, V: Value, J: Naming, B: QueueNaming, D: Device> Session<'m, V, J, B, D>
         answered
     }
 
-    /// Ends the session, and gives back the frame that it owns: its caller is wanted for the end of the map.
+    /// Ends the session, and gives back the frame that it owns. It returns the caller, which the end of the
+    /// map needs.
     pub(crate) fn leave(self) -> Caller<Text, V, J>
         ensures { result.pass ≡ self.entry.pass }
     {

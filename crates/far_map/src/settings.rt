@@ -1,4 +1,4 @@
-//! The settings of a map.
+//! The settings of a map, and their names in faults.
 ghost use Rattle.std.specs.Prelude.{◌≡◌};
 ghost use Rattle.far_map.specs.Settings.{config_of, new_settings, setting_of};
 
@@ -6,44 +6,65 @@ use hash_table::Config;
 use std::fmt;
 use std::fmt::{Display, Formatter};
 
-/// The settings of a map. It has a lane for each device that it is opened over.
+/// The settings of a map. It has a lane for each device that it is opened over, 1 to 64.
+///
+/// A run looks at them first. It returns `RunFault::BadSetting` with the first one that is outside its
+/// limits.
 #[derive(Clone, Copy, Debug, PartialEq, Eq)]
 pub struct Settings {
-    /// Buckets, 1 to 2^22. A bucket's pairs are one object, so that a map of many pairs wants many.
+    /// The number of buckets, 1 to 2^22. It never changes, and each bucket takes 8 bytes. A bucket's pairs
+    /// are one object, which each change copies, so take about as many buckets as there will be pairs.
     pub buckets: u32,
-    /// Frames in memory, each for one object, 1 to 2^22.
+    /// The number of frames in memory, 1 to 2^22. Each holds the object of one bucket, and takes 64 bytes
+    /// even when empty.
     pub frames: u32,
-    /// The most bytes of an object, 4 to 2^24.
+    /// The most bytes of an object, 4 to 2^24. An object has 4 bytes and the pairs of its bucket. A pair has
+    /// its key and 2 bytes, and its value and 2 bytes, or 4 if that is a `Blob`.
     pub limit: u32,
-    /// Names that may be drawn, 1 to 2^40 - 1: each change draws one, and each move of an object.
+    /// How many version numbers can be drawn, 1 to 2^40 - 1. Each change of a bucket draws one, and so does
+    /// each move of an object. Once all are drawn, changes return `Refusal::NamesSpent`.
     pub names: u64,
-    /// Passes that may be drawn, 1 to 65,535: one for each worker, and one for the map itself.
+    /// How many passes can be drawn, 1 to 65,535. A run needs one for each worker and one more, and
+    /// `run_renewed` two more.
     pub passes: u32,
-    /// Spares that the queue to the evictor holds, 1 to 4,096.
+    /// How many retired words the queue to the evictor holds, 1 to 4,096.
     pub spares: u32,
-    /// The most bytes of objects in frames, which the map comes back below by itself: where objects differ in size, the number of
-    /// frames alone bounds no memory. `u64::MAX` for as many as the frames hold.
+    /// The most bytes of objects in frames, or `u64::MAX` for no such bound. The map moves objects to its
+    /// devices while more bytes than that are in frames, so it may be above for a while. It bounds the memory
+    /// if objects differ in size, which the number of frames doesn't.
     pub bytes: u64,
-    /// The format of an object that is written to a device, 1 or 2; the second has a header with its bucket and name.
+    /// The format of an object that is written to a device, 1 or 2. In the second format a header has its
+    /// bucket and version number, and a reader checks them.
     pub format: u32,
 }
 
-/// One of the settings. The lanes are the devices, of which there are 1 to 64.
+/// One of the settings, as `RunFault::BadSetting` names it. Each value of `Settings::bytes` is allowed, so it
+/// is not among these.
 #[derive(Clone, Copy, Debug, PartialEq, Eq)]
 pub enum Setting {
+    /// `Settings::buckets`.
     Buckets,
+    /// `Settings::frames`.
     Frames,
+    /// `Settings::limit`.
     Limit,
+    /// `Settings::names`.
     Names,
+    /// `Settings::passes`.
     Passes,
+    /// The number of devices, which has to be 1 to 64.
     Lanes,
+    /// `Settings::spares`.
     Spares,
+    /// `Settings::format`.
     Format,
 }
 
 impl Settings {
-    /// So many buckets and frames, and objects of so many bytes at most; and all names and passes that there can be, 256 spares,
-    /// no bound on the bytes in frames, and the second format.
+    /// Returns settings with these numbers of buckets and frames, and with objects of at most `limit` bytes.
+    ///
+    /// The others have these values: as many version numbers and passes as possible, 256 spares, no bound of
+    /// the bytes in frames, and the second format. Set their fields to change them. Nothing is checked yet.
     pub fn new(buckets: u32, frames: u32, limit: u32) -> Settings
         ensures { result ≡ new_settings buckets frames limit }
     {
@@ -59,7 +80,7 @@ impl Settings {
         }
     }
 
-    // The table's settings, over so many devices. More than 64 are too many, however many they are.
+    // The table's settings over this number of devices. More than 64 become 65 lanes, which are too many.
     pub(crate) fn config(&self, devices: usize) -> Config
         ensures { result ≡ config_of self.now devices }
     {
@@ -97,7 +118,7 @@ impl Display for Setting {
     }
 }
 
-/// The setting that the table calls by this number.
+/// The setting that has this number in a fault of the table.
 pub(crate) fn setting_of(number: u32) -> Setting
     ensures { result ≡ setting_of number }
 {

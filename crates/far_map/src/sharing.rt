@@ -1,9 +1,10 @@
-//! One stint of each worker, side by side as far as threads can be started, and beside the evictor.
+//! One term of each worker, on a thread each as far as threads can be started, next to the evictor's thread.
 //!
-//! # What a stint sees
+//! # What a term sees
 //!
-//! Before its session begins each worker learns the mark of what was put before, so that its first call already stands behind all of
-//! that. And no clause says of a stint that it leaves its session in place, so the pass's number is looked at.
+//! Before its session begins, each worker learns the mark of what was put before. So its first call already
+//! follows all of that. No clause says that a term leaves its session in place, so the number of the pass is
+//! compared.
 ghost use Rattle.std.specs.Prelude.{◌≡◌, ◌<◌, ◌^◌, ◌++◌, ◌∷◌, [], map, vec_len, IfOk, IfErr};
 ghost use Rattle.std.specs.Thread.{IsSync, IsSend};
 ghost use Rattle.far_map.specs.declared.fault.RunFault.TheVariants.{Memory, PassesSpent};
@@ -25,10 +26,10 @@ use std::thread::{Threads, join};
 use swapper::QueueNaming;
 use version_words::{Mark, Naming, PassHolder};
 
-/// The callers of workers that have ended, and what they gave back, in the order of the workers.
+/// The callers of workers that have ended, and what they returned, in the order of the workers.
 pub(crate) type Ended<V, J, T> = (Vec<Caller<Text, V, J>>, Vec<T>);
 
-/// The worker's caller and what it gave back, behind those of the others.
+/// Adds this worker's caller and result after those of the others.
 fn with_last<V: Value, J: Naming, T: Drop>(
     others: Ended<V, J, T>,
     last: (Caller<Text, V, J>, T),
@@ -61,7 +62,7 @@ impl<'m, V: Value, J: Naming, B: QueueNaming, D: Device> Session<'m, V, J, B, D>
     }
 }
 
-/// One worker's stint, behind the mark. `PassesSpent` comes where it left another session than it was handed.
+/// One worker's term, after the mark. Returns `PassesSpent` if it left another session than it was handed.
 fn one<V, J, B, D, W, R>(
     rt: &R,
     alloc: Global,
@@ -92,8 +93,8 @@ where
     Ok((caller, kept))
 }
 
-/// A stint for each newcomer, from the state of its place: the last on a thread of its own, and the others on this one and theirs.
-/// `Memory` comes where a growth is refused.
+/// A term for each newcomer, from the state at its place. The last is on a thread of its own, and the others
+/// are on this thread and theirs. Returns `Memory` if an allocation failed.
 fn stints<V, J, B, D, W, R>(
     rt: &R,
     alloc: Global,
@@ -144,8 +145,8 @@ where
     with_last(others, own)
 }
 
-/// The stints beside the evictor's thread, where there are several. Where that can't be started its loop begins when all workers
-/// have ended, and ends at once: sessions make room by themselves.
+/// The terms, next to the evictor's thread if there are several. If that thread can't be started, its loop
+/// begins after all workers have ended, and ends at once. The sessions make room by themselves then.
 pub(crate) fn serve_stints<V, J, B, D, W, R>(
     rt: &R,
     alloc: Global,

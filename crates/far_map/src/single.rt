@@ -1,4 +1,4 @@
-//! The workers of a run: its work is the only stint of a run that is never renewed.
+//! The workers of a run that is never renewed: the work of each is its only term.
 ghost use Rattle.std.specs.Prelude.{◌≡◌, ◌<◌, ◌^◌, map, vec_len, Some, IsSome, IfOk, IfErr};
 ghost use Rattle.std.specs.List.{AllByRecursion};
 ghost use Rattle.far_map.specs.declared.fault.RunFault.TheVariants.{Memory};
@@ -20,7 +20,7 @@ use std::thread::Threads;
 use swapper::QueueNaming;
 use version_words::Naming;
 
-/// Work of which each worker does one stint, and keeps what the work gives back.
+/// Work of which each worker does one term. It keeps what the work returns.
 #[derive(Drop)]
 struct Single<'w, W> {
     work: &'w W,
@@ -31,7 +31,7 @@ impl<'w, V: Value, W: Work<V>> Stints<V> for Single<'w, W> {
 
     type State = Option<W::Out>;
 
-    // What is kept is there, and is so as the work says.
+    // What is kept is there, and what the work states of it holds.
     ghost done = { λ single worker l begun ended before after. IsSomeAnd after (λ out. W.done single.work.now worker l begun ended out) };
 
     fn stint<S: Calls<V>, R: Wait>(
@@ -52,7 +52,7 @@ impl<'w, V: Value, W: Work<V>> Stints<V> for Single<'w, W> {
     }
 }
 
-/// So many states of workers that have kept nothing yet.
+/// A state for each worker, which has kept nothing yet.
 fn no_outs<T: Drop>(alloc: Global, count: usize) -> Result<Vec<Option<T>>, RunFault>
     ensures each { IfOk result (λ states. vec_len states ≡ count) }
     ensures fault { IfErr result (λ fault. fault ≡ Memory) }
@@ -84,7 +84,7 @@ fn outs_of<T: Drop>(alloc: Global, states: Vec<Option<T>>) -> Result<Vec<T>, Run
     Ok(outs)
 }
 
-/// The work of each newcomer, side by side and beside the evictor. Nothing was put before it, so any mark serves: it is the
+/// The work of each newcomer, next to the evictor. Nothing was put before it, so any mark serves: it is the
 /// evictor's.
 pub(crate) fn serve<V, J, B, D, W, R>(
     rt: &R,

@@ -9,21 +9,30 @@ use crate::refusal::Refusal;
 use crate::values::Value;
 use hash_table::Removal;
 
-/// What a session has counted of its own calls: those that were finished, by kind, and those that were refused, by reason. A
-/// count of 2^64 - 1 stays.
+/// What a session has counted of its own calls: those that were finished by kind, and those that were refused
+/// by reason. Each call of the history is counted once. A count of 2^64 - 1 stays.
 #[derive(Clone, Copy, Debug, PartialEq, Eq)]
 pub struct Stats {
-    /// Gets that were finished; `with`, `hold` and `contains` are gets, and so is a `remove_if` that took nothing out.
+    /// Gets that were finished: `get`, `with`, `hold` and `contains`, each get of a `get_many` or an
+    /// `update`, and a `remove_if` that removed nothing.
     pub gets: u64,
+    /// Puts that were finished.
     pub puts: u64,
+    /// Removals that were finished: `remove`, and a `remove_if` that removed its key.
     pub removes: u64,
+    /// `put_if` calls that were finished, also if they found another value, and those of an `update`.
     pub put_ifs: u64,
-    /// Calls that were refused with `TooLong`, and so on.
+    /// Calls that were refused with `Refusal::TooLong`.
     pub too_long: u64,
+    /// Calls that were refused with `Refusal::Full`.
     pub full: u64,
+    /// Calls that were refused with `Refusal::NamesSpent`.
     pub names_spent: u64,
+    /// Calls that were refused with `Refusal::Device`.
     pub device: u64,
+    /// Calls that were refused with `Refusal::Damaged`.
     pub damaged: u64,
+    /// Calls that were refused with `Refusal::Memory`.
     pub memory: u64,
 }
 
@@ -64,7 +73,7 @@ impl Stats {
         }
     }
 
-    /// Counts a get that was answered so.
+    /// Counts a get with this result.
     pub(crate) fn count_get<V: Value, T>(&mut self, answered: &Result<T, Refusal>)
         ensures { (k : List ℕ) → self.new ≡ counted_get V k answered.now self.old }
     {
@@ -74,7 +83,7 @@ impl Stats {
         }
     }
 
-    /// Counts a change that was answered so.
+    /// Counts a change with this result.
     pub(crate) fn count_change<V: Value>(
         &mut self,
         ask: &Asked<'_, V>,
@@ -93,7 +102,7 @@ impl Stats {
         }
     }
 
-    /// Counts a removal on a condition that was answered so: one that took nothing out was a get.
+    /// Counts a conditional removal with this result. One that removed nothing was a get.
     pub(crate) fn count_removal<V: Value>(&mut self, answered: &Result<Removal<V>, Refusal>)
         ensures { (k : List ℕ) → self.new ≡ counted (call_of k answered.now) answered.now self.old }
     {

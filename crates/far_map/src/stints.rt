@@ -9,31 +9,32 @@ use crate::values::Value;
 use std::alloc::Global;
 use std::sync::Wait;
 
-/// What comes after a generation of a map, once all workers have left it.
+/// What follows a generation of a map, once all workers have left it.
 #[derive(Clone, Copy, Debug, PartialEq, Eq)]
 pub enum After {
-    /// Nothing: the run ends.
+    /// The run ends.
     End,
-    /// Another generation, which begins with what this one left.
+    /// Another generation, which begins with the pairs that this one left.
     Renewed,
 }
 
-/// What a generation began with.
+/// What a generation begins with, and what was lost on the way into it. In the first one all counts are 0.
 #[derive(Clone, Copy, Debug, PartialEq, Eq)]
 pub struct Carried {
-    /// Pairs that were put.
+    /// How many pairs were put.
     pub pairs: u64,
-    /// Pairs whose put was refused.
+    /// How many pairs are lost because their put was refused.
     pub lost_pairs: u64,
-    /// Buckets that could not be read, and parts of the handover that could not be taken.
+    /// How many buckets could not be read or handed over, plus how many parts of the handover could not be
+    /// taken. Their pairs are lost.
     pub lost_buckets: u64,
-    /// Buckets that lay on a device.
+    /// How many of the buckets that were handed over had their object on a device.
     pub far: u64,
 }
 
 impl Carried {
-    /// What a generation begins with behind one of which so many buckets were lost, and so many of the others lay on a device, before
-    /// any pair was put.
+    /// What a generation begins with before any pair is put. Of the one before it, this many buckets were
+    /// lost, and of the others this many were on a device.
     pub(crate) fn behind(lost_buckets: u64, far: u64) -> Carried
         ensures { lost_of result ≡ 0 → lost_buckets ≡ 0 }
     {
@@ -45,7 +46,7 @@ impl Carried {
         }
     }
 
-    /// How much was lost.
+    /// How many pairs, buckets and parts were lost.
     pub(crate) fn lost(&self) -> u64
         ensures { result ≡ lost_of self.now }
     {
@@ -53,21 +54,28 @@ impl Carried {
     }
 }
 
-/// What each worker of a renewed run does, stint by stint, each on a thread of its own and by a session of its own. It starts no
-/// thread that uses the session.
+/// What each worker of `run_renewed` does. It works in terms: one in each generation of the map, by a new
+/// session, on its own thread.
+///
+/// If a thread can't be started, its worker's term comes after those of others, on their thread. So a term
+/// that waits for another one may wait forever. A worker uses its session only on that thread.
 pub trait Stints<V: Value>: Sync {
     ghost use Rattle.table_core.specs.declared.limits.Limits.{Limits};
     ghost use Rattle.far_map.specs.Views.{SessionView};
     ghost use Rattle.std.specs.Prelude.{ℕ};
 
-    /// What a worker keeps from one stint to the next.
+    /// What a worker keeps from one term to the next.
     type State: Send + Drop;
 
-    // What is so of a stint: of the worker's number, the map's limits, the session before and after, and what was kept before and after.
+    // What is proved of a term. It is a statement about the worker's number, the map's limits, the session
+    // before and after, and the state before and after.
     ghost done: { Self → ℕ → Limits → SessionView V → SessionView V → Self.State → Self.State → Type 0 } = { λ _ _ _ _ _ _ _. Unit {0} };
 
-    /// One stint of the worker of this number, counted from 0, by a session that has made no call. Where names get few, or it sees
-    /// that others leave, it is to return: all wait for the last to leave.
+    /// Does one term of a worker, and returns the state for its next one. `worker` is its number, counted
+    /// from 0, and `me` is a session that has made no call.
+    ///
+    /// It should return when `Calls::names_left` is small, and when other workers leave: the next generation
+    /// begins only when all have returned. Once version numbers are spent, changes are refused.
     fn stint<S: Calls<V>, R: Wait>(
         &self,
         rt: &R,
@@ -80,9 +88,11 @@ pub trait Stints<V: Value>: Sync {
         requires stats { (S.shown me.old).stats ≡ no_calls }
         ensures { done self.now worker S.limits (S.shown me.old) (S.shown me.new) state result };
 
-    /// A generation is about to begin with what was carried. No worker is at work.
+    /// Is called once for each generation, after the pairs were put and before any term begins. `carried`
+    /// states what was put and what was lost. No worker works meanwhile.
     fn begins(&self, carried: Carried);
 
-    /// What comes after a generation, whose workers kept this. No worker is at work.
+    /// Returns what follows a generation. `states` is what its workers returned, in the order of their
+    /// numbers. No worker works meanwhile.
     fn after(&self, states: &[Self::State]) -> After;
 }

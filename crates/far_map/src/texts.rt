@@ -1,12 +1,14 @@
-//! Keys and values.
+//! Texts for keys and values.
 ghost use Rattle.std.specs.Prelude.{◌≡◌, ◌≤◌, ◌^◌, length, IfOk, ◌↔◌, Err};
 
 use crate::refusal::Refusal;
 use far_object::{Text, TextFault};
 use std::alloc::Global;
 
-/// The text of these bytes, for a key or a value. `TooLong` comes above 65,535 bytes, before any memory is asked for, and
-/// `Memory` where the copy is refused.
+/// Returns the text of these bytes, for a key or a value. The bytes are copied.
+///
+/// Errors: `TooLong` exactly if there are more than 65,535 bytes, before any memory is asked for. `Memory` if
+/// the allocation of the copy failed.
 pub fn text(alloc: Global, bytes: &[u8]) -> Result<Text, Refusal>
     ensures text { IfOk result (λ t. t ≡ bytes.now) }
     ensures long { (result ≡ Err Refusal.TooLong) ↔ (2 ^ 16 ≤ length bytes.now) }

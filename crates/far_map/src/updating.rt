@@ -1,4 +1,4 @@
-//! A value that is made anew from the one before.
+//! Updates: a new value is made from the current one.
 ghost use Rattle.std.specs.Prelude.{◌≡◌, ◌≢◌, MatchBool};
 ghost use Rattle.table_core.specs.Lent.{lent_value};
 ghost use Rattle.far_map.specs.Updates.{IsTried, IsUpdated};
@@ -14,18 +14,19 @@ use std::sync::Wait;
 use swapper::QueueNaming;
 use version_words::Naming;
 
-/// What an update did.
+/// What an `update` did.
 #[derive(Drop)]
 pub enum Updated<V: Value> {
-    /// The value was set, to what was made of the one before.
+    /// The value was set, to what was made of this one. `None` if the key had no value.
     Set(Option<V>),
-    /// Nothing was made of the value that there is.
+    /// Nothing was made of this value, which the key has. `None` if it has no value.
     Left(Option<V>),
-    /// At each of 1,000 tries somebody else changed the value meanwhile. The key has what they left it.
+    /// At each of 1,000 tries another session changed the value meanwhile. The key is as the last of them
+    /// left it.
     Overtaken,
 }
 
-/// Whether the one value is the other.
+/// Whether the two values are equal.
 fn is_value<V: Value>(one: &V, other: &V) -> bool
     ensures { MatchBool result (other.now ≡ one.now) (other.now ≢ one.now) }
 {
@@ -35,7 +36,7 @@ fn is_value<V: Value>(one: &V, other: &V) -> bool
     one.compare(other).is_eq()
 }
 
-/// Whether both are none, or the same value.
+/// Whether both are `None`, or equal values.
 fn are_same<V: Value>(one: &Option<V>, other: &Option<V>) -> bool
     ensures { MatchBool result (one.now ≡ other.now) (one.now ≢ other.now) }
 {
@@ -47,7 +48,7 @@ fn are_same<V: Value>(one: &Option<V>, other: &Option<V>) -> bool
 }
 
 impl<'m, V: Value, J: Naming, B: QueueNaming, D: Device> Session<'m, V, J, B, D> {
-    /// One try: none where somebody else was faster.
+    /// One try. `None` if another session changed the value meanwhile.
     fn try_update<F: Fn(Option<&V>) -> Option<V>, R: Wait>(
         &mut self,
         rt: &R,
@@ -69,7 +70,7 @@ impl<'m, V: Value, J: Naming, B: QueueNaming, D: Device> Session<'m, V, J, B, D>
         }
     }
 
-    /// Sets the key to what is made of its value, 1,000 tries long.
+    /// Sets the key to what is made of its value, in 1,000 tries at most.
     pub(crate) fn make_anew<F: Fn(Option<&V>) -> Option<V> + Drop, R: Wait>(
         &mut self,
         rt: &R,

@@ -1,4 +1,4 @@
-//! What a map may hold: values of any type that is read as bytes.
+//! What a map can hold: values of any type that is read as bytes.
 ghost use Rattle.std.specs.Prelude.{◌≡◌, IfOk};
 
 use crate::refusal::Refusal;
@@ -7,23 +7,30 @@ use far_blob::{Blob, BlobFault};
 use far_object::{FarObject, Text};
 use std::alloc::Global;
 
-/// A type of values: its bytes, and where they lie in what it is written as.
+/// A type of values. It has bytes, which a reader sees, and an encoding, which the map stores. The bytes are
+/// a part of the encoding, so they can be lent without a copy.
+///
+/// `Text` and `Blob` are such types. The encoding of a `Text` is 2 bytes of length and then its bytes, and
+/// that of a `Blob` is 4 bytes of length and then its bytes.
 pub trait Value: FarObject {
     ghost use Rattle.std.specs.Prelude.{List, ℕ};
 
     // Its bytes, as a reader sees them.
     ghost shows: { Self → List ℕ };
 
-    /// The value of these bytes. `TooLong` comes where they are more than a value of the type may have, before any memory is asked
-    /// for, and `Memory` where the copy is refused.
+    /// Returns the value that has these bytes, which are copied.
+    ///
+    /// Errors: `TooLong` if a value of the type can't have that many bytes, before any memory is asked for.
+    /// `Memory` if the allocation of the copy failed.
     fn from_bytes(alloc: Global, bytes: &[u8]) -> Result<Self, Refusal>
         ensures { IfOk result (λ value. shows value ≡ bytes.now) };
 
-    /// Its bytes.
+    /// Returns its bytes.
     fn as_bytes(&self) -> &[u8]
         ensures { result.now ≡ shows self.now };
 
-    /// The bytes of a value, where it is written: they are lent of its encoding.
+    /// Returns the bytes of a value from its encoding, without a copy. `encoded` has to be the encoding of a
+    /// value.
     fn part(encoded: &[u8]) -> &[u8]
         requires { (value : Self) × (encoded.now ≡ Self.enc value) }
         ensures { (value : Self) → encoded.now ≡ Self.enc value → result.now ≡ shows value };

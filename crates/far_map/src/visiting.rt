@@ -1,4 +1,4 @@
-//! All pairs, bucket by bucket.
+//! Visits: all pairs, bucket after bucket, or those of one bucket.
 ghost use Rattle.std.specs.Prelude.{◌≡◌, ◌<◌, IfOk, IfErr};
 ghost use Rattle.std.specs.List.{FoldsTo};
 ghost use Rattle.version_words.specs.Views.{Goes};
@@ -18,7 +18,7 @@ use std::sync::Wait;
 use swapper::QueueNaming;
 use version_words::Naming;
 
-/// The pairs of a bucket, copied. Where its object moved meanwhile it is read again.
+/// Copies the pairs of a bucket. If its object moved meanwhile it is read again.
 fn copy_bucket<V: Value, J: Naming, D: Device, R: Wait>(
     rt: &R,
     alloc: Global,
@@ -76,7 +76,7 @@ fn visit_bucket<V: Value, J: Naming, D: Device, F: FnMut(Text, V), R: Wait>(
     Ok(())
 }
 
-/// Hands each pair of the table to the visitor, those of one bucket behind those of another.
+/// Hands each pair of the table to the visitor, one bucket after another.
 fn visit_buckets<V: Value, J: Naming, D: Device, F: FnMut(Text, V), R: Wait>(
     rt: &R,
     alloc: Global,
@@ -100,7 +100,7 @@ fn visit_buckets<V: Value, J: Naming, D: Device, F: FnMut(Text, V), R: Wait>(
     Ok(())
 }
 
-/// The same of a map.
+/// The same for a map.
 fn visit_map<V: Value, J: Naming, B: QueueNaming, D: Device, F: FnMut(Text, V), R: Wait>(
     rt: &R,
     alloc: Global,

@@ -8,19 +8,25 @@ use crate::values::Value;
 use std::alloc::Global;
 use std::sync::Wait;
 
-/// What each worker of a run does, on a thread of its own. It starts no thread that uses the session.
+/// What each worker of a run does, on its own thread. What the workers share, and what each of them needs,
+/// are fields of the type.
+///
+/// If a thread can't be started, its worker works after others on their thread. So a worker that waits for
+/// another one may wait forever. A worker uses its session only on its own thread.
 pub trait Work<V: Value>: Sync {
     ghost use Rattle.table_core.specs.declared.limits.Limits.{Limits};
     ghost use Rattle.far_map.specs.Views.{SessionView};
     ghost use Rattle.std.specs.Prelude.{ℕ};
 
-    /// What it gives back.
+    /// What a worker returns.
     type Out: Send + Drop;
 
-    // What is so of that: of the worker's number, the map's limits, the session before and after, and what was given back.
+    // What is proved of a worker. It is a statement about its number, the map's limits, the session before
+    // and after, and what it returned.
     ghost done: { Self → ℕ → Limits → SessionView V → SessionView V → Self.Out → Type 0 } = { λ _ _ _ _ _ _. Unit {0} };
 
-    /// The work of the worker of this number, counted from 0, by a session that has made no call.
+    /// Does the work of one worker, and returns its result. `worker` is its number, counted from 0, and `me`
+    /// is a session that has made no call.
     fn work<S: Calls<V>, R: Wait>(
         &self,
         rt: &R,

@@ -1,4 +1,4 @@
-//! A request is answered: who may ask, whether it waits for EXEC, and what is done at once.
+//! One request: who may ask, whether it waits for EXEC, and what is done at once.
 ghost use Rattle.std.specs.Prelude.{◌≡◌, ◌⊎◌, ◌++◌, true, ℕ, List, IfOk, OnOk};
 ghost use Rattle.std.specs.List.{flat_map};
 ghost use Rattle.resp.specs.Replies.{Token, token};
@@ -23,7 +23,7 @@ use std::alloc::AllocError;
 use std::rt::Clock;
 use std::sync::Wait;
 
-/// RESET: the connection is as a new one, but for its number.
+/// RESET: the connection becomes as a new one, except for its `id`.
 fn answer_reset(
     settings: &ServerSettings,
     connection: &mut Connection,
@@ -39,7 +39,7 @@ fn answer_reset(
     push_one_simple(reply, b"RESET")
 }
 
-/// Has a request wait for EXEC, or runs it where no MULTI stands before it.
+/// Queues a request for EXEC if a MULTI came before it, and runs it otherwise.
 fn wait_or_run<S: Calls<Blob>, C: Clock, R: Wait>(
     around: &Around<'_, C, R>,
     me: &mut S,
@@ -69,7 +69,7 @@ fn wait_or_run<S: Calls<Blob>, C: Clock, R: Wait>(
     }
 }
 
-/// Answers a request of a connection that may ask.
+/// Answers a request of an authenticated connection.
 fn answer_friend<S: Calls<Blob>, C: Clock, R: Wait>(
     around: &Around<'_, C, R>,
     me: &mut S,
@@ -95,7 +95,7 @@ fn answer_friend<S: Calls<Blob>, C: Clock, R: Wait>(
     }
 }
 
-/// A command to the server of a connection that has to log in first.
+/// Answers a server command of an unauthenticated connection: AUTH and HELLO. The others are refused.
 fn answer_login(
     settings: &ServerSettings,
     connection: &mut Connection,
@@ -116,7 +116,7 @@ fn answer_login(
     }
 }
 
-/// A command of a connection that has to log in first.
+/// Answers a command of an unauthenticated connection: QUIT, RESET, AUTH and HELLO. The others are refused.
 fn answer_stranger(
     settings: &ServerSettings,
     connection: &mut Connection,
@@ -137,7 +137,7 @@ fn answer_stranger(
     }
 }
 
-/// Answers a request of a connection that has to log in first.
+/// Answers a request of an unauthenticated connection: its command, or the fault that was found in it.
 fn refuse_or_log_in(
     settings: &ServerSettings,
     connection: &mut Connection,
@@ -156,7 +156,7 @@ fn refuse_or_log_in(
     }
 }
 
-/// What the lane does behind a request.
+/// What the request loop does after the reply: QUIT ends the connection.
 fn next_behind(asked: &Result<Command<'_>, Fault<'_>>) -> Next {
     match asked {
         Ok(Command::Quit) => Next::End,
@@ -164,7 +164,8 @@ fn next_behind(asked: &Result<Command<'_>, Fault<'_>>) -> Next {
     }
 }
 
-/// Answers a request of a connection that has to log in first, and closes it where the request is larger than one may be that logs in.
+/// Answers a request of an unauthenticated connection. If the request is larger than such a connection may
+/// send, the reply is an error, and the connection is closed.
 fn answer_unknown(
     settings: &ServerSettings,
     connection: &mut Connection,
@@ -189,7 +190,8 @@ fn answer_unknown(
     }
 }
 
-/// Answers a request, by the time that the clock tells.
+/// Answers a request at the clock's time. It reads the command. What follows depends on whether the
+/// connection is authenticated.
 pub(crate) fn answer_request<S: Calls<Blob>, C: Clock, R: Wait>(
     around: &Around<'_, C, R>,
     me: &mut S,

@@ -1,4 +1,5 @@
-//! What the connections of a lane share.
+//! What the requests of a worker share: what all workers have in common, and the worker's buffers and
+//! statistics.
 
 use crate::deadlines::has_deadline;
 use crate::renewal::Renewal;
@@ -13,7 +14,7 @@ use std::rt::Clock;
 use std::thread::Parker;
 use std::time::{Duration, SystemTime, UNIX_EPOCH};
 
-/// What all lanes share, and which lane it is.
+/// What all workers share, and which worker this is.
 #[derive(Drop)]
 pub(crate) struct Around<'a, C, R> {
     pub(crate) rt: &'a R,
@@ -24,42 +25,44 @@ pub(crate) struct Around<'a, C, R> {
     pub(crate) usage: &'a FarUsage,
     pub(crate) renewal: &'a Renewal,
     pub(crate) turns: &'a Turns,
-    /// Its number; that of the sweep is behind those of all lanes.
+    /// The worker's number, from 0. The sweep has the number after the last worker's.
     pub(crate) lane: u32,
-    /// When the server was started.
+    /// When the server was started, in milliseconds since 1970.
     pub(crate) started: u64,
 }
 
 impl<C, R> Around<'_, C, R> {
-    /// A number that no connection of any lane has got.
+    /// A number that no connection of any worker has got.
     pub(crate) fn next_id(&self) -> u64 {
         self.tallies.next_id()
     }
 }
 
-/// What a worker uses again and again.
+/// What a worker, or the sweep, uses again and again: buffers, statistics and flags.
 #[derive(Drop)]
 pub(crate) struct Desk {
-    /// Where a new value is made.
+    /// Where a new value is made, and before it the stored key.
     pub(crate) stored: Vec<u8>,
     pub(crate) tally: Tally,
-    /// What of that was told.
+    /// The statistics that were last published.
     pub(crate) told: Tally,
-    /// What was counted before the session began.
+    /// The statistics when the session began.
     pub(crate) begun: Tally,
-    /// Whether a command could not read a bucket that only a renewed map is rid of.
+    /// Whether a command could not read a bucket that only a renewal gets rid of. The worker asks for one
+    /// then.
     pub(crate) is_stuck: bool,
-    /// Bytes that objects in frames may have.
+    /// The bound of the bytes of objects in frames.
     pub(crate) most_in_frames: u64,
     /// Whether a device may take objects.
     pub(crate) is_far: bool,
-    /// Whether the sweep makes room, so that it is worth waiting for.
+    /// Whether the sweep evicts keys, so that it is worth waiting for room.
     pub(crate) is_swept: bool,
-    /// Where it sleeps while it waits. Nobody wakes it.
+    /// Where it sleeps while it waits. Nobody wakes it, so it sleeps until the time is over.
     pub(crate) bed: Parker,
-    /// What RANDOMKEY draws by, once it was asked for.
+    /// The random numbers of RANDOMKEY. None until its first call.
     pub(crate) draws: Option<SmallRng>,
-    /// How many bytes of room a reply leaves behind itself: EXEC may need them for errors of the requests behind it.
+    /// How many bytes of room a reply leaves free after it. EXEC may need them for errors of the requests
+    /// after the one that it runs.
     pub(crate) beside: usize,
 }
 
@@ -81,14 +84,14 @@ impl Desk {
         }
     }
 
-    /// Goes on from what was counted by earlier sessions.
+    /// Goes on from the statistics of earlier sessions.
     pub(crate) fn begin(&mut self, counted: Tally) {
         self.tally = counted;
         self.told = counted;
         self.begun = counted;
     }
 
-    /// Counts a key that was set to what is stored here, and had none before or some.
+    /// Counts a key that was set to the value in `stored`. `was_none` is whether it had no value before.
     pub(crate) fn count_set(&mut self, was_none: bool) {
         self.tally.count_set(was_none);
         if has_deadline(self.stored.as_slice()) {
@@ -103,7 +106,7 @@ impl Desk {
         }
     }
 
-    /// Tells what was counted, and what the session has read and moved.
+    /// Publishes the statistics, with what the session has read and moved.
     pub(crate) fn tell<C, R>(&mut self, around: &Around<'_, C, R>, traffic: &Traffic) {
         self.tally.see(&self.begun, traffic);
         around.tallies.tell(around.lane, &self.told, &self.tally);
@@ -111,7 +114,7 @@ impl Desk {
     }
 }
 
-/// The milliseconds since 1970. 0 where the clock can't be read.
+/// The milliseconds since 1970; 0 if the clock can't be read.
 pub(crate) fn milliseconds<C: Clock>(clock: &C) -> u64 {
     let Ok(now) = SystemTime::now(clock) else {
         return 0;

@@ -1,6 +1,7 @@
-//! The change that a command makes of a value that was found.
+//! The change that a command makes to a value that was found.
 //!
-//! It is made only while that value is still there, so whoever was overtaken by others has changed nothing, and tries again.
+//! It is made only while that value is still there. So a command that others overtook has changed nothing,
+//! and tries again.
 ghost use Rattle.std.specs.Prelude.{◌≡◌, ◌≢◌, MatchBool, Some};
 ghost use Rattle.key_commands.specs.declared.asked.Effect.TheVariants as effects;
 ghost use Rattle.table_core.specs.Lent.{lent_value};
@@ -14,7 +15,7 @@ use key_commands::Effect;
 use std::alloc::Global;
 use std::sync::Wait;
 
-/// Puts what the desk has over a value that was found, where it is still there: whether it was.
+/// Puts `desk.stored` over the value that was found, if that is still there. Returns whether it was.
 fn put_over<S: Calls<Blob>, R: Wait>(
     rt: &R,
     alloc: Global,
@@ -41,7 +42,7 @@ fn put_over<S: Calls<Blob>, R: Wait>(
     }
 }
 
-/// Takes a value out that was found, where it is still there: whether it was.
+/// Removes the value that was found, if it is still there. Returns whether it was.
 fn take_out<S: Calls<Blob>, R: Wait>(
     rt: &R,
     me: &mut S,
@@ -60,7 +61,8 @@ fn take_out<S: Calls<Blob>, R: Wait>(
     }
 }
 
-/// Makes the change of a value that was found, where it is still there: whether it was.
+/// Makes the change to the value that was found, if that is still there. Returns whether it was. If there is
+/// nothing to change, it makes no call and returns true.
 fn change<S: Calls<Blob>, R: Wait>(
     rt: &R,
     alloc: Global,
@@ -79,7 +81,7 @@ fn change<S: Calls<Blob>, R: Wait>(
     }
 }
 
-/// The same, of a value that may be expired, which is counted once it is gone.
+/// The same for a value that may be expired. Such a value is counted once it is gone.
 pub(crate) fn settle<S: Calls<Blob>, R: Wait>(
     rt: &R,
     alloc: Global,
@@ -98,7 +100,7 @@ pub(crate) fn settle<S: Calls<Blob>, R: Wait>(
     settled
 }
 
-/// Whether both are none, or the same bytes.
+/// Whether both are none, or both have the same bytes.
 fn are_same(one: Option<&Blob>, other: Option<&Blob>) -> bool
     ensures { MatchBool result (lent_value one.entry ≡ lent_value other.entry) (lent_value one.entry ≢ lent_value other.entry) }
 {

@@ -1,4 +1,4 @@
-//! What a lane knows of a connection.
+//! What a worker knows of a connection.
 ghost use Rattle.std.specs.Prelude.{◌≡◌, ◌<◌, ◌≤◌, [], None, length, MatchBool, IfOk, OnErr};
 
 use crate::queue::Queue;
@@ -7,21 +7,21 @@ use std::alloc::{AllocError, Global};
 /// The most bytes of a connection's name.
 const LONGEST_NAME: usize = 1_024;
 
-/// What a lane knows of a connection.
+/// What a worker knows of a connection: who it is, whether it may ask, and what waits for EXEC.
 #[derive(Drop)]
 pub(crate) struct Connection {
-    /// CLIENT ID: its number among all that came.
+    /// CLIENT ID: its number among all connections of the server.
     pub(crate) id: u64,
-    /// Whether it may ask for values: it has logged in, or need not.
+    /// Whether it is authenticated: it has logged in, or no password is set.
     pub(crate) passed: bool,
-    /// CLIENT GETNAME; empty for none.
+    /// CLIENT GETNAME; empty if it has no name.
     pub(crate) name: Vec<u8>,
-    /// What waits for EXEC, behind a MULTI.
+    /// What waits for EXEC, after a MULTI. None if there was no MULTI.
     pub(crate) queue: Option<Queue>,
 }
 
 impl Connection {
-    /// One that is new.
+    /// A new connection.
     pub(crate) fn new(alloc: Global, id: u64, passed: bool) -> Connection
         ensures passed { result.passed ≡ passed }
         ensures queue { result.queue ≡ None }
@@ -34,7 +34,7 @@ impl Connection {
         }
     }
 
-    /// How many bytes of memory it takes beside a fixed part.
+    /// How many bytes of memory it takes in addition to a fixed part.
     pub(crate) fn keeps(&self) -> usize {
         let queue = match &self.queue {
             Some(queue) => queue.bytes(),
@@ -43,7 +43,8 @@ impl Connection {
         self.name.capacity().saturating_add(queue)
     }
 
-    /// It is called so from now on, unless the name is too long: whether it is.
+    /// Names the connection, unless the name is too long. Returns whether it did. If memory is refused, the
+    /// old name stays.
     pub(crate) fn set_name(&mut self, name: &[u8]) -> Result<bool, AllocError>
         ensures named { IfOk result (λ named. MatchBool named ((length name.now ≤ 1024) × (self.new.name.items ≡ name.now)) ((1024 < length name.now) × (self.new.name ≡ self.old.name))) }
         ensures kept { OnErr result (self.new.name ≡ self.old.name) }

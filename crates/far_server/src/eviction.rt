@@ -1,20 +1,23 @@
-//! The eviction of keys where all is full: which bucket goes next, with all its keys.
+//! The eviction of keys when memory is full: which bucket goes next, with all its keys.
 //!
-//! # Who was used stays
+//! # Keys in use stay
 //!
-//! The keys of the bucket that has been neither read nor written for longest should go. Nobody keeps an order of last use, since each
-//! read would change it. So a hand goes over the frames, round and round, and takes a bucket whose frame was not read since the hand
-//! came last. A frame that was read is passed over, and asking forgets that it was read.
+//! The keys of the bucket that was neither read nor written for longest should go. Nobody keeps an order of
+//! last use, because each read would change it. Instead a hand goes round the frames. It takes a bucket whose
+//! frame was not read since the hand came last. It passes a frame that was read, and clears the mark of that
+//! read.
 //!
-//! A change puts the bucket into another frame, which may be one right before the hand, and which nobody has read yet. So the hand also
-//! notes what it meets unread in each frame, and takes a bucket only where it meets it again: one that is written, or is new, is there
-//! for a whole round. Where two rounds have met none to take, because all are used all the while, the next bucket goes.
+//! A change puts the bucket into another frame. That may be one right before the hand, and nobody has read it
+//! yet. So the hand also notes what it meets unread in each frame, and takes a bucket only when it meets it
+//! again. So a bucket that is written, or is new, stays for a whole round. If two rounds have met none to
+//! take, because all are used all the time, the next bucket goes.
 //!
-//! # In memory and on disk by turns
+//! # In memory and on a device by turns
 //!
-//! Where memory is full and no device takes an object, a bucket in memory has to go: that alone makes room at once, since what a device
-//! keeps of small objects is no place for a large one. But were these taken alone, old keys would stay on the device for ever. So the
-//! next one is of a device. Nobody knows when it was used last, and a second hand takes these in turn.
+//! If memory is full and no device takes an object, a bucket in memory has to go. Only that makes room at
+//! once, because the slots of small objects on a device are no place for a large one. But if only these were
+//! taken, old keys would stay on the device for ever. So the next victim is on a device. Nobody knows when it
+//! was last used, and a second hand takes such buckets in turn.
 ghost use Rattle.std.specs.Prelude.{◌<◌, true, IfSome};
 ghost use Rattle.version_words.specs.Views.{Goes};
 ghost use Rattle.far_server.specs.Sweeps.{Sweeps};
@@ -28,32 +31,34 @@ use std::alloc::Global;
 use std::rt::Clock;
 use std::sync::Wait;
 
-/// How many frames, or buckets, are looked at in a turn for one that is taken out.
+/// How many frames, or buckets, are looked at in a turn for a victim.
 const LOOKS: u32 = 64;
 
-/// Where the hands have come to that look for keys to evict.
+/// Where the hands are that look for keys to evict.
 #[derive(Drop)]
 pub(crate) struct Victims {
-    /// What was met in each frame when the hand came last: the bucket's number in short, or `NOTHING`.
+    /// What was met in each frame when the hand came last: the bucket's short number, or `NOTHING`.
     met: Vec<u8>,
-    /// The next frame, and how many before it had nothing to evict.
+    /// The next frame.
     next_frame: u32,
+    /// How many frames were looked at in a row without a victim.
     fruitless: u32,
-    /// The next bucket of which it is asked whether it lies on a device.
+    /// The next bucket that is asked whether it is on a device.
     next_bucket: u32,
-    /// Whether the next one is to lie on a device.
+    /// Whether the next victim should be on a device.
     wants_far: bool,
 }
 
-/// The hand has met no bucket in a frame.
+/// The note of a frame in which the hand has met no bucket.
 const NOTHING: u8 = 255;
 
-/// A bucket's number in short: two buckets that a frame has one after the other are taken for the same once in 255 times.
+/// A bucket's number in one byte. Two buckets that are in a frame one after the other are taken for the same
+/// once in 255 times.
 fn short(bucket: u32) -> u8 {
     (bucket % 255) as u8
 }
 
-/// Notes for so many frames. Where there is no memory for them the hand takes what nobody has read, new or not.
+/// Notes for `frames` frames. If memory is refused for them, the hand takes what nobody has read, new or not.
 fn notes(alloc: Global, frames: u32) -> Vec<u8> {
     let Ok(mut met) = Vec::with_capacity(alloc, frames as usize) else {
         return Vec::new(alloc);
@@ -66,7 +71,7 @@ fn notes(alloc: Global, frames: u32) -> Vec<u8> {
     met
 }
 
-/// This number, or 0 where it is not below the count; and the next is the one behind it.
+/// The number at `next`, or 0 if that is not below `count`. `next` becomes the number after it.
 fn step(next: &mut u32, count: u32) -> u32 {
     let at = if *next < count { *next } else { 0 };
     *next = at.saturating_add(1);
@@ -74,7 +79,7 @@ fn step(next: &mut u32, count: u32) -> u32 {
 }
 
 impl Victims {
-    /// Hands at the begin of a map of so many frames.
+    /// Hands at the beginning of a map of `frames` frames.
     pub(crate) fn new(alloc: Global, frames: u32) -> Victims {
         Victims {
             met: notes(alloc, frames),
@@ -85,7 +90,8 @@ impl Victims {
         }
     }
 
-    /// Notes what was met in a frame, which goes where it is met again: whether it was there when the hand came last.
+    /// Notes the bucket that was met unread in a frame. Returns whether it was there when the hand came last,
+    /// and forgets it then.
     pub(crate) fn meet(&mut self, frame: u32, bucket: u32) -> bool {
         match self.met.get_mut(frame as usize) {
             Some(met) => {
@@ -97,14 +103,15 @@ impl Victims {
         }
     }
 
-    /// The next one is to lie elsewhere, where there is a device.
+    /// The next victim should be on the other side, memory or device, if there is a device.
     fn turn_over(&mut self, is_far: bool) {
         self.wants_far = is_far && !self.wants_far;
         self.fruitless = 0;
     }
 
-    /// None that was looked at is one that is wanted: whether there are some to look at. Few may lie on a device, so the next one may
-    /// lie in memory. Where three whole rounds met none there, the next one is to lie on a device.
+    /// None of those that were looked at was a victim. Returns whether there are more to look at. Few buckets
+    /// may be on a device, so the next victim may be in memory after that. If three whole rounds met none in
+    /// memory, the next one should be on a device.
     fn look_elsewhere(&mut self, frames: u32, is_far: bool) -> bool {
         let goes_on = self.wants_far || self.fruitless / 3 < frames;
         if self.wants_far || !goes_on {
@@ -114,7 +121,8 @@ impl Victims {
     }
 }
 
-/// The bucket in a frame, where it may go: nobody has used it since the hand came last, or the hand met none such in two rounds.
+/// The bucket in a frame, if it may go: nobody has used it since the hand came last, or the hand met no
+/// victim in two rounds (`is_late`).
 fn unused_in<S: Calls<Blob>>(
     me: &S,
     victims: &mut Victims,
@@ -124,7 +132,7 @@ fn unused_in<S: Calls<Blob>>(
     ensures { IfSome result (λ bucket. bucket < S.limits.buckets) }
 {
     let unread = match me.unread_in(frame) {
-        // That it was read is forgotten now.
+        // The first call cleared the mark of a read, so this one returns the bucket.
         None if is_late => me.unread_in(frame),
         unread => unread,
     };
@@ -134,7 +142,7 @@ fn unused_in<S: Calls<Blob>>(
     }
 }
 
-/// The next bucket in memory that may go, among few frames.
+/// The next bucket in memory that may go, among a few frames.
 fn find_near<S: Calls<Blob>>(me: &mut S, victims: &mut Victims, frames: u32) -> Option<u32>
     ensures goes { Goes (S.shown me.old).pass (S.shown me.new).pass }
     ensures bucket { IfSome result (λ bucket. bucket < S.limits.buckets) }
@@ -152,7 +160,7 @@ fn find_near<S: Calls<Blob>>(me: &mut S, victims: &mut Victims, frames: u32) -> 
     None
 }
 
-/// Whether a bucket lies on a device. It is read for that, unless it is empty.
+/// Whether a bucket is on a device. It is read to learn that, unless it is empty.
 fn is_on_device<S: Calls<Blob>, R: Wait>(
     rt: &R,
     alloc: Global,
@@ -174,7 +182,7 @@ fn is_on_device<S: Calls<Blob>, R: Wait>(
     }
 }
 
-/// The next bucket on a device, among few. None where one can't be read.
+/// The next bucket on a device, among a few buckets. None also if one of them can't be read.
 fn find_far<S: Calls<Blob>, R: Wait>(
     rt: &R,
     alloc: Global,
@@ -199,7 +207,7 @@ fn find_far<S: Calls<Blob>, R: Wait>(
     None
 }
 
-/// Takes all keys of a bucket out: whether that was not refused.
+/// Removes all keys of a bucket. Returns whether nothing was refused.
 fn evict_keys<S: Calls<Blob>, R: Wait>(
     rt: &R,
     alloc: Global,
@@ -216,7 +224,7 @@ fn evict_keys<S: Calls<Blob>, R: Wait>(
     is_empty
 }
 
-/// The next bucket that may go, in memory or on a device, as is wanted.
+/// The next bucket that may go, in memory or on a device, whichever is due.
 fn find_victim<S: Calls<Blob>, C: Clock, R: Wait>(
     around: &Around<'_, C, R>,
     me: &mut S,
@@ -232,8 +240,8 @@ fn find_victim<S: Calls<Blob>, C: Clock, R: Wait>(
     }
 }
 
-/// Takes all keys of the next bucket out, in memory and on a device by turns: whether that was done, or there are some that were not
-/// looked at.
+/// Removes all keys of the next victim, in memory and on a device by turns. Returns whether that was done, or
+/// there are more buckets to look at.
 fn evict_bucket<S: Calls<Blob>, C: Clock, R: Wait>(
     around: &Around<'_, C, R>,
     me: &mut S,
@@ -254,14 +262,15 @@ fn evict_bucket<S: Calls<Blob>, C: Clock, R: Wait>(
 /// Whether there is room in frames.
 #[derive(Clone, Copy)]
 enum Room {
+    /// No more bytes are in frames than may be, or nothing there can be swapped out now.
     Enough,
-    /// Some was made by an object that was swapped out, and more may be wanted.
+    /// An object was swapped out, and more room may be needed.
     Made,
-    /// No device takes what lies there beyond the bound.
+    /// No device takes what exceeds the bound.
     Wanting,
 }
 
-/// Looks whether more lies in frames than may, and has an object swapped out if there is a device.
+/// Checks whether more bytes are in frames than may be, and has an object swapped out if there is a device.
 fn look_for_room<S: Calls<Blob>, C: Clock, R: Wait>(
     around: &Around<'_, C, R>,
     me: &mut S,
@@ -282,7 +291,8 @@ fn look_for_room<S: Calls<Blob>, C: Clock, R: Wait>(
     }
 }
 
-/// Makes room where more lies in frames than may: whether there is more to do. Keys go only where no device takes an object.
+/// Makes room if more bytes are in frames than may be. Returns whether there is more to do. Keys go only if
+/// no device takes an object.
 pub(crate) fn make_room<S: Calls<Blob>, C: Clock, R: Wait>(
     around: &Around<'_, C, R>,
     me: &mut S,

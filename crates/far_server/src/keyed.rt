@@ -2,9 +2,12 @@
 //!
 //! # One point
 //!
-//! The key's value is got, the command is carried out on it, and what it makes of the value is put, or taken out, only where the value
-//! is still the one that was found: else all is done again. So a reply is that of the point of its last call, and the calls before it
-//! left the map as it was.
+//! The key's value is got, and the command is carried out on it. What the command makes of the value is put,
+//! or the value is removed, only if the value is still the one that was found. Otherwise all of it is done
+//! again. So the reply is that of the point of the last call, and the calls before it left the map as it was.
+//!
+//! For example, INCR gets 5, replies 6, and puts 6 only if the key still has 5. A SET without NX, XX, GET and
+//! KEEPTTL sets the same whatever the key has, so it is a single put.
 ghost use Rattle.std.specs.Prelude.{◌≡◌, ◌++◌, ℕ, List, take, IfOk, OnOk, OnErr};
 ghost use Rattle.resp.specs.Replies.{Token, Failure, token};
 ghost use Rattle.key_commands.specs.Doing.{Does};
@@ -28,10 +31,11 @@ use std::alloc::{AllocError, Global};
 use std::sync::Wait;
 use stored_keys::{DigestKeys, LONGEST_KEY, put_stored_key};
 
-/// How often a command is tried while others change its key.
+/// How many times a command is tried while others change its key.
 const MOST_TRIES: u32 = 1_000;
 
-/// What is asked of a key, when, and within which bound; and under which digest keys it is stored.
+/// What is asked of a key: the command, the time, the bound of values, and the digest keys under which the
+/// key is stored.
 #[derive(Clone, Copy)]
 pub(crate) struct Asking<'a> {
     pub(crate) command: KeyCommand<'a>,
@@ -42,7 +46,7 @@ pub(crate) struct Asking<'a> {
     pub(crate) most: u32,
 }
 
-/// Carries the command out on what was found. After want of memory `reply` has what it had.
+/// Carries the command out on the value that was found. If memory is refused, `reply` is as before.
 fn apply_found(
     asking: Asking<'_>,
     found: Option<&Blob>,
@@ -69,7 +73,7 @@ fn apply_found(
     }
 }
 
-/// The same, if behind its reply there is room for so many bytes.
+/// The same, if there is also room for `beside` bytes after its reply.
 fn apply_to(
     asking: Asking<'_>,
     found: Option<&Blob>,
@@ -119,7 +123,7 @@ fn has_expired(found: &Option<Blob>, now: u64) -> bool {
     }
 }
 
-/// One try, whose reply is pushed: whether it is done. Else anything may be pushed.
+/// One try, which pushes its reply. Returns whether it is done. If it is not, anything may have been pushed.
 fn try_once<S: Calls<Blob>, R: Wait>(
     rt: &R,
     alloc: Global,
@@ -148,7 +152,7 @@ fn try_once<S: Calls<Blob>, R: Wait>(
     }
 }
 
-/// Sets the key without a look, where the command sets the same whatever is found: whether it did.
+/// Sets the key without a look, if the command sets the same whatever the key has. Returns whether it did.
 fn set_blindly<S: Calls<Blob>, R: Wait>(
     rt: &R,
     alloc: Global,
@@ -182,7 +186,7 @@ fn set_blindly<S: Calls<Blob>, R: Wait>(
     }
 }
 
-/// Tries until it is done; where others were faster each time it is not. Else anything may be pushed.
+/// Tries until it is done. Returns false if others were faster each time. Anything may have been pushed then.
 fn try_often<S: Calls<Blob>, R: Wait>(
     rt: &R,
     alloc: Global,
@@ -211,7 +215,7 @@ fn try_often<S: Calls<Blob>, R: Wait>(
     Ok(false)
 }
 
-/// The stored key of a client's key, which is made where a value is made later.
+/// The stored key of a client's key. It is made in `desk.stored`, in which the value is made later.
 pub(crate) fn stored_text(
     alloc: Global,
     digest_keys: DigestKeys,
@@ -226,7 +230,7 @@ pub(crate) fn stored_text(
     }
 }
 
-/// The command on the stored key of this key.
+/// Tries the command on the stored key of this client's key.
 fn try_key<S: Calls<Blob>, R: Wait>(
     rt: &R,
     alloc: Global,
@@ -244,7 +248,7 @@ fn try_key<S: Calls<Blob>, R: Wait>(
     }
 }
 
-/// Puts an error in the place of what was pushed.
+/// Puts an error in place of what was pushed after the first `before` bytes.
 fn fail(before: usize, text: &[u8], reply: &mut Vec<u8>) -> Result<(), AllocError>
     ensures done { OnOk result (reply.new.items ≡ take before reply.old.items ++ token (Failure text.now)) }
     ensures kept { OnErr result (reply.new.items ≡ take before reply.old.items) }
@@ -253,7 +257,7 @@ fn fail(before: usize, text: &[u8], reply: &mut Vec<u8>) -> Result<(), AllocErro
     push_failure(reply, text)
 }
 
-/// Carries out a command on a key, and pushes its reply, whatever room there is.
+/// Carries out a command on a key, and pushes its reply, whether there is room in frames or not.
 fn answer_now<S: Calls<Blob>, R: Wait>(
     rt: &R,
     alloc: Global,
@@ -278,7 +282,7 @@ fn answer_now<S: Calls<Blob>, R: Wait>(
     }
 }
 
-/// Carries out a command on a key where it leaves no more bytes than it found, or there is room for them.
+/// Carries out a command on a key if there is room in frames, and refuses it otherwise.
 fn answer_in_room<S: Calls<Blob>, R: Wait>(
     rt: &R,
     alloc: Global,
@@ -298,7 +302,8 @@ fn answer_in_room<S: Calls<Blob>, R: Wait>(
     push_failure(reply, NO_ROOM)
 }
 
-/// Carries out a command on a key that is short enough to be stored.
+/// Carries out a command on a key that is short enough to be stored. Only a command that may leave more bytes
+/// than it found needs room in frames.
 fn answer_short<S: Calls<Blob>, R: Wait>(
     rt: &R,
     alloc: Global,
@@ -318,7 +323,8 @@ fn answer_short<S: Calls<Blob>, R: Wait>(
     }
 }
 
-/// Carries out a command on a key, and pushes its reply: one token. After want of memory `reply` has what it had.
+/// Carries out a command on a client's key, and pushes its reply, which is one token. A key that is too long
+/// to be stored is refused without a call. If memory is refused for the reply, `reply` is as before.
 pub(crate) fn answer_key<S: Calls<Blob>, R: Wait>(
     rt: &R,
     alloc: Global,

@@ -1,4 +1,5 @@
-//! What each worker of a server does, from one map to the next: it is a lane, or behind all lanes the sweep.
+//! What each thread of a server does in its terms, one on each map: a worker answers requests, and the last
+//! thread sweeps.
 ghost use Rattle.std.specs.Prelude.{◌≡◌, false, IfOk, OnOk};
 ghost use Rattle.lanes.specs.Frames.{WireTells};
 ghost use Rattle.lanes.specs.Standing.{GoesOnBy};
@@ -26,7 +27,7 @@ use std::io::{BufRead, Write};
 use std::rt::Clock;
 use std::sync::Wait;
 
-/// The lanes of a server, and what they share.
+/// The workers of a server, and what they share. `far_map::run_renewed` runs their terms.
 #[derive(Drop)]
 pub(crate) struct Lanes<'a, P, C> {
     pub(crate) settings: &'a ServerSettings,
@@ -39,7 +40,8 @@ pub(crate) struct Lanes<'a, P, C> {
     pub(crate) started: u64,
 }
 
-/// Serves the frames of a lane from where it left, by a server.
+/// Serves the packets of a worker by `server`, from where its last term ended. Returns why it paused, and
+/// what the request loop holds of the connections then.
 fn serve_frames<S: Calls<Blob>, C: Clock, R: Wait, I: BufRead + Drop, O: Write + Drop>(
     alloc: Global,
     wire: &mut Wire<I, O>,
@@ -56,7 +58,8 @@ fn serve_frames<S: Calls<Blob>, C: Clock, R: Wait, I: BufRead + Drop, O: Write +
     serve_on(alloc, wire, server, holds)
 }
 
-/// Serves the requests of a lane from where it left to their end, or to the wake at which all lanes leave.
+/// Serves a worker's requests from where its last term ended: until no more packets come, or until the wake
+/// at which all workers leave.
 fn serve<S: Calls<Blob>, C: Clock, R: Wait, I: BufRead + Drop, O: Write + Drop>(
     around: &Around<'_, C, R>,
     me: &mut S,
@@ -83,7 +86,7 @@ fn serve<S: Calls<Blob>, C: Clock, R: Wait, I: BufRead + Drop, O: Write + Drop>(
     }
 }
 
-/// The same of a lane that has not begun: its pipes are opened first.
+/// The same for a worker that has not begun: it opens its pipes first.
 fn begin<S: Calls<Blob>, P: Pipes, C: Clock, R: Wait>(
     around: &Around<'_, C, R>,
     me: &mut S,
@@ -102,7 +105,8 @@ fn begin<S: Calls<Blob>, P: Pipes, C: Clock, R: Wait>(
     serve(around, me, LeftLane { wire, holds, kept })
 }
 
-/// The stint of a lane, from what it kept. The sweep is told where it has left the map.
+/// A worker's term, from what the worker kept. A worker that has ended does nothing. The sweep learns by
+/// `Tallies::leave` that a worker has left the map.
 fn serve_stint<S: Calls<Blob>, P: Pipes, C: Clock, R: Wait>(
     around: &Around<'_, C, R>,
     me: &mut S,
@@ -126,7 +130,7 @@ fn serve_stint<S: Calls<Blob>, P: Pipes, C: Clock, R: Wait>(
     }
 }
 
-/// How many lanes have not ended.
+/// How many workers have not ended.
 fn count_unended<I: BufRead + Drop, O: Write + Drop>(states: &[WorkerState<I, O>]) -> u32 {
     let mut count = 0u32;
     for state in states {
@@ -146,7 +150,8 @@ where
 
     type State = WorkerState<P::Input, P::Output>;
 
-    // On each connection the replies to its requests, by the calls of the lane's sessions and no others; and what the sweep may do.
+    // On each connection the replies are those to its requests, by the calls of this worker's sessions and no
+    // others. The sweep does only what `Sweeps` allows.
     ghost done = { λ lanes worker l begun ended before after. IsStint P.Input.remaining P.Output.contents (P.opens lanes.pipes.now worker) l lanes.settings.now worker begun ended before after };
 
     fn stint<S: Calls<Blob>, R: Wait>(

@@ -1,4 +1,6 @@
-//! A server of a cache larger than memory, behind the protocol of Redis, over pipes.
+//! A cache server over pipes. It speaks the protocol of Redis, and its cache may be larger than its memory.
+//!
+//! `run_server` is the entry. The crate's README follows one request through the modules.
 #![tactic(auto)]
 
 mod answering;

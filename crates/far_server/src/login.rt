@@ -1,4 +1,4 @@
-//! Who may ask.
+//! Who may ask: AUTH, HELLO, and the limits of requests before the login.
 ghost use Rattle.std.specs.Prelude.{◌≡◌, ◌⊎◌, ◌++◌, true, List, ℕ, MatchBool, MatchOption, IsTrue, OnOk, OnErr};
 ghost use Rattle.std.specs.List.{flat_map};
 ghost use Rattle.resp.specs.Replies.{Token, token};
@@ -14,7 +14,7 @@ use far_map::Refusal;
 use sha2::{Digest, Sha256};
 use std::alloc::AllocError;
 
-/// What a command is answered that asks for a login first.
+/// The reply to a command that needs a login first.
 pub(crate) const NO_LOGIN: &[u8] = b"NOAUTH Authentication required.";
 
 const NO_LOGIN_OF_HELLO: &[u8] =
@@ -25,9 +25,10 @@ const WRONG_LOGIN: &[u8] = b"WRONGPASS invalid username-password pair or user is
 const NO_PASSWORD: &[u8] =
     b"ERR AUTH <password> called without any password configured for the default user. Are you sure your configuration is correct?";
 
-/// The most arguments of a request of a connection that has to log in first, and the most bytes of each: what a login needs, and little more.
+/// The most arguments of a request of an unauthenticated connection: what a login needs, and a few more.
 const MOST_ARGUMENTS: usize = 10;
 
+/// The most bytes of each argument of such a request.
 const MOST_BYTES: usize = 16_384;
 
 const MANY_ARGUMENTS: &[u8] = b"ERR Protocol error: unauthenticated multibulk length";
@@ -36,7 +37,7 @@ const LONG_ARGUMENT: &[u8] = b"ERR Protocol error: unauthenticated bulk length";
 
 const LONG_NAME: &[u8] = b"ERR Client names cannot be longer than 1024 bytes.";
 
-/// Whether each argument has at most as many bytes as one may have.
+/// Whether each argument has at most as many bytes as an unauthenticated connection may send.
 fn are_short(request: Arguments<'_>) -> bool
     ensures { MatchBool result (AreShort (listed request.entry)) (HasLong (listed request.entry)) }
 {
@@ -50,7 +51,7 @@ fn are_short(request: Arguments<'_>) -> bool
     true
 }
 
-/// What is said of a request that is larger than one may be of a connection that has to log in first.
+/// The error for a request that is larger than an unauthenticated connection may send. None if it is not.
 pub(crate) fn excess_of(request: Arguments<'_>) -> Option<&'static [u8]>
     ensures { MatchOption result (IsModest (listed request.entry)) (λ text. Exceeds (listed request.entry) text.now) }
 {
@@ -63,7 +64,8 @@ pub(crate) fn excess_of(request: Arguments<'_>) -> Option<&'static [u8]>
     }
 }
 
-/// Whether two digests are the same. It looks at every byte, so that the time that it takes tells nothing of them.
+/// Whether two digests are the same. It compares every byte, so the time that it takes reveals nothing about
+/// them.
 fn are_same(one: &[u8; 32], other: &[u8; 32]) -> bool
     ensures { IsTrue result → one.now ≡ other.now }
 {
@@ -74,7 +76,7 @@ fn are_same(one: &[u8; 32], other: &[u8; 32]) -> bool
     is_same
 }
 
-/// Whether a login is right. The one user is `default`, who needs no password where none is set.
+/// Whether a login is right. The only user is `default`. If no password is set, any password is right.
 fn is_right(password: &Option<[u8; 32]>, login: Login<'_>) -> bool
     ensures { IsTrue result → IsLogin password.now login.entry.password.now }
 {
@@ -88,7 +90,8 @@ fn is_right(password: &Option<[u8; 32]>, login: Login<'_>) -> bool
     }
 }
 
-/// AUTH.
+/// Answers AUTH: authenticates the connection if the login is right. If no password is set, a login without a
+/// user is an error.
 pub(crate) fn answer_auth(
     settings: &ServerSettings,
     connection: &mut Connection,
@@ -110,7 +113,8 @@ pub(crate) fn answer_auth(
     push_one_simple(reply, b"OK")
 }
 
-/// HELLO, which may log in and name the connection.
+/// Answers HELLO, which may log in and name the connection. If the name is refused, a login by the same HELLO
+/// still holds.
 pub(crate) fn answer_hello(
     settings: &ServerSettings,
     connection: &mut Connection,
@@ -141,7 +145,8 @@ pub(crate) fn answer_hello(
     server_commands::hello(connection.id, reply)
 }
 
-/// CLIENT SETNAME.
+/// Answers CLIENT SETNAME. If the name is too long, or memory is refused for it, the reply is an error, and
+/// the old name stays.
 pub(crate) fn answer_set_name(
     connection: &mut Connection,
     name: &[u8],

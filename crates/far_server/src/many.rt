@@ -1,4 +1,4 @@
-//! Commands on several keys: one after another, each by calls of its own.
+//! Commands on several keys: one key after another, each by separate calls.
 ghost use Rattle.std.specs.Prelude.{◌≡◌, ◌<◌, ◌^◌, ◌++◌, ◌∷◌, [], ℕ, List, length, take, MatchBool, MatchOption, IfSome, IsTrue, OnOk, OnErr};
 ghost use Rattle.std.specs.List.{flat_map};
 ghost use Rattle.resp.specs.Replies.{Token, Failure, token};
@@ -24,16 +24,16 @@ use std::alloc::{AllocError, Global};
 use std::sync::Wait;
 use stored_keys::DigestKeys;
 
-/// What a command replies to a key that it counts.
+/// The reply for a key that counts.
 const ONE: &[u8] = b":1\r\n";
 
-/// What it replies to another one.
+/// The reply for a key that does not.
 const NONE: &[u8] = b":0\r\n";
 
-/// What SET replies where it sets.
+/// The reply of a SET that sets.
 const OK: &[u8] = b"+OK\r\n";
 
-/// As many keys as can be counted.
+/// The highest number of keys that can be counted.
 const MOST_COUNTED: u64 = (1 << 63) - 1;
 
 /// A SET without options.
@@ -43,7 +43,7 @@ const PLAIN: Change = Change {
     lifetime: Lifetime::Forever,
 };
 
-/// Whether a reply is 1, where it is 1 or 0.
+/// Whether a reply is 1 and not 0. None if it is neither.
 fn is_one(said: &[u8]) -> Option<bool>
     ensures { IfSome result (λ b. MatchBool b (said.now ≡ one) (said.now ≡ none)) }
 {
@@ -56,7 +56,7 @@ fn is_one(said: &[u8]) -> Option<bool>
     }
 }
 
-/// One more where a key was counted, as far as 63 bits tell.
+/// One more if a key counts, up to 2^63 - 1.
 fn counted(is_one: bool, count: u64) -> u64
     requires { count < 2 ^ 63 }
     ensures value { result ≡ counted is_one count }
@@ -69,7 +69,8 @@ fn counted(is_one: bool, count: u64) -> u64
     }
 }
 
-/// The stored keys of the next keys, each so many arguments behind the one before: as many as a prefetch takes, and memory is there for.
+/// The stored keys of the next keys, each `step` arguments after the one before. There are as many as a
+/// prefetch takes, or fewer if memory is refused.
 fn next_keys(
     alloc: Global,
     rest: Arguments<'_>,
@@ -94,8 +95,8 @@ fn next_keys(
     keys
 }
 
-/// Of a command with so many arguments for keys, each key so many behind the one before, and the others left: begins to load what is
-/// about to be read of the next ones, where that is due.
+/// Begins to load what is about to be read for the next keys, if that is due. The command has `all` arguments
+/// for keys, of which `rest` are left, and each key is `step` arguments after the one before.
 fn look_ahead<S: Calls<Blob>>(
     alloc: Global,
     me: &mut S,
@@ -114,7 +115,8 @@ fn look_ahead<S: Calls<Blob>>(
     }
 }
 
-/// Carries a command out on a key, the first of those that are left, and pushes its reply, as `answer_key` does.
+/// Carries a command out on `key`, the first of those that are left, and pushes its reply, as `answer_key`
+/// does.
 fn answer_next<S: Calls<Blob>, R: Wait>(
     rt: &R,
     alloc: Global,
@@ -134,8 +136,8 @@ fn answer_next<S: Calls<Blob>, R: Wait>(
     answer_key(rt, alloc, me, key, asking, desk, reply)
 }
 
-/// Carries a command out on each key, and replies how many replied 1. Where one replies an error, that is the reply, and the keys
-/// behind it are left.
+/// Carries a command out on each key, and replies how many replied 1. If one replies an error, that is the
+/// reply, and the keys after it are left.
 pub(crate) fn count_keys<S: Calls<Blob>, R: Wait>(
     rt: &R,
     alloc: Global,
@@ -165,7 +167,7 @@ pub(crate) fn count_keys<S: Calls<Blob>, R: Wait>(
     push_number(reply, count as i64)
 }
 
-/// Replies an error in place of the replies to some keys.
+/// Puts an error in place of the replies to some keys.
 fn take_back(before: usize, text: &[u8], reply: &mut Vec<u8>) -> Result<(), AllocError>
     ensures { OnOk result (reply.new.items ≡ take before reply.old.items ++ flat_map token (Failure text.now ∷ [])) }
 {
@@ -173,8 +175,10 @@ fn take_back(before: usize, text: &[u8], reply: &mut Vec<u8>) -> Result<(), Allo
     push_one_failure(reply, text)
 }
 
-/// GET of each key: their replies in an array, of which some may be errors; or the error that the array would be too large, where at some
-/// key `limit` has no room for one more value; or that there is no memory, where the system refuses it for a short reply more.
+/// GET of each key. The reply is one of these:
+/// - an array of their replies, of which some may be errors;
+/// - the error that the array would be too large, if `limit` has no room for one more value at some key;
+/// - the error of refused memory, if the system refuses it at some key for one more short reply.
 pub(crate) fn get_keys<S: Calls<Blob>, R: Wait>(
     rt: &R,
     alloc: Global,
@@ -217,7 +221,7 @@ fn is_ok(said: &[u8]) -> bool
     said == OK
 }
 
-/// The first key, its value, and what stands behind them.
+/// The first key, its value, and the arguments after them. None if there are fewer than two.
 fn first_pair(pairs: Arguments<'_>) -> Option<(&[u8], &[u8], Arguments<'_>)>
     ensures { MatchOption result (length (listed pairs.entry) < 2) (λ p. listed pairs.entry ≡ p.0.now ∷ p.1.now ∷ listed p.2) }
 {
@@ -226,7 +230,8 @@ fn first_pair(pairs: Arguments<'_>) -> Option<(&[u8], &[u8], Arguments<'_>)>
     Some((key, value, behind))
 }
 
-/// SET of each pair. Where one replies an error, that is the reply, and the pairs behind it are left.
+/// SET of each pair. If one replies an error, that is the reply, and the pairs after it are left. Otherwise
+/// the reply is OK.
 pub(crate) fn set_pairs<S: Calls<Blob>, R: Wait>(
     rt: &R,
     alloc: Global,

@@ -4,27 +4,30 @@ use crate::tally::Tallies;
 use std::alloc::AllocError;
 use std::sync::atomic::Ordering;
 
-/// Has an answer sent once all that came before is answered: the number behind it is told back.
+/// Asks for an answer once all that came before is answered. The number after this word is sent back, after
+/// the word `synced`.
 const SYNC: &[u8] = b"sync ";
 
 const SYNCED: &[u8] = b"synced ";
 
-/// What the gateway tells, each behind a word: how many clients it refused, how many it closed to keep to the clients' part of the
-/// memory, how many bytes they have it and the lanes keep, and how many bytes of memory it and the server have.
+/// What the gateway reports, each a word and a number: here how many clients it refused.
 const REJECTED: &[u8] = b"rejected_connections ";
 
+/// How many clients it closed to keep to the clients' part of the memory.
 const EVICTED: &[u8] = b"clients_closed ";
 
+/// How many bytes the gateway and the workers keep for clients.
 const MEMORY: &[u8] = b"clients_memory ";
 
+/// How many bytes of memory the gateway and the server have.
 const RESIDENT: &[u8] = b"resident_bytes ";
 
-/// The number that this text spells. None where it is no number, or one of more than 64 bits.
+/// The number that this text spells. None if it is no number, or has more than 64 bits.
 fn number_in(text: &[u8]) -> Option<u64> {
     str::from_utf8(text).ok()?.parse().ok()
 }
 
-/// Takes a note, and pushes the answer if it wants one. A text that is not known asks for nothing.
+/// Takes a note, and pushes the answer if it asks for one. A text that is not known is ignored.
 pub(crate) fn take_note(
     tallies: &Tallies,
     text: &[u8],

@@ -1,4 +1,4 @@
-//! Where the lanes' frames come from and go to.
+//! Where the workers' packets come from and go to.
 
 ghost use Rattle.std.specs.Prelude.{IfOk};
 
@@ -6,31 +6,36 @@ use std::alloc::Global;
 use std::io::{BufRead, Write};
 use thiserror::Error;
 
-/// Why the pipes of a lane can't be opened.
+/// Why the pipes of a worker can't be opened.
 #[derive(Clone, Copy, Debug, PartialEq, Eq, Error)]
 pub enum OpenFault {
-    /// The system refused one of them.
+    /// The system could not open one of them.
     #[error("the pipes of a lane cannot be opened")]
     Io,
-    /// A growth of memory was refused.
+    /// An allocation failed.
     #[error("memory")]
     Memory,
 }
 
-/// A reader and a writer for each lane.
+/// A reader and a writer for each worker, for example two named pipes. Packets of requests come from the one,
+/// and packets of replies go to the other.
 pub trait Pipes {
     ghost use Rattle.std.specs.Prelude.{ℕ, List};
 
-    /// Where requests come from.
+    /// Where requests come from: packets as `lanes` reads them.
     type Input: BufRead + Drop;
 
     /// Where replies go to.
     type Output: Write + Drop;
 
-    /// Whether a lane of this number is given these.
+    /// Whether the worker of this number may be given this reader and this writer.
     ghost opens: { Self → ℕ → Self.Input → Self.Output → Type 0 };
 
-    /// The reader and the writer of a lane, counted from 0. Each is opened once, by the lane's own thread.
+    /// Opens the reader and the writer of the worker of number `lane`, counted from 0. Each is opened once,
+    /// by the worker's own thread, which may wait here for the other side.
+    ///
+    /// Returns `Io` if the system can't open one of them, and `Memory` if an allocation fails. The worker
+    /// ends then, with this fault, and the others go on.
     fn open(&self, alloc: Global, lane: u32) -> Result<(Self::Input, Self::Output), OpenFault>
         ensures { IfOk result (λ both. opens self.now lane both.0 both.1) };
 }

@@ -1,4 +1,4 @@
-//! The connections of a lane, each found by its number.
+//! The connections of a worker, each found by its number.
 ghost use Rattle.std.specs.Prelude.{◌≡◌, ◌≢◌, ◌++◌, ◌∷◌, [], ℕ, List, Bool, IfOk, OnOk};
 ghost use Rattle.std.specs.List.{flat_map};
 ghost use Rattle.resp.specs.Replies.{Token, Failure, token};
@@ -22,7 +22,8 @@ use std::collections::BTreeMap;
 use std::rt::Clock;
 use std::sync::Wait;
 
-/// Has a place for the connection of this number: a new one, where it has none. That counts as one that came.
+/// Makes a place for the connection of this number, if it has none. A new place counts as a connection that
+/// was opened.
 pub(crate) fn make_place<C, R>(
     around: &Around<'_, C, R>,
     connections: &mut BTreeMap<u64, Connection>,
@@ -45,7 +46,8 @@ pub(crate) fn make_place<C, R>(
     }
 }
 
-/// How many bytes of memory the connection of this number takes beside a fixed part.
+/// How many bytes of memory the connection of this number takes in addition to a fixed part; 0 if it has no
+/// place.
 pub(crate) fn kept_for(connections: &BTreeMap<u64, Connection>, number: u64) -> u64 {
     match connections.get(&number) {
         Some(place) => place.keeps() as u64,
@@ -53,7 +55,7 @@ pub(crate) fn kept_for(connections: &BTreeMap<u64, Connection>, number: u64) -> 
     }
 }
 
-/// Nothing is known of the connection of this number any more. Says whether something was.
+/// Forgets the connection of this number. Returns whether it had a place.
 pub(crate) fn forget(connections: &mut BTreeMap<u64, Connection>, number: u64) -> bool
     ensures forgotten { (e : Known) → known_at connections.new.entries number e ≡ e }
     ensures others { (d : ℕ) (e : Known) → d ≢ number → known_at connections.new.entries d e ≡ known_at connections.old.entries d e }
@@ -61,7 +63,9 @@ pub(crate) fn forget(connections: &mut BTreeMap<u64, Connection>, number: u64) -
     connections.remove(&number).is_some()
 }
 
-/// Refuses a request of a connection that there was no memory for, or for what else is wrong with one of who has to log in first.
+/// Refuses a request of a connection that has no place. If the request is larger than an unauthenticated
+/// connection may send, the error says so, whether a password is set or not. Otherwise it says that memory
+/// was refused.
 fn refuse(request: Arguments<'_>, reply: &mut Vec<u8>) -> Result<(), AllocError>
     ensures { OnOk result ((text : List ℕ) × (reply.new.items ≡ reply.old.items ++ flat_map token (Failure text ∷ [])) × ((other : List ℕ) → Exceeds (listed request.entry) other → other ≡ text)) }
 {
@@ -71,7 +75,8 @@ fn refuse(request: Arguments<'_>, reply: &mut Vec<u8>) -> Result<(), AllocError>
     }
 }
 
-/// What the lane does behind a request: whoever might not ask before and may now is let in, and the other way round.
+/// What the request loop does after a request. It lets a connection in that was not authenticated before and
+/// is now, and lets one out that was and is not any more. If the connection ends, it only ends.
 fn turned(might: bool, may: bool, next: Next) -> Next
     ensures { IsAdmission might may result }
 {
@@ -89,7 +94,8 @@ fn turned(might: bool, may: bool, next: Next) -> Next
     }
 }
 
-/// Answers a request of the connection of this number. One without a place is closed: there was no memory for it as it came.
+/// Answers a request of the connection of this number. A connection without a place is closed: there was no
+/// memory for its place when it was opened.
 pub(crate) fn answer_at<S: Calls<Blob>, C: Clock, R: Wait>(
     around: &Around<'_, C, R>,
     me: &mut S,

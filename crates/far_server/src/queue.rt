@@ -1,4 +1,4 @@
-//! The requests that wait for EXEC.
+//! The requests that wait for EXEC, and how much memory they take.
 ghost use Rattle.std.specs.Prelude.{◌≡◌, ◌++◌, ◌∷◌, [], map, length, IfOk, OnOk, OnErr};
 ghost use Rattle.resp.specs.Parsing.{AreWithin};
 ghost use Rattle.commands.specs.Arguments.{listed};
@@ -7,13 +7,14 @@ ghost use Rattle.far_server.specs.Queues.{held, waiting};
 use commands::{Arguments, Span};
 use std::alloc::{AllocError, Global};
 
-/// How many bytes an argument that waits takes beside its own: its place.
+/// How many bytes an argument that waits takes in addition to its own: its span.
 const COST: usize = 16;
 
-/// How many bytes a request that waits takes beside its arguments: two lists, and what malloc keeps of each.
+/// How many bytes a request that waits takes in addition to its arguments: two lists, and what malloc keeps
+/// for each.
 const REQUEST: usize = 96;
 
-/// A request of its own, whose arguments are copied.
+/// A request that owns copies of its arguments.
 #[derive(Drop)]
 pub(crate) struct Request {
     bytes: Vec<u8>,
@@ -21,7 +22,7 @@ pub(crate) struct Request {
 }
 
 impl Request {
-    /// Adds an argument behind the others.
+    /// Adds an argument after the others.
     fn push(&mut self, argument: &[u8]) -> Result<(), AllocError>
         requires { AreWithin (length self.old.bytes.items) self.old.spans.items }
         ensures pushed { OnOk result (held self.new ≡ held self.old ++ argument.now ∷ []) }
@@ -67,13 +68,13 @@ impl Request {
     }
 }
 
-/// The requests that wait for EXEC, behind a MULTI.
+/// The requests that wait for EXEC, after a MULTI.
 #[derive(Drop)]
 pub(crate) struct Queue {
     requests: Vec<Request>,
     /// How many bytes of memory they take.
     bytes: usize,
-    /// One was refused, so that EXEC runs none.
+    /// Whether one was refused, so that EXEC runs none.
     is_spoilt: bool,
 }
 
@@ -103,7 +104,7 @@ impl Queue {
         self.bytes
     }
 
-    /// Whether a request may wait too, where those that wait may take so many bytes.
+    /// Whether one more request may wait, if all that wait may take `most` bytes of memory.
     pub(crate) fn has_room(&self, request: Arguments<'_>, most: u32) -> bool {
         let mut bytes = self.bytes.saturating_add(REQUEST);
         for span in request.spans {
@@ -112,7 +113,7 @@ impl Queue {
         bytes <= most as usize
     }
 
-    /// Has a request wait behind the others.
+    /// Adds a copy of a request after the others. If memory is refused, those that wait stay as they were.
     pub(crate) fn push(&mut self, alloc: Global, request: Arguments<'_>) -> Result<(), AllocError>
         ensures pushed { OnOk result (waiting self.new ≡ waiting self.old ++ listed request.entry ∷ []) }
         ensures kept { OnErr result (waiting self.new ≡ waiting self.old) }

@@ -1,7 +1,10 @@
-//! RANDOMKEY: a key that is drawn.
+//! RANDOMKEY: draws a key.
 //!
-//! Buckets are drawn until one has a key, and one of its keys is drawn. So where most buckets have none or one, each key is drawn about as
-//! often as any other; where a bucket has several, each of them is drawn less often. Nothing is proved of how often.
+//! Buckets are drawn until one has a key, and then one of its keys is drawn. If 1,000 draws meet no key, the
+//! next bucket in order that has one is taken, from a drawn bucket on.
+//!
+//! So if most buckets have one key or none, each key is drawn about as often as any other. If a bucket has
+//! several, each of them is drawn less often. Nothing is proved about how often.
 ghost use Rattle.std.specs.Prelude.{◌≡◌, ◌<◌, ◌≤◌, ◌++◌, ℕ, List, OnOk, OnErr};
 ghost use Rattle.std.specs.List.{flat_map};
 ghost use Rattle.resp.specs.Replies.{Token, token};
@@ -24,12 +27,12 @@ use std::sync::Wait;
 /// How many buckets are drawn at most until one has a key.
 const MOST_DRAWS: u32 = 1_000;
 
-/// The draws of a worker, from the seed that all workers of a server share.
+/// The random numbers of a worker, from the seed that all workers of a server share.
 fn draws_of(seed: u64, worker: u32) -> SmallRng {
     SmallRng::seed_from_u64(seed.wrapping_add(u64::from(worker)))
 }
 
-/// A number below this one, which is not 0.
+/// A random number below `end`, which is not 0.
 fn draw_below(draws: &mut SmallRng, end: u32) -> u32
     requires { 0 < end }
     ensures { result < end }
@@ -37,8 +40,8 @@ fn draw_below(draws: &mut SmallRng, end: u32) -> u32
     draws.random_range(0..end)
 }
 
-/// The keys of the first of these buckets that has one; none if none has. A bucket whose word says that it is empty costs that look
-/// alone, since most are empty where many are asked for.
+/// The keys of the first bucket that has one, from `from` to `to` - 1. No keys if none has. An empty bucket
+/// costs one look at its word, because most are empty if many are visited here.
 fn keys_between<S: Calls<Blob>, R: Wait>(
     rt: &R,
     alloc: Global,
@@ -66,7 +69,7 @@ fn keys_between<S: Calls<Blob>, R: Wait>(
     Ok(Vec::new(alloc))
 }
 
-/// The keys of the first bucket that has one, from this one on, and then from 0 on.
+/// The keys of the first bucket that has one, from `first` on, and then from 0 on.
 fn keys_from<S: Calls<Blob>, R: Wait>(
     rt: &R,
     alloc: Global,
@@ -89,7 +92,8 @@ fn keys_from<S: Calls<Blob>, R: Wait>(
     }
 }
 
-/// The keys of a drawn bucket that has one; of the first from a drawn one on, where the draws met none.
+/// The keys of a drawn bucket that has one. If the draws met none, those of the first such bucket from a
+/// drawn one on.
 fn drawn_keys<S: Calls<Blob>, R: Wait>(
     rt: &R,
     alloc: Global,
@@ -118,7 +122,7 @@ fn drawn_keys<S: Calls<Blob>, R: Wait>(
     keys_from(rt, alloc, me, first, now)
 }
 
-/// The client's key of one of the keys, drawn; nothing where there is none.
+/// Pushes the client's key of one of the keys, which is drawn, or the null reply if there are no keys.
 fn push_drawn(draws: &mut SmallRng, keys: &[Text], reply: &mut Vec<u8>) -> Result<(), AllocError>
     ensures told { OnOk result ((rs : List Token) × (reply.new.items ≡ reply.old.items ++ flat_map token rs) × IsToldOne keys.now rs) }
     ensures kept { OnErr result (reply.new.items ≡ reply.old.items) }
@@ -129,7 +133,7 @@ fn push_drawn(draws: &mut SmallRng, keys: &[Text], reply: &mut Vec<u8>) -> Resul
     }
 }
 
-/// Answers RANDOMKEY. After want of memory `reply` has what it had.
+/// Answers RANDOMKEY. If memory is refused for the reply, `reply` is as before.
 pub(crate) fn answer_random_key<S: Calls<Blob>, C, R: Wait>(
     around: &Around<'_, C, R>,
     me: &mut S,

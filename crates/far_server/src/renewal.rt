@@ -1,58 +1,64 @@
-//! When all workers leave for a map whose names count anew, and what INFO tells of it. No contract claims anything of it.
+//! When all workers leave for a fresh map, whose version numbers (names) begin at 1 again, and what INFO
+//! reports of it. No contract claims anything about it.
 //!
 //! # How all leave together
 //!
-//! Lanes and the sweep look now and then at how many names are left. Once these are few, the next lane that has answered a request
-//! has all lanes woken; at its wake each leaves. So each has answered what came before its wake, and the rest waits in
-//! the pipes. The sweep leaves behind the last lane: it makes the room that requests wait for.
+//! Workers and the sweep check now and then how many version numbers are left. When these are few, the next
+//! worker that has answered a request has all workers woken, and each leaves the map at its wake. So each has
+//! answered what came before its wake, and the rest waits in the pipes. The sweep leaves after the last
+//! worker, because it makes the room that requests wait for.
 //!
-//! # Each lane is woken once
+//! # Each worker is woken once
 //!
-//! One lane alone has the others woken, and the next map begins once all have left. So no lane reads a wake of an earlier map.
+//! Only one worker has the others woken, and the next map begins after all have left. So no worker reads a
+//! wake of an earlier map.
 
 use crate::settings::ServerSettings;
 use far_map::Carried;
 use std::rt::Clock;
 use std::sync::atomic::{AtomicU32, AtomicU64, Ordering};
 
-/// As many names as may be drawn by the requests that wait in the pipes of a lane before its wake.
+/// How many version numbers may be drawn by the requests that wait in a worker's pipes before its wake.
 const BEHIND: u64 = 16_384;
 
-/// How many requests of a lane are answered at most between two looks.
+/// How many requests a worker answers at most between two checks.
 const LOOKS: u64 = 256;
 
-/// How many names a request may draw, as looks are set apart. Where one draws more, names may run out in a small server alone.
+/// How many version numbers a request may draw, as the checks are spaced. If one draws more, the numbers may
+/// run out, but only in a small server.
 const DRAWN: u64 = 4;
 
-/// There are names enough.
+/// There are enough version numbers.
 const ENOUGH: u32 = 0;
 
-/// The map is to be renewed, and no lane was told to leave.
+/// A renewal was asked for, and no worker was told to leave.
 const ASKED: u32 = 1;
 
-/// All lanes were told to leave.
+/// All workers were told to leave.
 const LEAVING: u32 = 2;
 
-/// What the workers of a server share for it.
+/// What the workers of a server share for renewals.
 #[derive(Drop)]
 pub(crate) struct Renewal {
-    /// Names are few below so many.
+    /// Version numbers are few if fewer than this are left.
     least: u64,
-    /// How many requests a lane answers from one look to the next.
+    /// How many requests a worker answers from one check to the next.
     every: u32,
+    /// `ENOUGH`, `ASKED` or `LEAVING`.
     stage: AtomicU32,
-    /// When all were told to leave, in milliseconds; 0 once a lane serves again.
+    /// When all were told to leave, in milliseconds of the clock that never goes back; 0 once a worker serves
+    /// again.
     told: AtomicU64,
     /// How many maps there were before this one.
     count: AtomicU64,
-    /// Of these, pairs that were not put into the next one, and buckets that were not read.
+    /// Pairs of these that were not put into the next one, and in `lost_buckets` buckets that were not read.
     lost_pairs: AtomicU64,
     lost_buckets: AtomicU64,
-    /// How many milliseconds no lane served at the last time.
+    /// How many milliseconds no worker served at the last renewal.
     pause: AtomicU64,
 }
 
-/// Milliseconds from some moment on, at least 1. 0 where the clock can't be read.
+/// Milliseconds of a clock that never goes back, at least 1; 0 if it can't be read.
 fn milliseconds<C: Clock>(clock: &C) -> u64 {
     match clock.monotonic() {
         Ok(since) => since.as_millis().clamp(1, u128::from(u64::MAX)) as u64,
@@ -61,7 +67,7 @@ fn milliseconds<C: Clock>(clock: &C) -> u64 {
 }
 
 impl Renewal {
-    /// Of a server that has served nothing.
+    /// For a server that has served nothing.
     pub(crate) fn new(settings: &ServerSettings) -> Renewal {
         let names = settings.map.names;
         let lanes = u64::from(settings.lanes);
@@ -82,31 +88,32 @@ impl Renewal {
         }
     }
 
-    /// How many requests a lane answers from one look to the next.
+    /// How many requests a worker answers from one check to the next.
     pub(crate) fn every(&self) -> u32 {
         self.every
     }
 
-    /// Has the map renewed, whatever names there are.
+    /// Asks for a renewal, however many version numbers are left.
     pub(crate) fn ask(&self) {
         let _ = self
             .stage
             .compare_exchange(ENOUGH, ASKED, Ordering::SeqCst, Ordering::SeqCst);
     }
 
-    /// Has the map renewed where so many names are few.
+    /// Asks for a renewal if `left` version numbers are few.
     pub(crate) fn look(&self, left: u64) {
         if left < self.least {
             self.ask();
         }
     }
 
-    /// Whether the sweep is to draw no name, so that lanes have some until they leave.
+    /// Whether the sweep should draw no version number, so that workers have some until they leave.
     pub(crate) fn spares(&self, left: u64) -> bool {
         left < self.least / 2
     }
 
-    /// Whether the lane that asks is to have all woken: the map is to be renewed, and no other has.
+    /// Whether the calling worker should have all workers woken: a renewal was asked for, and no other worker
+    /// has done so. It is true for one worker of each renewal.
     pub(crate) fn is_due<C: Clock>(&self, clock: &C) -> bool {
         if self.stage.load(Ordering::SeqCst) != ASKED {
             return false;
@@ -121,7 +128,7 @@ impl Renewal {
         told
     }
 
-    /// Whether a lane that is woken is to leave.
+    /// Whether a worker that is woken should leave.
     pub(crate) fn leaves(&self) -> bool {
         self.stage.load(Ordering::SeqCst) == LEAVING
     }
@@ -137,12 +144,13 @@ impl Renewal {
             .fetch_add(carried.lost_buckets, Ordering::SeqCst);
     }
 
-    /// A lane begins to serve.
+    /// A worker begins to serve. After a renewal this sets how long the pause was.
     pub(crate) fn serve<C: Clock>(&self, clock: &C) {
         let told = self.told.load(Ordering::SeqCst);
         if told > 0 {
             let pause = milliseconds(clock).saturating_sub(told);
-            // First, so that each lane tells the pause of the renewal that it counts.
+            // This comes first. So a worker that finds `told` at 0 reports the pause of the renewal that it
+            // counts.
             self.pause.store(pause, Ordering::SeqCst);
             let _ = self
                 .told
@@ -160,12 +168,12 @@ impl Renewal {
         self.lost_pairs.load(Ordering::SeqCst)
     }
 
-    /// Buckets whose pairs the next map did not get, since they could not be read.
+    /// Buckets whose pairs the next map did not get, because they could not be read.
     pub(crate) fn lost_buckets(&self) -> u64 {
         self.lost_buckets.load(Ordering::SeqCst)
     }
 
-    /// How many milliseconds no lane served at the last time.
+    /// How many milliseconds no worker served at the last renewal.
     pub(crate) fn pause(&self) -> u64 {
         self.pause.load(Ordering::SeqCst)
     }

@@ -1,10 +1,14 @@
-//! Room for what a command sets: bytes in frames stay bounded where a device takes no more.
+//! Room for what a command sets: the bytes in frames stay bounded when a device takes no more.
 //!
 //! # Before the command
 //!
-//! A command that may leave more bytes than it found looks first whether too many lie in frames. If so it has objects swapped out,
-//! where there is a device. If none takes any more, it waits for the sweep, where that may take other keys out; else it is refused.
-//! A lane takes no other key out itself: its calls are those of its commands.
+//! A command that may leave more bytes than it found first checks whether the objects in frames have too many
+//! bytes. If they have:
+//! - It has objects swapped out, if there is a device.
+//! - If there is none, or none takes any more, it waits for the sweep, if that may evict other keys.
+//! - Otherwise it is refused.
+//!
+//! A worker evicts no keys itself: its calls are those of its commands.
 ghost use Rattle.version_words.specs.Views.{Goes};
 
 use crate::around::Desk;
@@ -14,16 +18,17 @@ use key_commands::KeyCommand;
 use std::sync::Wait;
 use std::time::Duration;
 
-/// How many objects a command has swapped out at most: as many small ones as have the bytes of a large value.
+/// How many objects a command has swapped out at most: as many small ones as have the bytes of one large
+/// value.
 const MOST_TURNS: u32 = 100_000;
 
-/// How many microseconds a command sleeps before it looks again whether the sweep has made room.
+/// How many microseconds a command sleeps before it checks again whether the sweep has made room.
 const NAP: u64 = 200;
 
-/// How often it sleeps at most while the bytes in frames do not change: for two seconds.
+/// How many times it sleeps at most while the bytes in frames do not change: for two seconds.
 const IDLE_NAPS: u32 = 10_000;
 
-/// How often it sleeps at most in all: for thirty seconds. Others may take the room that was made.
+/// How many times it sleeps at most in all: for thirty seconds. Others may take the room that was made.
 const MOST_NAPS: u32 = 150_000;
 
 /// Whether a command may leave more bytes than it found.
@@ -46,8 +51,8 @@ pub(crate) fn may_grow(command: KeyCommand<'_>) -> bool {
     )
 }
 
-/// Whether at most so many bytes lie in frames, once objects were swapped out where there were more. The evictor comes back below its
-/// bound by itself, unless its device fails.
+/// Swaps objects out while the frames have more than `most` bytes. Returns whether they have no more than
+/// that at the end. The evictor comes back below its bound by itself, unless its device fails.
 fn swaps_out<S: Calls<Blob>, R: Wait>(rt: &R, me: &mut S, most: u64) -> bool
     ensures { Goes (S.shown me.old).pass (S.shown me.new).pass }
 {
@@ -62,7 +67,8 @@ fn swaps_out<S: Calls<Blob>, R: Wait>(rt: &R, me: &mut S, most: u64) -> bool
     me.bytes_in_frames() <= most
 }
 
-/// Whether at most so many bytes lie in frames, once the sweep had time to take keys out. It has as long as it takes some out.
+/// Waits for the sweep while the frames have more than `most` bytes. Returns whether they have no more than
+/// that at the end. The wait goes on as long as the sweep removes keys.
 fn waits<S: Calls<Blob>, R: Wait>(rt: &R, me: &S, most: u64, desk: &Desk) -> bool {
     let mut last = me.bytes_in_frames();
     let mut idle = 0u32;
@@ -82,7 +88,7 @@ fn waits<S: Calls<Blob>, R: Wait>(rt: &R, me: &S, most: u64, desk: &Desk) -> boo
     last <= most
 }
 
-/// Whether as many bytes lie in frames as may, and an eighth, once what can be done for it was.
+/// Whether the bytes in frames are within their bound and an eighth, after all was tried that can make room.
 pub(crate) fn has_room<S: Calls<Blob>, R: Wait>(rt: &R, me: &mut S, desk: &Desk) -> bool
     ensures { Goes (S.shown me.old).pass (S.shown me.new).pass }
 {

@@ -1,4 +1,4 @@
-//! A command is run.
+//! Runs a command, by the module that carries it out.
 ghost use Rattle.std.specs.Prelude.{◌≡◌, ◌++◌, ℕ, List, OnOk, OnErr, IfOk};
 ghost use Rattle.std.specs.List.{flat_map};
 ghost use Rattle.resp.specs.Replies.{Token, token};
@@ -28,7 +28,7 @@ use std::rt::Clock;
 use std::sync::Wait;
 use stored_keys::DigestKeys;
 
-/// A command on these keys.
+/// A command on these keys: DEL, UNLINK, EXISTS, TOUCH or MGET.
 fn run_keys<S: Calls<Blob>, R: Wait>(
     rt: &R,
     alloc: Global,
@@ -71,7 +71,7 @@ fn run_keys<S: Calls<Blob>, R: Wait>(
     }
 }
 
-/// A command that changes no key. After want of memory `reply` has what it had.
+/// Answers a command that changes no key. If memory is refused for the reply, `reply` is as before.
 fn answer_at_hand<S: Calls<Blob>, C: Clock, R: Wait>(
     around: &Around<'_, C, R>,
     me: &mut S,
@@ -97,7 +97,8 @@ fn answer_at_hand<S: Calls<Blob>, C: Clock, R: Wait>(
     }
 }
 
-/// The same; where memory is refused for the reply, or for what it leaves free, the reply is that.
+/// The same. If memory is refused for the reply, or for the room that it has to leave free, the reply is that
+/// error.
 fn answer_or_refuse<S: Calls<Blob>, C: Clock, R: Wait>(
     around: &Around<'_, C, R>,
     me: &mut S,
@@ -124,7 +125,7 @@ fn answer_or_refuse<S: Calls<Blob>, C: Clock, R: Wait>(
     push_one_failure(reply, text_of(Refusal::Memory))
 }
 
-/// A command on several keys, or on none.
+/// Runs a command on several keys, or on none.
 fn run_other<S: Calls<Blob>, C: Clock, R: Wait>(
     around: &Around<'_, C, R>,
     me: &mut S,
@@ -174,7 +175,7 @@ fn run_other<S: Calls<Blob>, C: Clock, R: Wait>(
     }
 }
 
-/// A command.
+/// Runs a command: on one key, or another one.
 fn run_command<S: Calls<Blob>, C: Clock, R: Wait>(
     around: &Around<'_, C, R>,
     me: &mut S,
@@ -203,7 +204,8 @@ fn run_command<S: Calls<Blob>, C: Clock, R: Wait>(
     }
 }
 
-/// What a request asks for: its command is run, or the fault that Redis finds first is the reply. Its reply may have `limit` bytes.
+/// Runs a request that was read. The reply is that of its command, or the fault that Redis would find first.
+/// `limit` is how many bytes the reply may have.
 pub(crate) fn run<S: Calls<Blob>, C: Clock, R: Wait>(
     around: &Around<'_, C, R>,
     me: &mut S,

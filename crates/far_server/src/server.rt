@@ -1,4 +1,4 @@
-//! A lane's service: the connections of a lane, and its session.
+//! A worker's service: what the request loop (`lanes`) calls for each open, request, close, note and wake.
 ghost use Rattle.std.specs.Prelude.{◌≡◌, ℕ, Bool, []};
 ghost use Rattle.far_server.specs.Answers.{known_at, unknown, IsAdmission};
 
@@ -17,17 +17,18 @@ use std::collections::BTreeMap;
 use std::rt::Clock;
 use std::sync::Wait;
 
-/// What a lane keeps from one request to the next, and from one map to the next.
+/// What a worker keeps from one request to the next, and from one map to the next.
 #[derive(Drop)]
 pub(crate) struct Kept {
+    /// The connections that have a place, each by the number that the gateway drew for it.
     connections: BTreeMap<u64, Connection>,
     desk: Desk,
-    /// How many requests are answered before it is looked at how many names are left.
+    /// How many more requests are answered before the worker checks how many version numbers are left.
     until_look: u32,
 }
 
 impl Kept {
-    /// What a lane keeps that knows no connection.
+    /// What a worker keeps that knows no connection.
     pub(crate) fn new(alloc: Global, settings: &ServerSettings) -> Kept
         ensures { result.connections.entries ≡ [] }
     {
@@ -39,7 +40,9 @@ impl Kept {
     }
 }
 
-/// A lane's service. (A contract can say what its session is left as only where what owns memory beside it is of a type parameter.)
+/// A worker's service: its session, what all workers share, and what the worker keeps. (`T` is `Kept`. It is
+/// a type parameter because a contract can state what the session is left as only if all other fields that
+/// own memory are of such a type.)
 #[derive(Drop)]
 pub(crate) struct Server<'a, S: Calls<Blob>, C, R, T> {
     me: &'a mut S,
@@ -48,7 +51,7 @@ pub(crate) struct Server<'a, S: Calls<Blob>, C, R, T> {
 }
 
 impl<'a, S: Calls<Blob>, C, R, T: Drop> Server<'a, S, C, R, T> {
-    /// Lets the session go, and gives back what is kept.
+    /// Lets go of the session, and returns what the worker keeps.
     pub(crate) fn finish(self) -> T
         ensures session { self.exit.0.now ≡ self.entry.me.now }
         ensures kept { result ≡ self.entry.kept }
@@ -63,7 +66,7 @@ impl<'a, S: Calls<Blob>, C, R, T: Drop> Server<'a, S, C, R, T> {
 }
 
 impl<'a, S: Calls<Blob>, C: Clock, R: Wait> Server<'a, S, C, R, Kept> {
-    /// One that knows what was kept.
+    /// A service that goes on from what was kept.
     pub(crate) fn new(
         around: &'a Around<'a, C, R>,
         me: &'a mut S,
@@ -80,7 +83,9 @@ impl<'a, S: Calls<Blob>, C: Clock, R: Wait> Server<'a, S, C, R, Kept> {
         Server { me, around, kept }
     }
 
-    /// What comes behind a reply: where names are few, one lane has all woken, so that each leaves.
+    /// What the request loop does after a reply. It also checks now and then how many version numbers are
+    /// left. When they are few, exactly one worker has all workers woken, and each leaves the map at its
+    /// wake.
     fn behind(&mut self, next: Next) -> Next
         ensures told { (might may : Bool) → IsAdmission might may next → IsAdmission might may result }
         ensures same_reference { self.new.me.ghost_name ≡ self.old.me.ghost_name }
@@ -98,14 +103,14 @@ impl<'a, S: Calls<Blob>, C: Clock, R: Wait> Server<'a, S, C, R, Kept> {
             self.kept.desk.is_stuck = false;
             renewal.ask();
         }
-        // A lane that closes the connection leaves it to the next reply.
+        // A reply that closes the connection, or lets it in or out, leaves the wake to a later reply.
         if next == Next::GoOn && renewal.is_due(self.around.clock) {
             return Next::WakeAll;
         }
         next
     }
 
-    /// Has a place for the connection of this number.
+    /// Makes a place for the connection of this number, if it has none.
     fn make_place(&mut self, connection: u64) -> Result<(), AllocError>
         ensures same_reference { self.new.me.ghost_name ≡ self.old.me.ghost_name }
         ensures session { self.new.me.now ≡ self.old.me.now }
@@ -121,7 +126,7 @@ impl<'a, S: Calls<Blob>, C: Clock, R: Wait> Server<'a, S, C, R, Kept> {
         make_place(self.around, connections, connection, desk, passed)
     }
 
-    /// Tells what was counted, and gives back what was large.
+    /// Publishes the statistics, and gives back the memory of a large value.
     fn tell(&mut self)
         ensures same_reference { self.new.me.ghost_name ≡ self.old.me.ghost_name }
         ensures session { self.new.me.now ≡ self.old.me.now }
@@ -139,7 +144,8 @@ impl<'a, S: Calls<Blob>, C: Clock, R: Wait> Service for Server<'a, S, C, R, Kept
     ghost does = { λ s call t. (t.me.ghost_name ≡ s.me.ghost_name) × (t.around.now ≡ s.around.now) × Acts S.limits s.around.now.settings.now.digest_keys s.around.now.settings.now.password s.around.now.settings.now.bounds (lane_of s.around.now.settings.now.password (S.shown s.me.now) s.kept.connections.entries) call (lane_of s.around.now.settings.now.password (S.shown t.me.now) t.kept.connections.entries) };
 
     fn open(&mut self, connection: u64, _address: &[u8]) -> Result<bool, AllocError> {
-        // Without memory for its place its first request is refused, and the connection closed.
+        // If there is no memory for its place, its first request is refused, and the connection is closed
+        // then.
         let _ = self.make_place(connection);
         self.tell();
         Ok(self.around.settings.password.is_none())
@@ -187,7 +193,7 @@ impl<'a, S: Calls<Blob>, C: Clock, R: Wait> Service for Server<'a, S, C, R, Kept
     }
 
     fn note(&mut self, text: &[u8], reply: &mut Vec<u8>) -> Result<(), AllocError> {
-        // An answer that there is no memory for is not sent.
+        // If there is no memory for the answer, none is sent.
         if take_note(self.around.tallies, text, reply).is_err() {
             reply.clear();
         }

@@ -1,4 +1,4 @@
-//! Replies of one token.
+//! Replies of one token: an error, a status, a string, a number or the null reply.
 ghost use Rattle.std.specs.Prelude.{◌≡◌, ◌++◌, ◌∷◌, [], ℕ, List, OnOk, OnErr};
 ghost use Rattle.std.specs.List.{flat_map};
 ghost use Rattle.resp.specs.Replies.{Token, Failure, Simple, String, Number, Nothing, token};
@@ -10,6 +10,7 @@ use far_map::Refusal;
 use resp::{push_failure, push_nothing, push_number, push_simple, push_string};
 use std::alloc::AllocError;
 
+/// Pushes an error. If memory is refused, `reply` is as before.
 pub(crate) fn push_one_failure(reply: &mut Vec<u8>, text: &[u8]) -> Result<(), AllocError>
     ensures exact { OnOk result (reply.new.items ≡ reply.old.items ++ flat_map token (Failure text.now ∷ [])) }
     ensures said { OnOk result ((rs : List Token) × (reply.new.items ≡ reply.old.items ++ flat_map token rs)) }
@@ -18,6 +19,7 @@ pub(crate) fn push_one_failure(reply: &mut Vec<u8>, text: &[u8]) -> Result<(), A
     push_failure(reply, text)
 }
 
+/// Pushes a status. If memory is refused, `reply` is as before.
 pub(crate) fn push_one_simple(reply: &mut Vec<u8>, text: &[u8]) -> Result<(), AllocError>
     ensures exact { OnOk result (reply.new.items ≡ reply.old.items ++ flat_map token (Simple text.now ∷ [])) }
     ensures said { OnOk result ((rs : List Token) × (reply.new.items ≡ reply.old.items ++ flat_map token rs)) }
@@ -26,6 +28,7 @@ pub(crate) fn push_one_simple(reply: &mut Vec<u8>, text: &[u8]) -> Result<(), Al
     push_simple(reply, text)
 }
 
+/// Pushes a string. If memory is refused, `reply` is as before.
 pub(crate) fn push_one_string(reply: &mut Vec<u8>, bytes: &[u8]) -> Result<(), AllocError>
     ensures exact { OnOk result (reply.new.items ≡ reply.old.items ++ flat_map token (String bytes.now ∷ [])) }
     ensures said { OnOk result ((rs : List Token) × (reply.new.items ≡ reply.old.items ++ flat_map token rs)) }
@@ -34,6 +37,7 @@ pub(crate) fn push_one_string(reply: &mut Vec<u8>, bytes: &[u8]) -> Result<(), A
     push_string(reply, bytes)
 }
 
+/// Pushes a number. If memory is refused, `reply` is as before.
 pub(crate) fn push_one_number(reply: &mut Vec<u8>, n: i64) -> Result<(), AllocError>
     ensures exact { OnOk result (reply.new.items ≡ reply.old.items ++ flat_map token (Number n ∷ [])) }
     ensures said { OnOk result ((rs : List Token) × (reply.new.items ≡ reply.old.items ++ flat_map token rs)) }
@@ -42,6 +46,7 @@ pub(crate) fn push_one_number(reply: &mut Vec<u8>, n: i64) -> Result<(), AllocEr
     push_number(reply, n)
 }
 
+/// Pushes the null reply. If memory is refused, `reply` is as before.
 pub(crate) fn push_one_nothing(reply: &mut Vec<u8>) -> Result<(), AllocError>
     ensures exact { OnOk result (reply.new.items ≡ reply.old.items ++ flat_map token (Nothing ∷ [])) }
     ensures said { OnOk result ((rs : List Token) × (reply.new.items ≡ reply.old.items ++ flat_map token rs)) }
@@ -50,7 +55,8 @@ pub(crate) fn push_one_nothing(reply: &mut Vec<u8>) -> Result<(), AllocError>
     push_nothing(reply)
 }
 
-/// The text of a fault. Behind it there is room for so many bytes: if memory is refused for one of both, the reply is that.
+/// Pushes the error of a fault, if there is also room for `beside` bytes after it. If memory is refused for
+/// one of both, the reply is that error.
 pub(crate) fn push_one_fault(
     reply: &mut Vec<u8>,
     fault: Fault<'_>,

@@ -6,8 +6,8 @@ use lanes::{Holds, Wire};
 use std::io::{BufRead, Write};
 use std::marker::Model;
 
-/// A lane that has left a map, and goes on in the next one. Contracts see its frames, what it holds of their connections, and what it
-/// knows of these.
+/// A worker that has left a map, and goes on in the next one. Contracts see its packets (`wire`), what the
+/// request loop holds of its connections (`holds`), and what the worker knows of these (`kept`).
 #[derive(Drop)]
 pub(crate) struct LeftLane<I: BufRead + Drop, O: Write + Drop> {
     pub(crate) wire: Wire<I, O>,
@@ -25,13 +25,13 @@ impl<I: BufRead + Drop, O: Write + Drop> Model for LeftLane<I, O> {
     ghost invariant = { λ l. HasStood I.remaining O.contents l.wire l.holds };
 }
 
-/// What a worker keeps from one map to the next.
+/// What a worker, or the sweep, keeps from one map to the next.
 #[derive(Drop)]
 pub(crate) enum WorkerState<I: BufRead + Drop, O: Write + Drop> {
     /// It has not begun.
     Fresh,
-    /// A lane that goes on.
+    /// A worker that goes on in the next map.
     Left(LeftLane<I, O>),
-    /// It has ended; the sweep until the next map is there.
+    /// It has ended. The sweep ends with each map, and begins again in the next one.
     Ended(WorkerEnd<I, O>),
 }

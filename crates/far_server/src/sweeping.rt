@@ -1,14 +1,18 @@
-//! The sweep of a server: it takes expired values out that nobody meets, and other keys where they may be evicted and all is full.
+//! The sweep of a server: it removes expired values that no client meets. It also evicts other keys, if
+//! memory is full and the policy allows it.
 //!
-//! # A worker of its own
+//! # A session for the sweep
 //!
-//! It reads buckets that nobody asked for, from disk too, so no lane does it; and the evictor moves objects and never changes a
-//! value. So it is a session like the others, whose calls are removals and gets.
+//! The sweep reads buckets that nobody asked for, also from disk, so no worker does it. The evictor does not
+//! do it either, because it moves objects and never changes a value. So the sweep has a session like those of
+//! the workers. Its calls are removals and gets.
 //!
 //! # Only what pays
 //!
-//! Nothing tells where the expired values lie, so a round looks at each bucket, a few at a time. Where a round has met no value with a
-//! deadline, and none was set since it began, there is none to wait for, and no further round begins until one is set.
+//! Nothing records where the expired values are, so a round looks at each bucket, a few at a time. Suppose
+//! that a round has met no value that may still expire and could read every bucket, and that no value with a
+//! deadline was set since it began. Then there is nothing to wait for, and no further round begins until one
+//! is set.
 ghost use Rattle.std.specs.Prelude.{◌<◌, Bool, true};
 ghost use Rattle.version_words.specs.Views.{Goes};
 ghost use Rattle.far_server.specs.Sweeps.{IsSweeping, Sweeps};
@@ -24,29 +28,31 @@ use std::rt::Clock;
 use std::sync::Wait;
 use std::time::Duration;
 
-/// How many buckets are looked at between two naps for expired values, and how many of them may be read from a device.
+/// How many buckets are looked at for expired values between two naps.
 const BUCKETS: u32 = 256;
 
+/// After this many reads from a device there is a nap, even if fewer buckets were looked at.
 const DEVICE_READS: u64 = 8;
 
-/// How many milliseconds a nap has: so some hundredths of a processor go round 4,000,000 buckets in memory in some 80 seconds.
+/// How many milliseconds a nap has. So the sweep goes round 4,000,000 buckets in memory in some 80 seconds,
+/// by some hundredths of a processor.
 const NAP: u64 = 5;
 
-/// Where the sweep has come to.
+/// Where the sweep has got to.
 #[derive(Drop)]
 pub(crate) struct Hand {
-    /// The next bucket whose expired values are looked for.
+    /// The next bucket that is looked at for expired values.
     pub(crate) next: u32,
     /// How many values with a deadline had been set when the round began.
     dated: u64,
-    /// Whether the round has met one that may expire yet.
+    /// Whether the round has met one that may still expire, or a bucket that can't be read.
     pub(crate) has_met: bool,
     /// Where keys are evicted next.
     pub(crate) victims: Victims,
 }
 
 impl Hand {
-    /// One that waits for the first value with a deadline, in a map of so many buckets and frames.
+    /// A hand that waits for the first value with a deadline, in a map of that many buckets and frames.
     pub(crate) fn new(alloc: Global, buckets: u32, frames: u32) -> Hand {
         Hand {
             next: buckets,
@@ -84,7 +90,7 @@ fn dated_in<S: Calls<Blob>, R: Wait>(
     Ok(dated)
 }
 
-/// Takes a value out that is expired at this time, where it is still there: whether it is gone.
+/// Removes a value if it is expired at the time `now` and still there. Returns whether it was removed.
 pub(crate) fn expire<S: Calls<Blob>, R: Wait>(
     rt: &R,
     me: &mut S,
@@ -108,7 +114,7 @@ pub(crate) fn expire<S: Calls<Blob>, R: Wait>(
     }
 }
 
-/// Takes the expired values of a bucket out: whether it has others with a deadline.
+/// Removes the expired values of a bucket. Returns whether it has others with a deadline.
 pub(crate) fn expire_in<S: Calls<Blob>, R: Wait>(
     rt: &R,
     alloc: Global,
@@ -134,7 +140,8 @@ pub(crate) fn expire_in<S: Calls<Blob>, R: Wait>(
     Ok(has_others)
 }
 
-/// Looks for expired values in the next buckets. What can't be read is looked at again in the next round.
+/// Looks for expired values in the next buckets. A bucket that can't be read is looked at again in the next
+/// round.
 fn expire_some<S: Calls<Blob>, C: Clock, R: Wait>(
     around: &Around<'_, C, R>,
     me: &mut S,
@@ -155,7 +162,7 @@ fn expire_some<S: Calls<Blob>, C: Clock, R: Wait>(
     }
 }
 
-/// Whether there are buckets to look at for expired values: a round is not at its end, or another one begins.
+/// Whether there are buckets to look at for expired values: a round is not over, or another one begins now.
 pub(crate) fn is_due(hand: &mut Hand, buckets: u32, dated: u64) -> bool {
     if hand.next < buckets {
         return true;
@@ -169,7 +176,7 @@ pub(crate) fn is_due(hand: &mut Hand, buckets: u32, dated: u64) -> bool {
     true
 }
 
-/// Looks for expired values where some may be.
+/// Looks for expired values, if there may be some.
 fn expire_next<S: Calls<Blob>, C: Clock, R: Wait>(
     around: &Around<'_, C, R>,
     me: &mut S,
@@ -184,7 +191,8 @@ fn expire_next<S: Calls<Blob>, C: Clock, R: Wait>(
     }
 }
 
-/// One turn where keys may be evicted: whether another one is to follow at once.
+/// One turn if keys may be evicted. Returns whether another one should follow at once. It looks for expired
+/// values only if there is no room to make.
 fn turn_with_room<S: Calls<Blob>, C: Clock, R: Wait>(
     around: &Around<'_, C, R>,
     me: &mut S,
@@ -200,7 +208,7 @@ fn turn_with_room<S: Calls<Blob>, C: Clock, R: Wait>(
     false
 }
 
-/// One turn: whether another one is to follow at once.
+/// One turn. Returns whether another one should follow at once.
 fn turn<S: Calls<Blob>, C: Clock, R: Wait>(
     around: &Around<'_, C, R>,
     me: &mut S,
@@ -216,7 +224,8 @@ fn turn<S: Calls<Blob>, C: Clock, R: Wait>(
     false
 }
 
-/// The same, unless names are few: those are left to the lanes.
+/// The same, unless version numbers are few: those are left to the workers. It also asks for a renewal if
+/// they are.
 fn sparing_turn<S: Calls<Blob>, C: Clock, R: Wait>(
     around: &Around<'_, C, R>,
     me: &mut S,
@@ -233,7 +242,7 @@ fn sparing_turn<S: Calls<Blob>, C: Clock, R: Wait>(
     turn(around, me, hand, desk)
 }
 
-/// Sweeps until all lanes have left the map.
+/// Sweeps until all workers have left the map.
 pub(crate) fn sweep<S: Calls<Blob>, C: Clock, R: Wait>(around: &Around<'_, C, R>, me: &mut S)
     ensures { Sweeps S.limits around.now.settings.now.options.evicts (S.shown me.old) (S.shown me.new) }
 {

@@ -1,48 +1,53 @@
-//! What lanes count, for INFO. No contract claims anything of it.
+//! The server's statistics, for INFO. No contract claims anything about them.
 
 use far_map::{Refusal, Traffic};
 use std::alloc::{AllocError, Global};
 use std::sync::atomic::{AtomicU32, AtomicU64, Ordering};
 
-/// What a lane has counted since the start.
+/// What a worker, or the sweep, has counted since the server's start.
 #[derive(Clone, Copy, Debug, Default, PartialEq, Eq)]
 pub(crate) struct Tally {
-    /// Connections that came, and those of them that are over.
+    /// Connections that were opened, and in `left` those of them that are over.
     pub(crate) came: u64,
     pub(crate) left: u64,
+    /// Requests of connections that have a place, whether they were commands or faults.
     pub(crate) commands: u64,
-    /// Keys that got a value and had none, and those that lost theirs.
+    /// Keys that got a value and had none before, and in `lost` those that lost theirs.
     pub(crate) gained: u64,
     pub(crate) lost: u64,
-    /// Commands that found a value to read, and those that found none.
+    /// Commands that read a value and found one, and in `misses` those that found none.
     pub(crate) hits: u64,
     pub(crate) misses: u64,
-    /// Values that were expired when they were met, and taken out or replaced.
+    /// Values that were expired when they were met, and that were removed or replaced.
     pub(crate) expired: u64,
-    /// Keys that were taken out to make room.
+    /// Keys that were removed to make room.
     pub(crate) evicted: u64,
     /// Values with a deadline that were set.
     pub(crate) dated: u64,
+    /// From here to `device_failures`: what the sessions' calls have read and moved (`far_map::Traffic`).
     pub(crate) local_reads: u64,
     pub(crate) far_reads: u64,
     pub(crate) swap_ins: u64,
     pub(crate) swap_outs: u64,
     pub(crate) device_failures: u64,
+    /// From here on: commands that were refused, by the reason (`count_refusal`). Those for which there was
+    /// no room in frames are counted here.
     pub(crate) refused_memory: u64,
     pub(crate) refused_full: u64,
     pub(crate) refused_device: u64,
 }
 
-/// How many numbers a tally has.
+/// How many numbers a `Tally` has.
 const NUMBERS: usize = 18;
 
-/// One more.
+/// Adds one.
 pub(crate) fn count(number: &mut u64) {
     *number = number.wrapping_add(1);
 }
 
 impl Tally {
-    /// Takes over what a session has counted of reads and moves, which began when so much was counted.
+    /// Takes over what a session has counted of reads and moves. `begun` is what was counted before the
+    /// session began.
     pub(crate) fn see(&mut self, begun: &Tally, traffic: &Traffic) {
         self.local_reads = begun.local_reads.wrapping_add(traffic.local_reads);
         self.far_reads = begun.far_reads.wrapping_add(traffic.far_reads);
@@ -51,34 +56,35 @@ impl Tally {
         self.device_failures = begun.device_failures.wrapping_add(traffic.device_failures);
     }
 
-    /// Counts a key that was set, and had none before or some.
+    /// Counts a key that was set, if it had no value before.
     pub(crate) fn count_set(&mut self, was_none: bool) {
         if was_none {
             count(&mut self.gained);
         }
     }
 
-    /// Counts a key that was taken out.
+    /// Counts a key that was removed, if it was.
     pub(crate) fn count_removal(&mut self, is_done: bool) {
         if is_done {
             count(&mut self.lost);
         }
     }
 
-    /// Counts an expired value, where it is gone.
+    /// Counts an expired value, if it is gone.
     pub(crate) fn count_expired(&mut self, is_gone: bool) {
         if is_gone {
             count(&mut self.expired);
         }
     }
 
-    /// Counts keys that were taken out to make room, where so many had lost their value before.
+    /// Counts the keys that were removed to make room. `lost` is how many keys had lost their value before
+    /// that.
     pub(crate) fn count_evictions(&mut self, lost: u64) {
         let evicted = self.lost.wrapping_sub(lost);
         self.evicted = self.evicted.wrapping_add(evicted);
     }
 
-    /// Counts a command that the map refused.
+    /// Counts a command that the map refused, by the reason. `NamesSpent` is not counted.
     pub(crate) fn count_refusal(&mut self, why: Refusal) {
         match why {
             Refusal::Memory => count(&mut self.refused_memory),
@@ -137,16 +143,16 @@ impl Tally {
     }
 }
 
-/// What the gateway last told of its clients, and of the memory of the system.
+/// What the gateway last reported about its clients, and about the memory of both programs.
 #[derive(Drop)]
 pub(crate) struct GatewayTold {
     /// Connections that it refused since its start.
     pub(crate) rejected: AtomicU64,
-    /// Connections that it closed since its start to keep to the clients' part of the memory.
+    /// Connections that it closed since its start, to keep the clients within their part of the memory.
     pub(crate) evicted: AtomicU64,
-    /// Bytes of what clients have it and the lanes keep.
+    /// Bytes of memory that the gateway and the workers keep for clients.
     pub(crate) memory: AtomicU64,
-    /// Bytes of memory that the gateway and the server have; 0 until it told.
+    /// Bytes of memory that the gateway and the server have; 0 until the gateway has reported it.
     pub(crate) resident: AtomicU64,
 }
 
@@ -161,24 +167,25 @@ impl GatewayTold {
     }
 }
 
-/// What each lane, and the sweep behind them, last told. Each writes its own numbers alone, so that none waits for another.
+/// The statistics that each worker, and the sweep after them, last published. Each writes only its own
+/// numbers, so none waits for another.
 #[derive(Drop)]
 pub(crate) struct Tallies {
     told: Vec<AtomicU64>,
     /// How many connections have got a number.
     ids: AtomicU64,
     pub(crate) gateway: GatewayTold,
-    /// How many lanes have not left the map.
+    /// How many workers have not left the map.
     serving: AtomicU32,
-    /// How many keys were counted that the map does not have, since it was renewed without them.
+    /// How many keys were counted that the map does not have, because it was renewed without them.
     missing: AtomicU64,
 }
 
-/// How far the numbers of a lane are from those of the next one: whole lines of the cache.
+/// How far the numbers of a worker are from those of the next one: whole cache lines.
 const STRIDE: usize = 32;
 
 impl Tallies {
-    /// For so many lanes, and the sweep.
+    /// The statistics of `lanes` workers and the sweep, all 0.
     pub(crate) fn new(alloc: Global, lanes: u32) -> Result<Tallies, AllocError> {
         let mut told = Vec::new(alloc);
         for _ in 0..=lanes {
@@ -195,17 +202,17 @@ impl Tallies {
         })
     }
 
-    /// So many lanes go on in another map.
+    /// As many workers as `lanes` says go on in another map.
     pub(crate) fn begin(&self, lanes: u32) {
         self.serving.store(lanes, Ordering::SeqCst);
     }
 
-    /// A lane has left the map: for the next one, or for good.
+    /// A worker has left the map: for the next one, or for good.
     pub(crate) fn leave(&self) {
         self.serving.fetch_sub(1, Ordering::SeqCst);
     }
 
-    /// Whether a lane has not left the map.
+    /// Whether some worker has not left the map.
     pub(crate) fn is_serving(&self) -> bool {
         self.serving.load(Ordering::SeqCst) > 0
     }
@@ -215,7 +222,8 @@ impl Tallies {
         self.ids.fetch_add(1, Ordering::SeqCst).wrapping_add(1)
     }
 
-    /// Tells what a lane has counted, of which it last told so much.
+    /// Publishes what a worker has counted. `last` is what it published before, and only numbers that differ
+    /// from it are written.
     pub(crate) fn tell(&self, lane: u32, last: &Tally, now: &Tally) {
         let (last, now) = (last.numbers(), now.numbers());
         for at in 0..NUMBERS {
@@ -228,14 +236,15 @@ impl Tallies {
         }
     }
 
-    /// How many keys have a value, as the lanes last told.
+    /// How many keys have a value, by what the workers last published.
     pub(crate) fn keys(&self) -> u64 {
         let sum = self.sum();
         let counted = sum.gained.saturating_sub(sum.lost);
         counted.saturating_sub(self.missing.load(Ordering::SeqCst))
     }
 
-    /// The map begins with so many keys, and no worker has begun.
+    /// The map begins with `keys` keys, and no worker has begun. Keys that were counted and are not among
+    /// them are missing.
     pub(crate) fn carry(&self, keys: u64) {
         let sum = self.sum();
         let counted = sum.gained.saturating_sub(sum.lost);
@@ -243,7 +252,7 @@ impl Tallies {
             .store(counted.saturating_sub(keys), Ordering::SeqCst);
     }
 
-    /// What a lane last told.
+    /// What a worker, or the sweep, last published.
     pub(crate) fn told_by(&self, lane: u32) -> Tally {
         let mut numbers = [0u64; NUMBERS];
         for at in 0..NUMBERS {
@@ -255,7 +264,7 @@ impl Tallies {
         Tally::of(&numbers)
     }
 
-    /// The sum over all that told.
+    /// The sum over all workers and the sweep.
     pub(crate) fn sum(&self) -> Tally {
         let mut numbers = [0u64; NUMBERS];
         for (place, told) in self.told.iter().enumerate() {

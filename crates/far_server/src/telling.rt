@@ -1,4 +1,4 @@
-//! Commands to the server itself, and on a connection.
+//! Commands to the server itself, and about a connection, for example INFO and CLIENT SETNAME.
 ghost use Rattle.std.specs.Prelude.{◌≡◌, ◌⊎◌, ◌++◌, true, ℕ, List, OnOk, OnErr};
 ghost use Rattle.std.specs.List.{flat_map};
 ghost use Rattle.resp.specs.Replies.{Token, token};
@@ -17,12 +17,12 @@ use server_commands::{
 use std::alloc::AllocError;
 use std::sync::atomic::Ordering;
 
-/// How many keys have a value, as the lanes last told.
+/// How many keys have a value, by what the workers last published.
 pub(crate) fn keys<C, R>(around: &Around<'_, C, R>) -> i64 {
     around.tallies.keys().min(i64::MAX as u64) as i64
 }
 
-/// What INFO tells.
+/// What INFO reports.
 fn facts<S: Calls<Blob>, C, R>(around: &Around<'_, C, R>, me: &S, now: u64) -> Facts {
     let sum = around.tallies.sum();
     let settings = around.settings;
@@ -54,7 +54,8 @@ fn facts<S: Calls<Blob>, C, R>(around: &Around<'_, C, R>, me: &S, now: u64) -> F
         swap_outs: sum.swap_outs,
         swap_ins: sum.swap_ins,
         read_throughs: sum.far_reads.saturating_sub(sum.swap_ins),
-        // Where there is no device each of its refusals is a failure.
+        // If the devices keep nothing, each of their refusals is counted as a failure. INFO reports none
+        // then.
         device_failures: if settings.is_far {
             sum.device_failures
         } else {
@@ -76,7 +77,7 @@ fn facts<S: Calls<Blob>, C, R>(around: &Around<'_, C, R>, me: &S, now: u64) -> F
     }
 }
 
-/// A command that asks for no value.
+/// Answers a command that asks for no value.
 pub(crate) fn answer_server<S: Calls<Blob>, C, R>(
     around: &Around<'_, C, R>,
     me: &S,

@@ -1,4 +1,4 @@
-//! A server, from its settings to its end.
+//! A server's run, from its settings to the ends of its workers.
 ghost use Rattle.std.specs.Prelude.{◌≡◌, ◌+◌, ℕ, None, IfOk, vec_len};
 ghost use Rattle.far_blob.specs.Encodings.{enc_blob};
 ghost use Rattle.version_words.specs.Rows.{limits_of};
@@ -26,8 +26,9 @@ use std::rt::Clock;
 use std::sync::Wait;
 use std::thread::Threads;
 
-/// The map's settings. Where no device keeps anything its bytes in frames have no bound: else the map would try to swap objects
-/// out, in vain. Then the commands themselves keep to the bound, and the sweep (`room.rt`, `sweeping.rt`).
+/// The settings of the map itself. If no device keeps anything, they have no bound on the bytes in frames:
+/// otherwise the map would try to swap objects out, in vain. The commands (`room.rt`) and the sweep
+/// (`sweeping.rt`) keep to the bound then.
 fn map_of(settings: &ServerSettings) -> Settings
     ensures config { (devices : ℕ) → config_of result devices ≡ config_of settings.now.map devices }
     ensures within { (devices : ℕ) → first_bad result devices ≡ first_bad settings.now.map devices }
@@ -38,7 +39,7 @@ fn map_of(settings: &ServerSettings) -> Settings
     Settings { bytes, ..map }
 }
 
-/// So many workers that have not begun.
+/// The states of workers that have not begun, as many as `workers` says.
 fn fresh<I: BufRead + Drop, O: Write + Drop>(
     alloc: Global,
     workers: u32,
@@ -53,7 +54,7 @@ fn fresh<I: BufRead + Drop, O: Write + Drop>(
     Ok(states)
 }
 
-/// How the workers have ended. `Stopped` comes where one has not, which no run leaves.
+/// How the workers have ended. `Stopped` is returned if one has not, which no run leaves.
 fn ends_of<I: BufRead + Drop, O: Write + Drop>(
     alloc: Global,
     states: Vec<WorkerState<I, O>>,
@@ -72,10 +73,28 @@ fn ends_of<I: BufRead + Drop, O: Write + Drop>(
     Ok(ends)
 }
 
-/// Serves until each lane's requests are at their end, by a thread for each lane, beside one that sweeps and one that keeps
-/// frames free, over a map that is gone then. Where its names get few a fresh map takes its place, which has what it held: meanwhile
-/// requests wait, and what lay on the devices lies on `spool`. INFO tells what the devices tell `usage`. It answers how each lane
-/// ended, and behind them the sweep. The faults are those of `far_map::run_renewed`.
+/// Runs a server until all its workers have ended, and returns how each of them ended.
+///
+/// The server is one map of blobs over `devices`, and these threads:
+/// - one for each of the `settings.lanes` workers: it opens its pipes by `pipes`, and answers requests until
+///   no more packets come, or until a fault ends it;
+/// - one for the sweep, which removes expired values and may evict keys;
+/// - one for the evictor, which keeps frames free.
+///
+/// When few version numbers are left, a fresh map takes the old one's place, with what the old one held.
+/// Requests wait meanwhile, and objects that were on the devices are kept on `spool`. A FLUSHALL that met a
+/// bucket which can't be read asks for this too.
+///
+/// INFO reports what the devices have told `usage`. A fault of one worker doesn't end the others: it is in
+/// the result, which has the ends of the workers in their order, and then that of the sweep. The map is gone
+/// then. If the run itself fails, no ends are returned.
+///
+/// The faults are those of `far_map::run_renewed`, among them:
+/// - `BadSetting` if a setting of `settings.map` is outside its limits.
+/// - `PassesSpent` if `settings.map.passes` is below `settings.lanes` + 3: one for each worker, the sweep,
+///   the loader of a fresh map and the map itself.
+/// - `Memory` if an allocation fails for the statistics, the states of the workers, a map or a fresh map.
+/// - `Device` if a device or the spool fails as it is made empty.
 pub fn run_server<D, P, C, R>(
     rt: &R,
     alloc: Global,
@@ -93,8 +112,9 @@ where
     P::Output: Send,
     C: Clock + Sync,
     R: Threads + Wait + Sync,
-    // On each connection of each lane the replies to its requests, stint by stint, and all calls of a stint are those of one history, which
-    // begins with what the one before it left; the sweep's are removals and gets.
+    // On each connection of each worker that ends without a fault, the replies are those to its requests,
+    // term by term. All calls of a term are in one history, which begins with what the term before it left.
+    // The sweep's calls are removals and gets.
     ensures served { IfOk result (λ ends. (lost : ℕ) × IsRenewed enc_blob (λ worker l begun ended before after. IsStint P.Input.remaining P.Output.contents (P.opens pipes.now worker) l settings worker begun ended before after) (limits_of (sizes_of (config_of settings.map (vec_len devices))) D.HONEST) settings.map.limit (all_fresh (settings.lanes + 1)) (all_ended ends.items) lost) }
     ensures within { IfOk result (λ _. first_bad settings.map (vec_len devices) ≡ None) }
 {

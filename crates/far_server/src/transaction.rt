@@ -1,4 +1,4 @@
-//! What waits between MULTI and EXEC, and how EXEC runs it.
+//! MULTI, EXEC and DISCARD: what waits between them, and how EXEC runs it.
 ghost use Rattle.std.specs.Prelude.{◌≡◌, ◌++◌, ◌∷◌, ℕ, List, length, OnOk};
 ghost use Rattle.std.specs.List.{flat_map};
 ghost use Rattle.resp.specs.Replies.{Token, Count, token};
@@ -33,8 +33,11 @@ const SPOILT: &[u8] = b"EXECABORT Transaction discarded because of previous erro
 
 const FULL_QUEUE: &[u8] = b"ERR too many bytes wait for EXEC";
 
-/// Whether EXEC is to run none of the requests behind a MULTI of which one has this fault: it has a wrong name, or a wrong count of
-/// arguments. Of other faults EXEC replies, and of counts of PING and MSET that these commands themselves refuse.
+/// Whether a fault of a request makes EXEC run none of the requests after the MULTI. That is so if the
+/// request has a wrong name or a wrong number of arguments.
+///
+/// Any other fault is EXEC's reply to that request. So is a wrong number of arguments that PING itself
+/// refuses, or MSET if it has three words or more. `arguments` counts the command's name too.
 fn spoils(fault: &Fault<'_>, arguments: usize) -> bool {
     match fault {
         Fault::Count(Name::Special(Special::Ping)) => false,
@@ -50,7 +53,11 @@ fn spoils(fault: &Fault<'_>, arguments: usize) -> bool {
     }
 }
 
-/// Has a request wait for EXEC, unless its fault is one that EXEC has no reply for, or there is no room for it.
+/// Queues a request for EXEC, and replies QUEUED. In these cases the reply is an error, and EXEC will run
+/// none of the requests:
+/// - a fault of the request spoils the transaction (`spoils`);
+/// - the requests that wait would take more than `most` bytes;
+/// - memory is refused.
 pub(crate) fn wait(
     alloc: Global,
     most: u32,
@@ -80,7 +87,7 @@ pub(crate) fn wait(
     }
 }
 
-/// Runs a request that waited. Its reply may have `limit` bytes.
+/// Runs a request that waited. `limit` is how many bytes its reply may have.
 fn run_waiting<S: Calls<Blob>, C: Clock, R: Wait>(
     around: &Around<'_, C, R>,
     me: &mut S,
@@ -101,8 +108,10 @@ fn run_waiting<S: Calls<Blob>, C: Clock, R: Wait>(
     )
 }
 
-/// Runs the requests that wait, one after another: the reply is an array of theirs. From the first on for which a reply's bytes have no
-/// room for one more value, or there is no memory for a short reply, none is run, and the reply to each is an error.
+/// Runs the requests that wait, one after another. The reply is an array of their replies.
+///
+/// It stops at the first request before which the reply has no room for one more value, or there is no memory
+/// for a short reply. The reply to that request, and to each one after it, is an error then.
 fn execute<S: Calls<Blob>, C: Clock, R: Wait>(
     around: &Around<'_, C, R>,
     me: &mut S,
@@ -151,7 +160,8 @@ fn execute<S: Calls<Blob>, C: Clock, R: Wait>(
     Ok(())
 }
 
-/// EXEC. There is room for an error of each request first.
+/// Answers EXEC, after which nothing waits any more. First it makes room for an error of each request. If
+/// memory is refused for that, EXEC is refused as a whole.
 pub(crate) fn answer_exec<S: Calls<Blob>, C: Clock, R: Wait>(
     around: &Around<'_, C, R>,
     me: &mut S,
@@ -178,7 +188,7 @@ pub(crate) fn answer_exec<S: Calls<Blob>, C: Clock, R: Wait>(
     }
 }
 
-/// MULTI.
+/// Answers MULTI: from now on requests wait for EXEC. A MULTI after another one is an error.
 pub(crate) fn answer_multi(
     alloc: Global,
     connection: &mut Connection,
@@ -195,7 +205,7 @@ pub(crate) fn answer_multi(
     push_one_simple(reply, b"OK")
 }
 
-/// DISCARD.
+/// Answers DISCARD: drops what waits. Without a MULTI before it that is an error.
 pub(crate) fn answer_discard(
     connection: &mut Connection,
     reply: &mut Vec<u8>,

@@ -1,15 +1,18 @@
-//! Large requests take turns, so that one lane at a time has the memory for one.
+//! Large requests take turns, so that only one worker at a time has the memory for one.
 //!
-//! What a small request takes is a part of what each lane has. To answer a large one takes several times its bytes: its value, and its
-//! bucket before and after. With as much for each lane little would be left of a small server's memory. A small request may ask for a
-//! large value too: where there is no memory for one in each lane, all requests take turns (`ServerSettings::large`).
+//! Each worker has the memory for a small request. A large request takes several times its bytes: for its
+//! value, and for its bucket before and after. If each worker had that much, little of a small server's
+//! memory would be left.
+//!
+//! A small request may ask for a large value too. If there is not the memory for one in each worker, all
+//! requests take turns: `ServerSettings::large` is 0 then.
 
 use std::sync::{Mutex, MutexGuard, Wait};
 
-/// How many bytes a buffer has that is given back after a request.
+/// A buffer with room for more bytes than this is given back after a request.
 pub(crate) const LARGE: usize = 1 << 16;
 
-/// Whose turn it is.
+/// The turn: a lock, which the worker holds that answers a large request.
 #[derive(Drop)]
 pub(crate) struct Turns {
     turn: Mutex<()>,
@@ -22,7 +25,8 @@ impl Turns {
         }
     }
 
-    /// Waits for the turn of a request of so many bytes. None where it needs none, as it has no more than `most`.
+    /// Waits for the turn if `bytes` is more than `most`, and returns a guard that holds it. Returns none if
+    /// no turn is needed.
     pub(crate) fn take<R: Wait>(
         &self,
         rt: &R,

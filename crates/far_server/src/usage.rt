@@ -1,9 +1,15 @@
-//! What lies on the devices, as they tell it, for INFO. No contract claims anything of it.
+//! What the devices keep, as they report it, for INFO. No contract claims anything about it.
 
 use std::sync::atomic::{AtomicU64, Ordering};
 
-/// How many objects lie on all devices of a server, how many of them are known to be lost, how many bytes their slots take, and how
-/// many devices rest. Each device tells by how much its own numbers changed, so all are sums over all devices.
+/// What all devices of a server keep, as sums that the devices report and INFO reads:
+/// - how many objects there are;
+/// - how many of them are known to be lost;
+/// - how many bytes their slots take;
+/// - how many devices are at rest, that is left alone for a while because their stores fail.
+///
+/// Each device reports by how much its own numbers changed. For example, `tell_objects(2, 3)` adds one object
+/// to the sum.
 #[derive(Drop)]
 pub struct FarUsage {
     objects: AtomicU64,
@@ -12,7 +18,8 @@ pub struct FarUsage {
     resting: AtomicU64,
 }
 
-/// Adds by how much a number of a device changed. The sum wraps on the way, and is right once all have told.
+/// Adds by how much a number of a device changed. The sum may wrap on the way, and is right once all have
+/// reported.
 fn tell(sum: &AtomicU64, before: u64, after: u64) {
     if before != after {
         sum.fetch_add(after.wrapping_sub(before), Ordering::SeqCst);
@@ -20,7 +27,7 @@ fn tell(sum: &AtomicU64, before: u64, after: u64) {
 }
 
 impl FarUsage {
-    /// Of devices that are empty.
+    /// For devices that are empty and not at rest: all sums are 0.
     pub fn new() -> Self {
         FarUsage {
             objects: AtomicU64::new(0),
@@ -30,42 +37,44 @@ impl FarUsage {
         }
     }
 
-    /// A device tells that it keeps so many objects now, and how many it kept when it last told.
+    /// A device reports that it keeps `after` objects now. `before` is what it last reported, or 0.
     pub fn tell_objects(&self, before: u64, after: u64) {
         tell(&self.objects, before, after);
     }
 
-    /// A device tells how many of its objects the store behind it is known to have no more, and how many when it last told.
+    /// A device reports that its store is known to have lost `after` of its objects. `before` is what it last
+    /// reported, or 0.
     pub fn tell_lost(&self, before: u64, after: u64) {
         tell(&self.lost, before, after);
     }
 
-    /// A device tells that its slots take so many bytes now, and how many they took when it last told.
+    /// A device reports that its slots take `after` bytes now. `before` is what it last reported, or 0.
     pub fn tell_bytes(&self, before: u64, after: u64) {
         tell(&self.bytes, before, after);
     }
 
-    /// A device tells whether it rests now, since its store fails, and whether it did when it last told.
+    /// A device reports whether it is at rest now, because its store fails. `before` is what it last
+    /// reported, or false.
     pub fn tell_resting(&self, before: bool, after: bool) {
         tell(&self.resting, u64::from(before), u64::from(after));
     }
 
-    /// How many devices rest.
+    /// How many devices are at rest, because their stores fail.
     pub fn resting(&self) -> u64 {
         self.resting.load(Ordering::SeqCst)
     }
 
-    /// How many objects lie on devices.
+    /// How many objects are stored on devices.
     pub fn objects(&self) -> u64 {
         self.objects.load(Ordering::SeqCst)
     }
 
-    /// How many objects devices were asked for, and the store behind them has no more.
+    /// How many objects devices were asked for that their stores have no more.
     pub fn lost(&self) -> u64 {
         self.lost.load(Ordering::SeqCst)
     }
 
-    /// How many bytes the slots on devices take, also those in which no object lies any more.
+    /// How many bytes the slots on devices take. Slots that have no object any more are counted too.
     pub fn bytes(&self) -> u64 {
         self.bytes.load(Ordering::SeqCst)
     }

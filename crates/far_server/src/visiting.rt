@@ -1,4 +1,4 @@
-//! What is asked of all keys: each bucket is visited by itself.
+//! Commands on all keys, which visit one bucket after another: SCAN and FLUSHALL.
 ghost use Rattle.std.specs.Prelude.{◌≡◌, ◌<◌, ◌++◌, ◌∷◌, [], ℕ, List, length, IfOk, OnErr, OnOk};
 ghost use Rattle.std.specs.List.{flat_map};
 ghost use Rattle.resp.specs.Replies.{Token, Count, String, token};
@@ -22,13 +22,15 @@ use std::alloc::{AllocError, Global};
 use std::sync::Wait;
 use stored_keys::client_key;
 
-/// How many keys SCAN looks at, and how many buckets it visits, at most, whatever its COUNT: others of its lane wait meanwhile. Empty
-/// buckets take little, so it goes on over many.
+/// How many keys SCAN looks at before it ends, at most, whatever its COUNT. Other clients of its worker wait
+/// meanwhile.
 const MOST_KEYS: u64 = 1_000;
 
+/// How many buckets SCAN visits at most. They are many because empty ones take little time.
 const MOST_BUCKETS: u32 = 65_536;
 
-/// The keys of a bucket, without those whose value is expired at this time; 0 for all. An empty one is not read: its word says so.
+/// The keys of a bucket, without those whose value is expired at the time `now`. At 0 none is, so all keys
+/// are returned. An empty bucket is not read: its word shows that it is empty.
 pub(crate) fn keys_in<S: Calls<Blob>, R: Wait>(
     rt: &R,
     alloc: Global,
@@ -59,7 +61,8 @@ pub(crate) fn keys_in<S: Calls<Blob>, R: Wait>(
     Ok(keys)
 }
 
-/// What a SCAN has found so far, how many bytes that has in the reply, and how many keys it looked at.
+/// What a SCAN has found so far: the keys, how many bytes they have in the reply, and how many keys it looked
+/// at.
 #[derive(Drop)]
 struct Found {
     keys: Vec<Text>,
@@ -76,7 +79,8 @@ impl Found {
         }
     }
 
-    /// Whether this and other keys are too much for one page. A bucket's keys always have one.
+    /// Whether these keys and the others are too much for one page. The keys of the first bucket that has
+    /// some never are.
     fn is_over_with(&self, other: &Found) -> bool {
         !self.keys.is_empty() && self.bytes.saturating_add(other.bytes) > MOST_PAGE
     }
@@ -97,7 +101,7 @@ impl Found {
     }
 }
 
-/// Those of a bucket's keys that are asked for.
+/// Those of a bucket's keys that the SCAN asks for.
 fn asked_of(alloc: Global, keys: Vec<Text>, scan: Scan<'_>) -> Result<Found, AllocError> {
     let mut found = Found::new(alloc);
     for key in keys {
@@ -117,7 +121,7 @@ fn asked_of(alloc: Global, keys: Vec<Text>, scan: Scan<'_>) -> Result<Found, All
     Ok(found)
 }
 
-/// What is asked for of a bucket.
+/// What the SCAN asks for in a bucket.
 fn find_in<S: Calls<Blob>, R: Wait>(
     rt: &R,
     alloc: Global,
@@ -138,7 +142,8 @@ fn find_in<S: Calls<Blob>, R: Wait>(
     }
 }
 
-/// The keys from a bucket on, as many as a page has, and the bucket at which the next SCAN goes on; 0 at the end.
+/// The keys from the cursor's bucket on, as many as a page has, and the bucket at which the next SCAN goes
+/// on. That is 0 at the end.
 fn find<S: Calls<Blob>, R: Wait>(
     rt: &R,
     alloc: Global,
@@ -170,7 +175,7 @@ fn find<S: Calls<Blob>, R: Wait>(
     Ok((0, found))
 }
 
-/// The client's key of a key of the map, as a string.
+/// Pushes the client's key of a key of the map, as a string. If memory is refused, `reply` is as before.
 pub(crate) fn push_key(reply: &mut Vec<u8>, stored: &Text) -> Result<(), AllocError>
     ensures told { OnOk result (reply.new.items ≡ reply.old.items ++ flat_map token (told_key stored.now ∷ [])) }
     ensures kept { OnErr result (reply.new.items ≡ reply.old.items) }
@@ -178,7 +183,7 @@ pub(crate) fn push_key(reply: &mut Vec<u8>, stored: &Text) -> Result<(), AllocEr
     push_one_string(reply, client_key(stored.as_bytes()))
 }
 
-/// The same of each of these.
+/// The same for each of these keys.
 fn push_keys(reply: &mut Vec<u8>, keys: &[Text]) -> Result<(), AllocError>
     ensures { OnOk result (reply.new.items ≡ reply.old.items ++ flat_map token (told_keys keys.now)) }
 {
@@ -191,7 +196,7 @@ fn push_keys(reply: &mut Vec<u8>, keys: &[Text]) -> Result<(), AllocError>
     Ok(())
 }
 
-/// What stands before the keys of a SCAN: it is an array of a cursor and an array.
+/// Pushes the head of a reply to SCAN, which is an array of a cursor and an array of keys.
 fn push_head(reply: &mut Vec<u8>, next: &[u8], keys: usize) -> Result<(), AllocError>
     ensures { OnOk result (reply.new.items ≡ reply.old.items ++ flat_map token (Count 2 ∷ String next.now ∷ Count keys ∷ [])) }
 {
@@ -200,7 +205,7 @@ fn push_head(reply: &mut Vec<u8>, next: &[u8], keys: usize) -> Result<(), AllocE
     push_count(reply, keys)
 }
 
-/// SCAN: the bucket at which the next one goes on, and an array of the clients' keys.
+/// Pushes the reply to SCAN: the bucket at which the next one goes on, and an array of the clients' keys.
 fn push_found(reply: &mut Vec<u8>, next: u32, found: &Found) -> Result<(), AllocError>
     ensures { OnOk result ((cursor : List ℕ) × (reply.new.items ≡ reply.old.items ++ flat_map token (Count 2 ∷ String cursor ∷ Count (length found.now.keys.items) ∷ told_keys found.now.keys.items))) }
 {
@@ -215,8 +220,9 @@ fn push_found(reply: &mut Vec<u8>, next: u32, found: &Found) -> Result<(), Alloc
     }
 }
 
-/// Answers SCAN. The cursor is the number of a bucket, so a key that stays is found. There is room for the whole page, and for so many bytes
-/// behind it, before any of it is written.
+/// Answers SCAN. The cursor is the number of a bucket, so a key that stays is found. Before any of the page
+/// is written there is room for all of it, and for `beside` bytes after it. Otherwise the reply is the error
+/// of refused memory.
 pub(crate) fn answer_scan<S: Calls<Blob>, R: Wait>(
     rt: &R,
     alloc: Global,
@@ -240,7 +246,7 @@ pub(crate) fn answer_scan<S: Calls<Blob>, R: Wait>(
     }
 }
 
-/// Takes all keys out that the bucket had when it was visited.
+/// Removes all keys that the bucket had when it was visited.
 pub(crate) fn empty_bucket<S: Calls<Blob>, R: Wait>(
     rt: &R,
     alloc: Global,
@@ -264,7 +270,7 @@ pub(crate) fn empty_bucket<S: Calls<Blob>, R: Wait>(
     Ok(())
 }
 
-/// The same of a bucket that may well be empty: its word says so.
+/// The same for a bucket that may well be empty, which its word shows.
 fn empty_filled<S: Calls<Blob>, R: Wait>(
     rt: &R,
     alloc: Global,
@@ -298,8 +304,9 @@ fn empty_all<S: Calls<Blob>, R: Wait>(
     Ok(())
 }
 
-/// Answers FLUSHALL: bucket by bucket, so a key that is set meanwhile may stay. Where a bucket can't be read the map is to be renewed, so
-/// that it is gone for the next FLUSHALL.
+/// Answers FLUSHALL, bucket by bucket, so a key that is set meanwhile may stay. If a bucket can't be read,
+/// the reply is an error, and a renewal is asked for. The renewal leaves that bucket out, so it is gone for
+/// the next FLUSHALL.
 pub(crate) fn answer_flush<S: Calls<Blob>, R: Wait>(
     rt: &R,
     alloc: Global,

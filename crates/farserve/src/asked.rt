@@ -1,4 +1,4 @@
-//! What the command line asks for.
+//! The command line: which options there are, and what a start asks for.
 
 use crate::fault::Fault;
 use crate::sizes::bytes_of;
@@ -7,78 +7,90 @@ use clap::{Arg, ArgAction, ArgMatches, Command, Error};
 use std::alloc::Global;
 use std::net::IpAddr;
 
-/// The most bytes of a value: half of what a bucket's object may have.
+/// The longest value, in bytes: half of the largest object that a bucket may have.
 const MOST_VALUE: u64 = 8 << 20;
 
 /// The most bytes of memory that may be asked for: 1 TiB.
 const MOST_MEMORY: u64 = 1 << 40;
 
-/// The most bytes of a Unix socket's path: as many as Linux takes.
+/// The longest path of a Unix socket, in bytes. Linux takes no longer one.
 const MOST_PATH: usize = 107;
 
-/// The fewest names of a map for each of its buckets, and the most of all: as many as there can be.
+/// The least `--names` for each bucket.
 const LEAST_NAMES: u64 = 16;
 
+/// The largest `--names`: as many version numbers as a table can draw.
 const MOST_NAMES: u64 = (1 << 40) - 1;
 
-/// What may happen where all is full.
+/// What `--policy` takes: what happens when the memory and the far tier are full.
 const POLICIES: [&str; 2] = ["noeviction", "allkeys"];
 
-/// The most connections at once, where nothing is said.
+/// The most connections at once, if `--maxclients` is not given.
 const CLIENTS: u32 = 10_000;
 
-/// Seconds that a client has to give the password, where nothing is said.
+/// Seconds in which a client has to give the password, if `--auth-timeout` is not given.
 const AUTH_TIMEOUT: u32 = 10;
 
-/// The most connections that may be asked for.
+/// The largest `--maxclients`.
 const MOST_CLIENTS: i64 = 1_000_000;
 
-/// The most folders: as many as a map may have devices.
+/// The most folders. A map may have no more devices.
 const MOST_FOLDERS: usize = 64;
 
-/// A store that speaks the protocol of Redis, in which objects lie.
+/// A store that speaks the protocol of Redis. It keeps objects in place of scratch files.
 #[derive(Clone, Copy, Drop)]
 pub struct Store<'a> {
-    /// HOST:PORT, or the path of a Unix socket.
+    /// `HOST:PORT`, or the path of a Unix socket.
     pub address: &'a str,
+    /// The file whose first line is the store's password. None if the store asks for none.
     pub password_file: Option<&'a str>,
-    /// Seconds that a reply may take.
+    /// Seconds that a reply of the store may take.
     pub timeout: u32,
 }
 
-/// What the options say.
+/// What a command line asks for. Options that it leaves out have their defaults.
 #[derive(Drop)]
 pub struct Asked<'a> {
-    /// In bytes, and as it was written.
+    /// Bytes of memory.
     pub memory: u64,
+    /// The same as it was written, for messages.
     pub memory_text: &'a str,
-    /// The folders of the devices. Where there is none, and no store, all stays in memory.
+    /// The folders of the devices, 64 at most. If there is neither a folder nor a store, all objects stay in
+    /// memory.
     pub folders: Vec<&'a str>,
+    /// The far store, if `--far-resp` is given.
     pub store: Option<Store<'a>>,
-    /// The most bytes in them.
+    /// The most bytes of scratch files in all folders together. `u64::MAX` if there is no limit.
     pub far_limit: u64,
-    /// Whether keys are taken out where all is full.
+    /// Whether other keys are evicted when all is full. If not, commands that need room are refused.
     pub evicts: bool,
+    /// How many buckets the map has. None lets `sizing` choose.
     pub buckets: Option<u32>,
+    /// The most bytes of a value.
     pub value_limit: u32,
+    /// Workers, that is threads that answer requests: 1 to 64.
     pub threads: u32,
+    /// The port of TCP; 0 for any that is free.
     pub port: u16,
+    /// The IP address to listen at.
     pub bind: &'a str,
+    /// The path of a Unix socket, if one is asked for.
     pub unix: Option<&'a str>,
+    /// The file whose first line is the clients' password. None if clients need none.
     pub password_file: Option<&'a str>,
-    /// Seconds that a client may be silent, 0 for any.
+    /// Seconds after which a silent client is closed; 0 for never.
     pub timeout: u32,
-    /// Seconds in which a client has to give the password, 0 for any.
+    /// Seconds in which a client has to give the password; 0 for any time.
     pub auth_timeout: u32,
     /// The most connections at once.
     pub most_clients: u32,
-    /// How many names a map has before it is renewed, as it was written.
+    /// The text of `--names`: how many version numbers a map has before it is renewed. It is not checked yet.
     pub names: Option<&'a str>,
-    /// The folder of the named pipes.
+    /// The folder of the named pipes to the gateway.
     pub pipes: &'a str,
 }
 
-/// An option with a text.
+/// An option whose value is a text.
 fn text<'a>(alloc: Global, name: &'a str, value: &'a str, help: &'a str) -> Arg<'a> {
     Arg::new(alloc, name)
         .long(name)
@@ -86,14 +98,14 @@ fn text<'a>(alloc: Global, name: &'a str, value: &'a str, help: &'a str) -> Arg<
         .help(help)
 }
 
-/// An option with a number in this range.
+/// An option whose value is a number from `least` to `most`.
 fn number<'a>(alloc: Global, name: &'a str, least: i64, most: i64, help: &'a str) -> Arg<'a> {
     text(alloc, name, "N", help)
         .allow_negative_numbers(true)
         .value_parser(clap::value_parser!(u32).range(least..=most))
 }
 
-/// The options that say how much there may be of what.
+/// Adds the options about memory, the map, folders and eviction.
 fn with_sizes<'a>(alloc: Global, command: Command<'a>) -> Result<Command<'a>, Error> {
     let memory = text(
         alloc,
@@ -140,7 +152,7 @@ fn with_sizes<'a>(alloc: Global, command: Command<'a>) -> Result<Command<'a>, Er
     Ok(command)
 }
 
-/// The options of a store in the place of folders.
+/// Adds the options of a far store, which takes the place of folders.
 fn with_store<'a>(alloc: Global, command: Command<'a>) -> Result<Command<'a>, Error> {
     let timeout = number(
         alloc,
@@ -166,7 +178,7 @@ fn with_store<'a>(alloc: Global, command: Command<'a>) -> Result<Command<'a>, Er
     Ok(command)
 }
 
-/// The options that say who gets in, and where.
+/// Adds the options about clients and addresses, and two hidden ones, `--pipes` and `--names`.
 fn with_addresses<'a>(alloc: Global, command: Command<'a>) -> Result<Command<'a>, Error> {
     let timeout = number(
         alloc,
@@ -235,7 +247,7 @@ fn with_addresses<'a>(alloc: Global, command: Command<'a>) -> Result<Command<'a>
     Ok(command)
 }
 
-/// The command line's grammar.
+/// The grammar of the command line, by which `clap` reads it and prints `--help`.
 pub fn command<'a>(alloc: Global) -> Result<Command<'a>, Error> {
     let command = Command::new(alloc, "farserve").no_binary_name(true).about(
         "A cache that is larger than its memory, which speaks the protocol of Redis",
@@ -245,7 +257,8 @@ pub fn command<'a>(alloc: Global) -> Result<Command<'a>, Error> {
     with_addresses(alloc, command)
 }
 
-/// The bytes that the text of an option names, within these bounds.
+/// The size in bytes that is the text of an option. `Fault::Size` is returned if the text is no size, or if
+/// the size is below `least` or above `most`.
 fn size<'a>(option: &'static str, text: &'a str, least: u64, most: u64) -> Result<u64, Fault<'a>> {
     match bytes_of(text) {
         Some(bytes) if least <= bytes && bytes <= most => Ok(bytes),
@@ -253,7 +266,7 @@ fn size<'a>(option: &'static str, text: &'a str, least: u64, most: u64) -> Resul
     }
 }
 
-/// The port of an address, if it is one of TCP.
+/// The port of `HOST:PORT`. None if the text has another form, or if the port is 0.
 fn port_of(address: &str) -> Option<u16> {
     let (host, port) = address.rsplit_once(':')?;
     match port.parse::<u16>() {
@@ -262,7 +275,11 @@ fn port_of(address: &str) -> Option<u16> {
     }
 }
 
-/// The store that is asked for. The fault names an option that has no sense without one, or beside one, or an address of another form.
+/// The far store that is asked for. None if there is no `--far-resp`.
+///
+/// `Fault::Storeless` is returned for another option of stores if there is no `--far-resp`. `Fault::Stored`
+/// is returned for an option of folders next to it. `Fault::Store` is returned if the address has another
+/// form.
 fn far_store<'a>(matches: &ArgMatches<'a>) -> Result<Option<Store<'a>>, Fault<'a>> {
     let password_file = matches.get_str("far-password-file");
     let timeout = matches.get_one::<u32>("far-timeout");
@@ -293,7 +310,10 @@ fn far_store<'a>(matches: &ArgMatches<'a>) -> Result<Option<Store<'a>>, Fault<'a
 }
 
 impl<'a> Asked<'a> {
-    /// What these say, with what is asked for where nothing is said. The fault names the first option with a bad value.
+    /// Reads what the command line asks for, and fills in defaults.
+    ///
+    /// The first check that fails returns its fault. The checks are in the order of this function, not in
+    /// that of the words. `Fault::Memory` is returned if an allocation fails.
     pub fn of(alloc: Global, matches: &ArgMatches<'a>) -> Result<Asked<'a>, Fault<'a>> {
         let memory_text = matches.get_str("memory").unwrap_or("");
         let value_text = matches.get_str("value-limit").unwrap_or("1m");
@@ -338,7 +358,10 @@ impl<'a> Asked<'a> {
         Ok(asked)
     }
 
-    /// How many names a map of so many buckets has before it is renewed.
+    /// How many version numbers a map of this many buckets has before it is renewed. It is 2^40 - 1 if
+    /// `--names` is not given.
+    ///
+    /// `Fault::Names` is returned if the text is no number from 16 for each bucket to 2^40 - 1.
     pub fn names(&self, buckets: u32) -> Result<u64, Fault<'a>> {
         let Some(text) = self.names else {
             return Ok(MOST_NAMES);
@@ -350,7 +373,7 @@ impl<'a> Asked<'a> {
         }
     }
 
-    /// Where objects lie that are in no frame.
+    /// Where objects without a frame are stored.
     pub fn tier(&self) -> Tier {
         if self.store.is_some() {
             Tier::Store
@@ -361,7 +384,11 @@ impl<'a> Asked<'a> {
         }
     }
 
-    /// Refuses addresses that can't be listened at, and those where others than this machine could get in without a password.
+    /// Checks the addresses to listen at.
+    ///
+    /// `Fault::Bind` is returned if `--bind` is no IP address. `Fault::Open` is returned if it is not
+    /// loopback and there is no password. `Fault::Unix` is returned if the path of the Unix socket is empty
+    /// or too long.
     fn check_addresses(&self) -> Result<(), Fault<'a>> {
         let Ok(address) = self.bind.parse::<IpAddr>() else {
             return Err(Fault::Bind(self.bind));

@@ -1,27 +1,31 @@
-//! A disk whose slots take no more than so many bytes.
+//! A disk whose slots take a bounded number of bytes.
 ghost use Rattle.std.specs.Prelude.{◌≡◌, ◌<◌};
 
 use file_device::{CLASSES, Disk, DiskFault, Slot, Step};
 use std::io::ErrorKind;
 
-/// What tells how many bytes its slots take. Nothing is claimed of it.
+/// Something that reports how many bytes its slots take. No contract states anything about it.
 pub trait Measured {
+    /// Bytes of the slots that count.
     fn used(&self) -> u64;
 }
 
-/// A disk that refuses a slot with which those of all classes would take more than `most` bytes, and tells how many they take. A slot
-/// that was written once takes its bytes until its class is cleared, as in a file.
+/// A disk with a limit. A slot is refused if the slots of all classes would then take more than `most` bytes.
+///
+/// A slot counts from its first write until its class is cleared, as in a file. A class counts up to its
+/// highest slot that was written. A write beyond the limit returns `DiskFault::Io` with
+/// `ErrorKind::StorageFull`, and is not passed on.
 #[derive(Drop)]
 pub struct BoundedDisk<K: Disk> {
     disk: K,
     most: u64,
     used: u64,
-    /// Of each class the number behind the last slot that was written.
+    /// For each class, the number after its highest slot that was written.
     ends: [u32; CLASSES],
 }
 
 impl<K: Disk> BoundedDisk<K> {
-    /// Over a disk that keeps nothing.
+    /// A bounded disk over one that keeps nothing. `most` is in bytes.
     pub fn new(disk: K, most: u64) -> Self {
         BoundedDisk {
             disk,
@@ -31,7 +35,7 @@ impl<K: Disk> BoundedDisk<K> {
         }
     }
 
-    /// Counts the bytes up to the slot, and says whether there is room for them.
+    /// Counts the bytes up to this slot if they are within the limit, and returns whether they are.
     fn take(&mut self, slot: Slot) -> bool
         requires { slot.class < 21 }
         ensures { self.new.disk ≡ self.old.disk }
@@ -73,8 +77,8 @@ impl<K: Disk> Disk for BoundedDisk<K> {
         self.disk.read_slot(slot, len, out)
     }
 
-    // A class that can't be cut keeps its bytes, and its slots are written again: a fault here would end a server that is about to
-    // renew its map.
+    // If a class can't be cut, it keeps its bytes, and its slots are written again. No fault is returned,
+    // because it would end a server that is about to renew its map.
     fn clear(&mut self, class: u8) -> Result<(), DiskFault> {
         if self.disk.clear(class).is_err() {
             return Ok(());

@@ -1,4 +1,4 @@
-//! A device that tells how many objects it keeps, and how many bytes their slots take.
+//! A device that reports how many objects it keeps, and how many bytes their slots take.
 ghost use Rattle.std.specs.Prelude.{◌≡◌};
 
 use crate::bounded::Measured;
@@ -6,14 +6,15 @@ use far_device::{Device, DeviceFault};
 use far_server::FarUsage;
 use file_device::{Disk, FileDevice};
 
-/// A device that passes each call on, and tells by how much its objects and their bytes changed.
+/// A device over slots that passes each call on. After it, it reports to `usage` by how much its objects and
+/// their bytes have changed.
 #[derive(Drop)]
 pub struct CountedDevice<'a, K: Disk> {
     inner: FileDevice<K>,
     usage: &'a FarUsage,
 }
 
-/// What a device keeps.
+/// What a device keeps: how many objects, and how many bytes their slots take.
 #[derive(Clone, Copy)]
 struct Kept {
     objects: u64,
@@ -21,7 +22,7 @@ struct Kept {
 }
 
 impl<'a, K: Disk + Measured> CountedDevice<'a, K> {
-    /// Over an empty device, of which nobody has told yet.
+    /// A counted device over an empty one, of which nothing was reported yet.
     pub fn new(inner: FileDevice<K>, usage: &'a FarUsage) -> Self
         ensures { result.inner ≡ inner }
     {
@@ -35,7 +36,7 @@ impl<'a, K: Disk + Measured> CountedDevice<'a, K> {
         }
     }
 
-    /// Tells what changed since it kept this.
+    /// Reports what has changed since the device kept this.
     fn tell(&self, before: Kept) {
         let now = self.kept();
         self.usage.tell_objects(before.objects, now.objects);

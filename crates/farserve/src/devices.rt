@@ -1,4 +1,4 @@
-//! The devices that a server is opened over.
+//! Opens the devices of a server without a far store: over scratch files in folders, or over nothing.
 
 use crate::bounded::BoundedDisk;
 use crate::counted::CountedDevice;
@@ -10,10 +10,10 @@ use std::hash::RandomState;
 use std::random::RandomSource;
 use std::rt::Files;
 
-/// How many there are at most beside the one by which a map is renewed, where there are no more folders.
+/// The most devices besides the one for renewals, unless there are more folders.
 pub const DEVICES: u32 = 4;
 
-/// The keys of a device's digests.
+/// Random keys for a device's digests. `Fault::Random` is returned if the system gives no random bytes.
 pub fn keys_of<'f, R: RandomSource>(rt: &R) -> Result<RandomState, Fault<'f>> {
     match RandomState::new(rt) {
         Ok(keys) => Ok(keys),
@@ -21,7 +21,7 @@ pub fn keys_of<'f, R: RandomSource>(rt: &R) -> Result<RandomState, Fault<'f>> {
     }
 }
 
-/// A device in a folder, of the lane of this number.
+/// Opens a device over scratch files in a folder, for the lane with this number.
 fn open<'a, R>(
     rt: R,
     folder: &str,
@@ -37,8 +37,14 @@ where
     Ok(CountedDevice::new(FileDevice::new(rt.alloc(), disk, keys), usage))
 }
 
-/// So many devices, and one for each folder at least, in these folders in turn, in which at most so many bytes are kept together; and
-/// behind them one in which as many may be kept again, while a map is renewed.
+/// Opens the devices over scratch files, in these folders in turn.
+///
+/// There are `count` devices, or one for each folder if that is more. Together they keep at most `most`
+/// bytes, each an equal part. The last device of the list is one more, for renewals: it may keep `most` bytes
+/// again while a map is renewed. If there is no folder, the list is empty.
+///
+/// `Fault::Folder` is returned for a folder that can't be used, or whose path is empty. `Fault::Random` is
+/// returned if the system gives no random bytes, and `Fault::Memory` if an allocation fails.
 pub fn open_far<'a, 'b, R>(
     rt: R,
     folders: &[&'a str],
@@ -76,7 +82,7 @@ where
     Ok(devices)
 }
 
-/// A device that keeps nothing.
+/// A device that refuses to keep anything.
 fn open_one_of_none<'a, 'f, R>(
     rt: &R,
     usage: &'a FarUsage,
@@ -89,7 +95,8 @@ where
     Ok(CountedDevice::new(FileDevice::new(rt.alloc(), disk, keys), usage))
 }
 
-/// A device that keeps nothing, so that all stays in frames, and another by which a map is renewed.
+/// Opens the devices of a server that keeps all objects in frames. Both refuse to keep anything; the second
+/// one is for renewals. The faults are those of `open_far`, except `Fault::Folder`.
 pub fn open_none<'a, 'f, R>(
     rt: &R,
     usage: &'a FarUsage,

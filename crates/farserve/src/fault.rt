@@ -1,4 +1,4 @@
-//! Why the program ends early, and the status that it ends with.
+//! Faults that end the program, and the exit status of each.
 
 use far_map::RunFault;
 use far_server::LaneEnd;
@@ -8,49 +8,52 @@ use std::{fmt, io};
 /// Why the program ends early. Its text is the line on standard error.
 #[derive(Drop, Debug)]
 pub enum Fault<'a> {
-    /// An option, and its text that is no size within these bounds, in bytes.
+    /// The text of this option is no size within these bounds: the least and the most, in bytes.
     Size(&'static str, &'a str, u64, u64),
-    /// The text of `--names`, which is no number within these bounds.
+    /// The text of `--names` is no number within these bounds.
     Names(&'a str, u64, u64),
-    /// The text of `--bind`, which is no IP address.
+    /// The text of `--bind` is no IP address.
     Bind(&'a str),
-    /// The address of `--bind`, where everybody could get in.
+    /// The address of `--bind` is not loopback, and there is no password: everybody could get in.
     Open(&'a str),
-    /// The text of `--unix`, at which a socket can't lie.
+    /// The text of `--unix` is no path at which a socket can be made: it has no byte, or more than 107.
     Unix(&'a str),
-    /// The text of `--memory`, too little for the buckets, the threads and the longest value, and how many MiB would do.
+    /// The memory of `--memory` is too little for the buckets, the threads and the longest value. The number
+    /// is how many MiB would do; none if no amount would.
     Little(&'a str, Option<u64>),
-    /// There are no pipes to a front.
+    /// There is no `--pipes`, that is no gateway.
     Pipes,
-    /// The file of the password can't be read.
+    /// This password file can't be read.
     Unread(&'a str, io::Error),
-    /// The file of the password begins with an empty line.
+    /// This password file begins with an empty line.
     Empty(&'a str),
-    /// A folder that can't be used.
+    /// This folder can't be used.
     Folder(&'a str),
     /// There are more than 64 folders.
     Folders,
-    /// The text of `--far-resp`, which is no address.
+    /// The text of `--far-resp` is no address of a store.
     Store(&'a str),
-    /// An option that says more of a store, where there is none; and one that says more of folders, where there is a store.
+    /// This option is about a store, and there is none.
     Storeless(&'static str),
+    /// This option is about folders, and there is a store in their place.
     Stored(&'static str),
-    /// The pipes to the front's connections to a store can't be opened.
+    /// The pipes to the gateway's links to a store can't be opened.
     Links,
     /// The system gives no random bytes.
     Random(io::Error),
-    /// A growth of memory was refused.
+    /// An allocation failed.
     Memory,
-    /// The words for the front could not be written.
+    /// The gateway's arguments could not be written to standard output.
     Write,
     /// The map could not be run, or its devices failed.
     Run(RunFault),
-    /// A lane ended before its requests did.
+    /// A worker ended before its requests did.
     Lane(LaneEnd),
 }
 
 impl Fault<'_> {
-    /// The status that the program ends with: 2 for wrong options and folders, and 1 for what the system refused.
+    /// The exit status: 1 for what the system refused and for parts that failed, 2 for wrong options, folders
+    /// and password files.
     pub fn status(&self) -> u8 {
         match self {
             Fault::Random(_)

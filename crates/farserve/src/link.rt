@@ -1,8 +1,11 @@
-//! A device's pipes to the gateway, which has a connection to the far store for each device.
+//! A device's two pipes to the gateway, which has a connection to the far store for each device.
 //!
-//! They carry packets, as docs/FORMATS.md defines them. To the gateway go `OPEN`, by which another connection takes the place of the
-//! last, `DATA` for the store, and `WAIT` before bytes are waited for. From it come `DATA` of the store, and `CLOSE` if no more comes
-//! of a connection, because the store has ended it, was too late, or isn't there.
+//! The pipes carry packets, which docs/FORMATS.md defines.
+//!
+//! - To the gateway: `OPEN` asks for another connection, in place of the last one. `DATA` has bytes for the
+//!   store. `WAIT` is sent before the device waits for bytes.
+//! - From the gateway: `DATA` has bytes of the store. `CLOSE` means that no more arrives by this connection:
+//!   the store has ended it, was too late, or isn't there.
 
 use std::alloc::{AllocError, Global};
 use std::fs::File;
@@ -17,21 +20,21 @@ const CLOSE: u8 = 2;
 
 const WAIT: u8 = 3;
 
-/// Bytes of a packet before those that it carries.
+/// Bytes of a packet's head.
 const HEAD: usize = 13;
 
-/// The most bytes of a packet.
+/// The most bytes that a packet carries.
 const MOST: usize = 1 << 20;
 
-/// Bytes that are passed over at once.
+/// Bytes that are skipped at once.
 const PIECE: usize = 4096;
 
-/// The pipes, which last as long as the server.
+/// The two pipes. They stay open as long as the server runs.
 #[derive(Drop)]
 struct Ends {
     replies: BufReader<File>,
     requests: BufWriter<File>,
-    /// Bytes that are still to come of the last packet.
+    /// Bytes of the last packet that are not read yet.
     left: u32,
 }
 
@@ -43,7 +46,7 @@ impl Ends {
         self.requests.write_all(&head)
     }
 
-    /// Passes over what is still to come of the last packet.
+    /// Skips the rest of the last packet.
     fn pass_over(&mut self) -> io::Result<()> {
         let mut room = [0; PIECE];
         for _ in 0..u32::MAX {
@@ -57,7 +60,8 @@ impl Ends {
         Ok(())
     }
 
-    /// Waits for a packet of this connection, and says whether it has data: else it is over. Those of earlier ones are passed over.
+    /// Waits for a packet of this connection. True if it has data, false if the connection is over. Packets
+    /// of earlier connections are skipped.
     fn next(&mut self, number: u64) -> io::Result<bool> {
         self.put_head(WAIT, number, 0)?;
         self.requests.flush()?;
@@ -80,19 +84,21 @@ impl Ends {
     }
 }
 
-/// A connection to the store, or none.
+/// A connection to the store, or none. It has a number, by which its packets are known.
 #[derive(Drop)]
 pub struct Link {
     ends: Option<Ends>,
     number: u64,
-    /// Whether the front was asked for it, and whether the last packet is its own.
+    /// Whether the gateway was asked for this connection.
     asked: bool,
+    /// Whether the last packet that was begun belongs to this connection.
     has_packet: bool,
+    /// Whether no more arrives by this connection.
     over: bool,
 }
 
 impl Link {
-    /// None, as there is while a device changes from one to the next.
+    /// No connection. A device has this one for a moment, while it changes from one to the next.
     pub fn none() -> Link {
         Link {
             ends: None,
@@ -103,7 +109,7 @@ impl Link {
         }
     }
 
-    /// The first by these pipes.
+    /// The first connection over these pipes. The gateway is asked for it at the first write.
     pub fn new(replies: BufReader<File>, requests: BufWriter<File>) -> Link {
         Link {
             ends: Some(Ends {
@@ -118,7 +124,7 @@ impl Link {
         }
     }
 
-    /// The next by the same pipes.
+    /// The next connection over the same pipes. The gateway is asked for it at the first write.
     pub fn next(self) -> Link {
         Link {
             ends: self.ends,
@@ -131,7 +137,8 @@ impl Link {
 }
 
 impl Read for Link {
-    /// Nothing once the connection is over.
+    /// Reads bytes of the store, and waits for them. Returns 0 once the connection is over.
+    /// `ErrorKind::InvalidData` is returned if the gateway sends another kind of packet.
     fn read(&mut self, buf: &mut [u8]) -> io::Result<usize> {
         let Some(ends) = &mut self.ends else {
             return Ok(0);
@@ -154,6 +161,8 @@ impl Read for Link {
 }
 
 impl Write for Link {
+    /// Writes at most 1 MiB for the store, as one packet. The first write asks the gateway for the
+    /// connection. `ErrorKind::BrokenPipe` is returned if there are no pipes.
     fn write(&mut self, buf: &[u8]) -> io::Result<usize> {
         let Some(ends) = &mut self.ends else {
             return Err(Error::from(ErrorKind::BrokenPipe));

@@ -1,7 +1,8 @@
-//! `farserve --memory SIZE [--far DIR]...`: the server behind its front. `bin/farserve` starts both.
+//! The program `farserve`, the proved half of the server. `bin/farserve` starts it together with the gateway.
 //!
-//! All options are read here. Standard output then has the number of lanes and the words that the front is started with, each with
-//! a NUL behind it, and one more NUL; standard error has a line that says what was chosen.
+//! All options are read here. If they are good, standard output gets the number of workers and the gateway's
+//! arguments. A NUL follows each of them, and one more NUL is the end. Standard error gets a line with what
+//! was chosen. Then the program serves until the gateway has ended.
 #![tactic(auto)]
 
 ghost use Rattle.std.specs.Prelude.{◌≤◌};
@@ -43,24 +44,25 @@ use std::{env, io};
 use stored_keys::DigestKeys;
 use stores::open_stores;
 
-/// The least bytes that a bucket's object may have, and the most: keys that share a bucket share it.
+/// The least and the greatest limit of a bucket's object, in bytes. Keys that share a bucket share it.
 const BUCKET: (u32, u32) = (4 << 20, 16 << 20);
 
-/// The least bytes that a request may have, and that may wait for EXEC on a connection.
+/// The least limit of a request, and of the requests that wait for EXEC on a connection, in bytes.
 const REQUEST: u32 = 4 << 20;
 
-/// Names for each bucket from which on a map is not renewed often.
+/// From this many version numbers for each bucket on, a map is not renewed often.
 const MANY_NAMES: u64 = 64;
 
-/// Arguments of a request, and bytes of a line of words.
+/// The most arguments of a request, and the most bytes of a line of words.
 const ARGUMENTS: u32 = 65_536;
 
-/// The most bytes of a request, and that wait for EXEC on a connection, where values have at most so many.
+/// The limit of a request, and of the requests that wait for EXEC on a connection, in bytes. `value` is the
+/// most bytes of a value.
 fn request_for(value: u32) -> u32 {
     value.saturating_mul(2).max(REQUEST)
 }
 
-/// Divides the memory that is asked for.
+/// Divides the memory that is asked for. `Fault::Little` is returned if it is too little.
 fn divided<'a>(asked: &Asked<'a>) -> Result<Sizes, Fault<'a>> {
     let (buckets, threads, tier) = (asked.buckets, asked.threads, asked.tier());
     let (value, request) = (asked.value_limit, request_for(asked.value_limit));
@@ -73,20 +75,22 @@ fn divided<'a>(asked: &Asked<'a>) -> Result<Sizes, Fault<'a>> {
     }
 }
 
-/// How many devices there are beside the one by which a map is renewed. Each keeps the memory of the largest objects that it wrote and
-/// read, and several are of use only to several requests at once.
+/// How many devices there are, besides the one for renewals.
+///
+/// Each device keeps the memory of the largest objects that it wrote and read. Several devices help only if
+/// several requests run at once. So there is one device if all requests take turns.
 fn devices_for(sizes: Sizes) -> u32
     ensures { result ≤ 4 }
 {
     if sizes.large > 0 { DEVICES } else { 1 }
 }
 
-/// The limit of what lies far, as INFO tells it: 0 for none.
+/// The limit of scratch files as INFO reports it: 0 for none.
 fn told_limit(limit: u64) -> u64 {
     if limit == u64::MAX { 0 } else { limit }
 }
 
-/// What the server is run with.
+/// The settings of the server.
 fn settings(
     asked: &Asked<'_>,
     sizes: Sizes,
@@ -134,7 +138,7 @@ fn settings(
     }
 }
 
-/// A number that the system draws.
+/// A random number. `Fault::Random` is returned if the system gives none.
 fn drawn<'a, R: RandomSource>(rt: &R) -> Result<u64, Fault<'a>> {
     let mut bytes = [0; 8];
     match rt.fill_bytes(&mut bytes) {
@@ -143,7 +147,8 @@ fn drawn<'a, R: RandomSource>(rt: &R) -> Result<u64, Fault<'a>> {
     }
 }
 
-/// Writes what the front needs for a store, over so many devices and the one by which a map is renewed.
+/// Writes the gateway's arguments for a store, with the pipes of this many devices and of the one for
+/// renewals.
 fn tell_links(rt: &impl Print, folder: &str, store: Store<'_>, devices: u32) -> io::Result<()> {
     let (address, timeout) = (store.address, store.timeout);
     print!(rt; "--far-resp\0{address}\0--far-timeout\0{timeout}\0")?;
@@ -156,7 +161,7 @@ fn tell_links(rt: &impl Print, folder: &str, store: Store<'_>, devices: u32) -> 
     Ok(())
 }
 
-/// Writes how many lanes there are, and what the front is started with.
+/// Writes how many workers there are, and the gateway's arguments.
 fn tell_front(rt: &impl Print, asked: &Asked<'_>, sizes: Sizes) -> io::Result<()> {
     let (lanes, port, bind, timeout) = (asked.threads, asked.port, asked.bind, asked.timeout);
     let (auth_timeout, clients) = (asked.auth_timeout, asked.most_clients);
@@ -176,7 +181,7 @@ fn tell_front(rt: &impl Print, asked: &Asked<'_>, sizes: Sizes) -> io::Result<()
     print!(rt; "\0")
 }
 
-/// Says what was chosen.
+/// Writes to standard error what was chosen.
 fn tell_log(rt: &impl Eprint, asked: &Asked<'_>, sizes: Sizes) -> io::Result<()> {
     let (memory, threads, value) = (asked.memory, asked.threads, asked.value_limit);
     let (buckets, bytes) = (sizes.buckets, sizes.bytes);
@@ -199,7 +204,8 @@ fn tell_log(rt: &impl Eprint, asked: &Asked<'_>, sizes: Sizes) -> io::Result<()>
     eprint!(rt; "\n")
 }
 
-/// Says where the map may be renewed every few commands: what it holds takes a name for each pair, when it is put into the next one.
+/// Warns if the map may be renewed every few commands. A renewal draws a version number for each pair that it
+/// puts into the next map.
 fn warn_of_names(rt: &impl Eprint, names: u64, buckets: u32) -> io::Result<()> {
     let many = u64::from(buckets).saturating_mul(MANY_NAMES);
     if names < many {
@@ -210,7 +216,8 @@ fn warn_of_names(rt: &impl Eprint, names: u64, buckets: u32) -> io::Result<()> {
     Ok(())
 }
 
-/// Tells both.
+/// Writes what was chosen, and the gateway's arguments. `Fault::Write` is returned if the arguments can't be
+/// written.
 fn tell<'a, R: Print + Eprint>(rt: &R, asked: &Asked<'a>, sizes: Sizes) -> Result<(), Fault<'a>> {
     let _ = tell_log(rt, asked, sizes);
     match tell_front(rt, asked, sizes) {
@@ -219,7 +226,10 @@ fn tell<'a, R: Print + Eprint>(rt: &R, asked: &Asked<'a>, sizes: Sizes) -> Resul
     }
 }
 
-/// Serves over these devices until the front has ended. The last is the one by which a map is renewed.
+/// Serves over these devices until the gateway has ended. The last device is for renewals.
+///
+/// `Fault::Run` is returned if the map can't be run or its devices fail, and `Fault::Lane` if a worker ends
+/// before its requests do. `Fault::Memory` is returned if there is no device.
 fn serve_over<'a, D, R>(
     rt: &R,
     host: HostRuntime,
@@ -260,7 +270,7 @@ where
     Ok(())
 }
 
-/// Serves what these options ask for.
+/// Serves what the options ask for, until the gateway has ended.
 fn serve<'a, R>(rt: &R, host: HostRuntime, asked: &Asked<'a>) -> Result<(), Fault<'a>>
 where
     R: Files<File = File> + AllocGlobal + Print + Eprint + Threads + Wait + Sync,
@@ -294,7 +304,7 @@ where
             serve_over(rt, host, asked, settings, devices, &usage)
         }
         Tier::Store => {
-            // The front opens the other ends once it was told so.
+            // The gateway opens the other ends after it has read its arguments.
             tell(rt, asked, sizes)?;
             let devices = open_stores(host, asked.pipes, devices_for(sizes) + 1, &usage)?;
             serve_over(rt, host, asked, settings, devices, &usage)
@@ -302,7 +312,8 @@ where
     }
 }
 
-/// Does what these words ask for, and gives the status: 0, 1 where the system refused something, 2 where they are no such words.
+/// Does what these arguments ask for, and returns the exit status: 0, 1 if the system refused something or a
+/// part failed, 2 for wrong arguments.
 fn run_words<R>(rt: &R, host: HostRuntime, words: &[String]) -> Result<u8>
 where
     R: Files<File = File> + AllocGlobal + Print + Eprint + Threads + Wait + Sync,
@@ -328,7 +339,7 @@ where
     }
 }
 
-/// The same of the program's words behind its name. Words that are no texts are no such words.
+/// Does what the program's arguments ask for. Arguments that are not UTF-8 are wrong ones.
 fn run<R>(rt: &R, host: HostRuntime) -> Result<u8>
 where
     R: Env + Files<File = File> + AllocGlobal + Print + Eprint + Threads + Wait + Sync,

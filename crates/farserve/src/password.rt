@@ -1,4 +1,4 @@
-//! The password, of which only the digest is kept.
+//! Reads the password file. Only the password's digest is kept.
 
 use crate::fault::Fault;
 use sha2::{Digest, Sha256};
@@ -8,9 +8,10 @@ use std::io;
 use std::io::Read;
 use std::rt::Files;
 
-/// The most bytes that are read of the file.
+/// The most bytes of the file that are read.
 const MOST: u64 = 4096;
 
+/// Reads the first `MOST` bytes of the file.
 fn read_front<R: Files<File = File>>(rt: &R, alloc: Global, path: &str) -> io::Result<Vec<u8>> {
     let mut bytes = Vec::new(alloc);
     let mut file = File::open(rt, path)?;
@@ -18,7 +19,7 @@ fn read_front<R: Files<File = File>>(rt: &R, alloc: Global, path: &str) -> io::R
     Ok(bytes)
 }
 
-/// The first line, without its LF and a CR before that.
+/// The first line, without its LF and a CR before it.
 fn first_line(bytes: &[u8]) -> &[u8] {
     let mut line = bytes;
     for (at, byte) in bytes.iter().enumerate() {
@@ -30,7 +31,9 @@ fn first_line(bytes: &[u8]) -> &[u8] {
     line.strip_suffix(b"\r").unwrap_or(line)
 }
 
-/// The SHA-256 of the password that the first line of this file is.
+/// The SHA-256 digest of the password, which is the first line of this file.
+///
+/// `Fault::Unread` is returned if the file can't be read, and `Fault::Empty` if its first line is empty.
 pub fn digest_of<'a, R: Files<File = File>>(
     rt: &R,
     alloc: Global,

@@ -1,4 +1,5 @@
-//! The named pipes between the server and the front: in one folder, `requests0` and `replies0` of lane 0, and so on.
+//! The named pipes between the server and the gateway. In one folder, `requests0` and `replies0` are those of
+//! worker 0, and so on.
 
 use far_server::{OpenFault, Pipes};
 use std::alloc::Global;
@@ -9,7 +10,10 @@ use std::rt::Files;
 /// Bytes that are read or written at once: as many as a pipe holds.
 const PIECE: usize = 1 << 16;
 
-/// Opens two named pipes, one to read and one to write. Waits until the front opens them too.
+/// Opens two named pipes: `input` to read, then `output` to write. Waits until the gateway opens them too.
+///
+/// `OpenFault::Io` is returned if the system can't open one, and `OpenFault::Memory` if there is no memory
+/// for their buffers.
 pub fn open_pair<R: Files<File = File>>(
     rt: &R,
     alloc: Global,
@@ -33,7 +37,7 @@ pub fn open_pair<R: Files<File = File>>(
     Ok((input, output))
 }
 
-/// The pipes in this folder.
+/// The pipes of all workers, in this folder.
 #[derive(Drop)]
 pub struct NamedPipes<'a> {
     pub rt: HostRuntime,

@@ -1,7 +1,8 @@
 //! A store that is left alone for a while after it has failed.
 //!
-//! A call of a store that is away can take as long as a store may be silent, and others wait behind it. One that refuses writes is
-//! asked again and again by whoever needs room. So after such a failure no call of this kind is made for a while: each fails at once.
+//! A call to a store that is away can take as long as the store may be silent, and others wait for it
+//! meanwhile. A store that refuses writes would be asked again and again, by each caller that needs room. So
+//! after such a failure no call of this kind is made for a while: each fails at once.
 ghost use Rattle.std.specs.Prelude.{false};
 
 use crate::rest::Rest;
@@ -11,21 +12,24 @@ use far_server::FarUsage;
 use resp_device::Failure;
 use std::rt::Clock;
 
-/// A device over a store, which makes no call while it rests, and tells whether it does. Reads rest on their own: a store may go on
-/// answering them where it refuses writes and removes, as one does that copies another. They don't rest behind an error reply: it is
-/// soon there, and where it comes from a proxy other objects may lie in stores that are well.
+/// A device over a store that makes no call while it rests. It reports to INFO whether it rests.
+///
+/// Reads rest on their own, because a store may answer them while it refuses writes and removals, as a
+/// replica does. Reads don't rest after an error reply. It arrives soon. It may also be a proxy's, for one of
+/// several stores, and objects in the other stores can be read.
 #[derive(Drop)]
 pub struct RestingStore<'a, C> {
     inner: StoreDevice<'a>,
     clock: C,
     reads: Rest,
     writes: Rest,
-    /// Calls that failed since they were not made.
+    /// Calls that failed because they were not made.
     rested: u64,
     usage: &'a FarUsage,
 }
 
-/// Whether a call that failed so may have taken long: it is not an object's failure, nor want of memory here.
+/// Whether a call with this failure may have taken long. This is not so for a failure of one object, an error
+/// reply, or an allocation that failed here.
 fn is_away(failure: Option<Failure>) -> bool {
     !matches!(
         failure,
@@ -50,7 +54,7 @@ impl<'a, C: Clock> RestingStore<'a, C> {
         }
     }
 
-    /// Milliseconds of a clock that never goes back; 0 where it can't be read.
+    /// Milliseconds of a clock that never goes back; 0 if it can't be read.
     fn now(&self) -> u64 {
         match self.clock.monotonic() {
             Ok(since) => since.as_millis().min(u128::from(u64::MAX)) as u64,
@@ -58,8 +62,9 @@ impl<'a, C: Clock> RestingStore<'a, C> {
         }
     }
 
-    /// How reads rest behind one that gave this. Neither an object that was never written, for which the store is not asked, nor
-    /// want of memory here tells anything of the store.
+    /// How reads rest after a read with this result. Two results show nothing about the store, and change
+    /// nothing: false for an object that was never written, for which the store is not asked, and
+    /// `DeviceFault::Memory`. A failure that is not `is_away` ends the rest, as a success does.
     fn after_read(&self, told: Result<bool, DeviceFault>) -> Rest {
         match told {
             Ok(true) => Rest::none(),
@@ -71,7 +76,8 @@ impl<'a, C: Clock> RestingStore<'a, C> {
         }
     }
 
-    /// The same of writes, which give true, and of removes. An error reply refuses both.
+    /// How writes and removals rest after one with this result, which is true for a write that succeeded. An
+    /// error reply makes both rest.
     fn after_write(&self, told: Result<bool, DeviceFault>) -> Rest {
         match told {
             Ok(true) => Rest::none(),

@@ -1,9 +1,9 @@
-//! Sizes as the command line has them.
+//! Sizes on the command line, such as `64k`.
 
-/// The units behind a number, each in bytes.
+/// The letters that may follow a number, and the bytes that each means.
 const UNITS: [(u8, u64); 3] = [(b'k', 1 << 10), (b'm', 1 << 20), (b'g', 1 << 30)];
 
-/// The number, and the bytes of the unit behind it, 1 where there is none.
+/// Splits a size into its digits and the bytes of its unit, 1 if it has none.
 fn split(text: &[u8]) -> (&[u8], u64) {
     if let Some((last, digits)) = text.split_last() {
         for (letter, unit) in UNITS {
@@ -15,7 +15,7 @@ fn split(text: &[u8]) -> (&[u8], u64) {
     (text, 1)
 }
 
-/// The number that the decimal digits spell. None where they spell none below 2^64.
+/// The number that the decimal digits spell. None if they spell none below 2^64.
 fn number(digits: &[u8]) -> Option<u64> {
     if digits.is_empty() {
         return None;
@@ -31,7 +31,7 @@ fn number(digits: &[u8]) -> Option<u64> {
     Some(all)
 }
 
-/// The bytes that a text as `64k`, `256m`, `2g` or `1000` names. None where it names none below 2^64.
+/// The bytes that a text such as `64k`, `256m`, `2g` or `1000` means. None if it means no number below 2^64.
 pub fn bytes_of(text: &str) -> Option<u64> {
     let (digits, unit) = split(text.as_bytes());
     number(digits)?.checked_mul(unit)

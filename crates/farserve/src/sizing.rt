@@ -1,25 +1,30 @@
-//! What the memory is divided into.
+//! How the server's memory is divided.
 //!
 //! # Frames
 //!
-//! There is a frame for each bucket and for each old version that may wait to be reclaimed, so that no change ever lacks one: the
-//! bound on bytes alone says which objects stay in memory. There is a third more of them, because the map's evictor swaps objects out
-//! when fewer than a quarter of all frames are free.
+//! There is a frame for each bucket, and for each old version that may wait for reclamation, so no change
+//! ever lacks one. Only the bound on bytes decides which objects stay in memory. There are a third more
+//! frames, because the map's evictor swaps objects out when fewer than a quarter of all frames are free.
 //!
 //! # Bytes
 //!
-//! What the two programs take without a map and without clients goes first, then the clients' part, then what lanes work with. Then
-//! come buckets and frames, and of the rest four fifths are for the objects in frames. The last fifth is what malloc loses by rounding
-//! and between its free pieces.
+//! The parts are taken in this order:
+//!
+//! - what the two programs take without a map and without clients;
+//! - the clients' part;
+//! - what the workers work with;
+//! - buckets and frames;
+//! - objects in frames: four fifths of the rest. malloc loses the last fifth by rounding and between its free
+//!   pieces.
 //!
 //! # Buckets
 //!
-//! Where nobody says how many there are, and objects move to devices, a third of what is left is for buckets and frames: what lies on
-//! devices has buckets too. Where all has to lie in memory, each bucket that is not needed leaves less for values. So there is one for
-//! each 512 bytes.
+//! If `--buckets` is not given and objects move to devices, a third of what is left is for buckets and
+//! frames. Objects on devices have buckets too. If all objects stay in memory, each bucket that is not needed
+//! leaves less for values. So there is one for each 512 bytes.
 ghost use Rattle.std.specs.Prelude.{◌≤◌, ◌+◌, ◌*◌, IfSome};
 
-/// Bytes of the program without a map: its code, its stacks, what is read ahead.
+/// Bytes of the server's program without a map: its code, its stacks, and what it reads ahead.
 const PROGRAM: u64 = 5 << 20;
 
 /// Bytes of the gateway without clients.
@@ -28,81 +33,89 @@ const GATEWAY: u64 = 4 << 20;
 /// The least bytes of the clients' part.
 const LEAST_CLIENTS: u64 = 8 << 20;
 
-/// The most bytes of the reply to one request, and that wait for one client.
+/// The most bytes of the reply to one request, and of the replies that wait for one client.
 const MOST_REPLY: u64 = 64 << 20;
 
-/// Values of the greatest length that a lane has at once while it changes one: in its request, and in a bucket before and after.
+/// How many of the longest values a worker holds at once while it changes one: in its request, and in a
+/// bucket before and after.
 const VALUES: u64 = 4;
 
-/// How many bytes a request has at most that does not take turns, where each lane may have a value.
+/// The most bytes of a request that does not take turns, if each worker may hold a value.
 const LARGE: u32 = 65_536;
 
-/// Bytes of a lane, and of the sweep: its buffers, and what malloc keeps for its thread.
+/// Bytes of a worker, and of the sweep: its buffers, and what malloc keeps for its thread.
 const LANE: u64 = 1 << 20;
 
-/// Bytes of a bucket, whatever it holds: its word, and a bit of each table beside it.
+/// Bytes of a bucket, whatever it holds: its word, and its bit in each of the map's tables.
 const BUCKET: u64 = 9;
 
-/// Bytes of a frame, without its object: the frame, and what the sweep notes of it. Each session has a bit of its own for it beside
-/// these.
+/// Bytes of a frame without its object: the frame, and what the sweep notes about it. In addition each
+/// session has a bit for it.
 const FRAME: u64 = 66;
 
-/// Bytes of an object in a file: where it lies, and its bucket as its label. There may be one for each bucket.
+/// Bytes of memory for an object in a file: its place there, and its bucket as its label. Each bucket may
+/// have one.
 const FAR: u64 = 65;
 
-/// Bytes of an object in a store: its length and digest, and its bucket.
+/// Bytes of memory for an object in a store: its length, its digest and its bucket.
 const STORED: u64 = 95;
 
 /// Bytes of all devices over a store: what is read and written at once.
 const LINKS: u64 = 1 << 20;
 
-/// The least bytes that objects in frames have.
+/// The least bytes for objects in frames.
 const LEAST: u64 = 1 << 20;
 
 /// The most frames of a map.
 const MOST_FRAMES: u64 = 4_194_304;
 
-/// The most buckets that are chosen here: a third more frames than these are no more than a map may have.
+/// The most buckets that are chosen here. Even with a third more frames than buckets a map is within its
+/// limits.
 const MOST_CHOSEN: u64 = 3_000_000;
 
-/// Bytes of memory for each bucket that is chosen here where no device takes objects.
+/// Bytes of memory for each bucket that is chosen here, if no device takes objects.
 const NEAR: u64 = 512;
 
 /// Old versions that wait for the evictor: 256 in its queue, and 320 that it keeps.
 const SPARES: u64 = 576;
 
-/// Frames that a session may take beside those of the buckets: 64 of old versions, one that it owns, and one of the object that it is
-/// about to install.
+/// Frames that a session may take in addition to those of the buckets. Of these 64 are of old versions,
+/// one is its own, and one is for the object that it is about to install.
 const SESSION: u64 = 66;
 
-/// The most memory that is looked at where there is too little, and how often its half is taken to come to one mebibyte.
+/// The most memory that is tried to find out how much would do, in MiB.
 const MOST_MEBIBYTES: u64 = 1 << 20;
 
+/// How often this number is halved until it is 1.
 const HALVINGS: u32 = 20;
 
-/// How many buckets and frames there are, and how many bytes the objects in frames may have.
+/// How the memory is divided: how many buckets and frames there are, and how many bytes each part has.
 #[derive(Clone, Copy)]
 pub struct Sizes {
     pub buckets: u32,
     pub frames: u32,
+    /// The most bytes of the objects in frames.
     pub bytes: u64,
-    /// Bytes of what clients have the server keep: half of it in the gateway, half in the lanes.
+    /// Bytes of what clients make the server keep: half in the gateway, half in the workers.
     pub clients: u64,
-    /// The most bytes of the reply to one request, and of replies that wait for one client.
+    /// The most bytes of the reply to one request, and of the replies that wait for one client.
     pub reply: u32,
-    /// Requests of more bytes are answered one at a time.
+    /// Requests of more bytes are answered one at a time. 0 if all are.
     pub large: u32,
 }
 
-/// Where objects lie that are in no frame.
+/// Where objects without a frame are stored.
 #[derive(Clone, Copy, Debug, PartialEq, Eq)]
 pub enum Tier {
+    /// Nowhere: all objects stay in frames.
     Nowhere,
+    /// In scratch files.
     Files,
+    /// In a far store.
     Store,
 }
 
-/// Bytes of a bucket with its frames, and with its object on a device, which has so many.
+/// Bytes of a bucket with its frames and with its object on a device, which takes `far` bytes.
 fn each_of(far: u64) -> u64
     requires { far ≤ STORED }
     ensures { 1 ≤ result }
@@ -110,7 +123,8 @@ fn each_of(far: u64) -> u64
     BUCKET + FRAME + FRAME / 3 + far
 }
 
-/// How many buckets there are for so much memory, where nobody says so: enough for small values, and little beside larger ones.
+/// How many buckets there are for this much memory, if `--buckets` is not given. They are enough for small
+/// values, and take little compared with larger ones.
 fn buckets_for(memory: u64, tier: Tier) -> u64
     ensures { result ≤ MOST_CHOSEN }
 {
@@ -122,20 +136,23 @@ fn buckets_for(memory: u64, tier: Tier) -> u64
     buckets.clamp(1, MOST_CHOSEN)
 }
 
-/// Bytes for what clients have the server keep: an eighth of the memory.
+/// Bytes of the clients' part: an eighth of the memory, and 8 MiB at least.
 fn clients_for(memory: u64) -> u64 {
     (memory / 8).max(LEAST_CLIENTS)
 }
 
-/// Bytes of a reply: a quarter of the gateway's half of the clients' part, and two of the longest values at least, so that a reply may
-/// have one, and one behind others.
+/// The most bytes of a reply: a quarter of the gateway's half of the clients' part, and two of the longest
+/// values at least. So the longest value has room in a reply, also after others. It is never more than 64
+/// MiB.
 fn reply_for(clients: u64, value: u32) -> u32 {
     let two = u64::from(value).saturating_mul(2);
     (clients / 8).max(two).min(MOST_REPLY) as u32
 }
 
-/// Bytes that the lanes work with, and how many a request has at most that does not take turns. Each lane may have one value as it is
-/// read or replied, and one of them what a large request takes. Where that is much of the memory one lane at a time answers a request.
+/// Bytes that the workers work with, and the most bytes of a request that does not take turns.
+///
+/// Each worker may hold one value while it reads or replies it, and one of them what a large request takes.
+/// If that is more than an eighth of the memory, one worker at a time answers a request.
 fn work_for(memory: u64, value: u32, lanes: u32) -> (u64, u32) {
     let value = u64::from(value);
     let of_all = value.saturating_mul(u64::from(lanes).saturating_add(VALUES));
@@ -146,7 +163,7 @@ fn work_for(memory: u64, value: u32, lanes: u32) -> (u64, u32) {
     }
 }
 
-/// Bytes of what lies on devices, for one object of each bucket.
+/// Bytes of memory for what is on devices, with one object for each bucket.
 fn far_of(tier: Tier, buckets: u64) -> u64
     requires { buckets ≤ MOST_FRAMES }
     ensures { result ≤ 1_000_000_000 }
@@ -158,8 +175,14 @@ fn far_of(tier: Tier, buckets: u64) -> u64
     }
 }
 
-/// Divides so many bytes of memory, for as many buckets as were asked for: as many of them as there are frames for. None where too
-/// little is left for objects, or where the clients' part can't hold a request as long as there may be.
+/// Divides this many bytes of memory.
+///
+/// `buckets` is how many are asked for, and none lets this function choose. There are at most as many as
+/// there are frames for. `lanes` is the number of workers. `value` and `request` are the most bytes of a
+/// value and of a request.
+///
+/// None is returned if too little is left for objects, or if half of the clients' part can't hold the longest
+/// request.
 pub fn divide(
     memory: u64,
     buckets: Option<u32>,
@@ -168,9 +191,14 @@ pub fn divide(
     value: u32,
     request: u32,
 ) -> Option<Sizes>
+    // Clients, buckets, frames and objects get no more than the memory.
     ensures within { IfSome result (λ sizes. sizes.bytes + sizes.clients + BUCKET * sizes.buckets + FRAME * sizes.frames ≤ memory) }
+    // Half of the clients' part can hold the longest request.
     ensures held { IfSome result (λ sizes. 2 * request ≤ sizes.clients) }
+    // There are frames for all buckets, all old versions that may wait, and what each worker and the sweep
+    // may hold.
     ensures enough { IfSome result (λ sizes. sizes.buckets + SPARES + SESSION * (lanes + 1) ≤ sizes.frames) }
+    // A map may have this many frames.
     ensures few { IfSome result (λ sizes. sizes.frames ≤ MOST_FRAMES) }
 {
     let sessions = u64::from(lanes) + 1;
@@ -207,7 +235,8 @@ pub fn divide(
     })
 }
 
-/// The least memory that can be divided so, in MiB. None where 1 TiB is too little.
+/// How many MiB of memory would do: `divide` takes this many, and refuses 1 MiB less. None if 1 TiB is too
+/// little.
 pub fn least_memory(
     buckets: Option<u32>,
     lanes: u32,
@@ -215,7 +244,7 @@ pub fn least_memory(
     value: u32,
     request: u32,
 ) -> Option<u64> {
-    // Too little, and enough.
+    // `little` MiB are too little, and `enough` are enough.
     let (mut little, mut enough) = (0u64, MOST_MEBIBYTES);
     let _ = divide(enough << 20, buckets, lanes, tier, value, request)?;
     for _ in 0..HALVINGS {

@@ -1,4 +1,4 @@
-//! Devices whose objects lie in a store that speaks the protocol of Redis.
+//! Devices whose objects are in a store that speaks the protocol of Redis.
 ghost use Rattle.std.specs.Prelude.{◌≡◌, false};
 ghost use Rattle.resp_device.specs.Devices.{state_in};
 
@@ -16,17 +16,18 @@ use std::fs::File;
 use std::random::RandomSource;
 use std::rt::{Clock, Files};
 
-/// A device that asks for another connection where its last one is over, and tells how many objects it keeps, and how many of them the
-/// store has no more.
+/// A device over a store. If its last connection is over, it asks for another one. It reports to INFO how
+/// many objects it keeps, and how many of them the store has lost.
 #[derive(Drop)]
 pub struct StoreDevice<'a> {
     pub(crate) inner: RespDevice<Link>,
-    /// Objects that were asked for, and that the store had no more. Where there is no memory to note one, it isn't counted.
+    /// Objects that were asked for, and that the store no longer had. One is not counted if there is no
+    /// memory to note it.
     lost: HashSet<u64>,
     usage: &'a FarUsage,
 }
 
-/// How much a device has told of.
+/// What a device has reported.
 #[derive(Clone, Copy)]
 struct Told {
     objects: u64,
@@ -34,7 +35,7 @@ struct Told {
 }
 
 impl<'a> StoreDevice<'a> {
-    /// Over an empty device, of which nobody has told yet.
+    /// A device over an empty one, of which nothing was reported yet.
     fn new(alloc: Global, inner: RespDevice<Link>, usage: &'a FarUsage) -> Self
         ensures { result.inner ≡ inner }
     {
@@ -52,19 +53,20 @@ impl<'a> StoreDevice<'a> {
         }
     }
 
-    /// Tells what changed since it was so.
+    /// Reports what has changed since `before`.
     fn tell(&self, before: Told) {
         let now = self.told();
         self.usage.tell_objects(before.objects, now.objects);
         self.usage.tell_lost(before.lost, now.lost);
     }
 
-    /// Why the last call that failed did so.
+    /// Why the last call that failed did so. None if no call has failed.
     pub fn last_failure(&self) -> Option<Failure> {
         self.inner.last_failure()
     }
 
-    /// Asks for another connection where the last one can't be used. The front has one, or says at once that there is none.
+    /// Asks for another connection if the last one can't be used. The gateway gives one, or reports at once
+    /// that there is none.
     fn join(&mut self)
         ensures { state_in self.new.inner ≡ state_in self.old.inner }
     {
@@ -126,7 +128,11 @@ impl Device for StoreDevice<'_> {
     }
 }
 
-/// Devices over so many links to the store, which wait until the front has opened their pipes in this folder.
+/// Opens `count` devices, 64 at most, over links to the store. Waits until the gateway has opened their pipes
+/// in this folder.
+///
+/// `Fault::Links` is returned if a pipe can't be opened, `Fault::Random` if the system gives no random bytes,
+/// and `Fault::Memory` if an allocation fails.
 pub fn open_stores<'a, 'b, R>(
     rt: R,
     folder: &str,

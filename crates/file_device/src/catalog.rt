@@ -1,4 +1,4 @@
-//! Which object lies where.
+//! Which object is in which slot.
 ghost use Rattle.std.specs.Prelude.{◌≡◌, ◌<◌, [], Some, None, OnOk, OnErr, IfOk, IfSome, is_some};
 ghost use Rattle.std.specs.Bool.{OnTrue};
 ghost use Rattle.std.specs.FinMap.{len};
@@ -12,9 +12,10 @@ use crate::place::Place;
 use std::alloc::{AllocError, Global};
 use std::collections::HashMap;
 
-/// The index of the objects, and the owners of the slots. Each slot in use has its object's id as
-/// its owner, so no slot is used twice. Of a slot that is not in use the owner may be any id: whether
-/// an object lies in a slot is asked of the index.
+/// The index of the objects, and the owner of each slot.
+///
+/// A slot in use has its object's id as its owner, so no slot is used twice. The owner of a free slot
+/// may be any id. So the index decides whether a slot is free.
 #[derive(Drop)]
 pub(crate) struct Catalog {
     pub(crate) index: HashMap<u64, Place>,
@@ -39,14 +40,14 @@ impl Catalog {
         self.index.len()
     }
 
-    /// Where the object lies, if there is one.
+    /// The object's place, if there is such an object.
     pub(crate) fn place(&self, id: u64) -> Option<&Place>
         ensures { option_copied result ≡ place_of self.now.index.entries id }
     {
         self.index.get(&id)
     }
 
-    /// Whether no object lies in the slot.
+    /// Whether no object is in the slot.
     fn is_free(&self, slot: Slot) -> bool
         requires { slot.class < 21 }
         ensures { OnTrue result (IsFree self.now.index.entries slot) }
@@ -60,7 +61,7 @@ impl Catalog {
         }
     }
 
-    /// A slot of the class in which no object lies goes out to the id; none where all are in use.
+    /// Takes a free slot of the class for the id. None if all are in use.
     pub(crate) fn take(&mut self, class: u8, id: u64) -> Result<Option<Slot>, AllocError>
         requires { class < 21 }
         ensures class { IfOk result (λ found. IfSome found (λ slot. slot.class ≡ class)) }
@@ -81,8 +82,9 @@ impl Catalog {
         Ok(Some(slot))
     }
 
-    /// A slot that went out to the id comes back. No object lies in it any more. The id stands in the
-    /// contract alone, so that nothing comes back twice.
+    /// Frees a slot that was taken for the id. No object may be in it any more.
+    ///
+    /// Only the contract uses the id: it excludes that a slot is freed twice.
     pub(crate) fn give_back(&mut self, slot: Slot, _id: u64)
         requires known { slot.class < 21 }
         requires free { IsFree self.old.index.entries slot }
@@ -92,8 +94,8 @@ impl Catalog {
         self.owners.give_back(slot);
     }
 
-    /// The object lies at the place. Answers the slot in which the id's object lay before, which is
-    /// in use no more.
+    /// Enters the object's place in the index. Returns the slot of the id's earlier object, which is
+    /// free then.
     pub(crate) fn enter(&mut self, id: u64, place: Place) -> Result<Option<Slot>, AllocError>
         requires free { IsFree self.old.index.entries (slot_of place) }
         requires owned { owner_in self.old.owners.ledgers (slot_of place) ≡ Some id }
@@ -114,7 +116,7 @@ impl Catalog {
         }
     }
 
-    /// The object is no more. Answers the slot in which it lay, if there was one.
+    /// Takes the object out of the index. Returns its slot, if there was such an object.
     pub(crate) fn remove(&mut self, id: u64) -> Option<Slot>
         ensures found { is_some result ≡ is_some (place_of self.old.index.entries id) }
         ensures removed { ChangesAt self.old.index.entries self.new.index.entries id None }
@@ -128,7 +130,7 @@ impl Catalog {
         }
     }
 
-    /// The object, if there is one, has no label any more.
+    /// Removes the object's label, if there is such an object.
     pub(crate) fn unlabel(&mut self, id: u64)
         ensures { Unlabels self.old.index.entries self.new.index.entries id }
     {
@@ -137,15 +139,17 @@ impl Catalog {
         }
     }
 
-    /// There are no objects.
+    /// Takes all objects out of the index.
     pub(crate) fn empty(&mut self)
         ensures { self.new.index.entries ≡ [] }
     {
         self.index.clear();
     }
 
-    /// Whether no object lies in a slot of the class. The slots are looked at only where as many came
-    /// back as went out, so no more often than they were taken.
+    /// Whether no object is in a slot of the class.
+    ///
+    /// The slots are looked at only if as many were freed as were taken. So no slot is looked at more
+    /// often than it was taken.
     pub(crate) fn is_idle(&self, class: u8) -> bool
         requires { class < 21 }
         ensures { OnTrue result (IsUnused self.now.index.entries class) }
@@ -168,7 +172,7 @@ impl Catalog {
         true
     }
 
-    /// The numbers of a class in which no object lies begin anew.
+    /// Forgets all slots of a class without objects. Its numbers begin at 0 again.
     pub(crate) fn clear(&mut self, class: u8)
         requires known { class < 21 }
         requires unused { IsUnused self.old.index.entries class }

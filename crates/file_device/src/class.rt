@@ -1,17 +1,17 @@
-//! Which class of slots an object goes to.
+//! Which class of slots an object of some length is stored in.
 ghost use Rattle.std.specs.Prelude.{◌≡◌, ◌≤◌, ◌*◌, ◌^◌};
 ghost use Rattle.file_device.specs.Classes.{class_of};
 
 /// How many classes of slots a disk has.
 pub const CLASSES: usize = 21;
 
-/// The bytes of a slot of class 0.
+/// How many bytes a slot of class 0 has.
 pub(crate) const SMALLEST: u32 = 64;
 
-/// The most bytes of an object: those of a slot of the last class.
+/// How many bytes an object has at most: 64 MiB, as many as a slot of the last class.
 pub(crate) const LONGEST: usize = 1 << 26;
 
-/// The least class whose slots are as long as this.
+/// The smallest class whose slots have room for this many bytes.
 pub(crate) fn class_of(len: u32) -> u8
     requires { len ≤ 2 ^ 26 }
     ensures value { result ≡ class_of len }

@@ -1,4 +1,30 @@
-//! A device over a disk.
+//! A far device over a disk.
+//!
+//! # Writes
+//!
+//! An object is always written to a free slot, never over an older object. The index changes only after
+//! the disk has accepted the bytes. Then the older object's slot is free. So an object that is
+//! overwritten has two slots meanwhile, and a write that fails leaves the older bytes.
+//!
+//! # A full disk
+//!
+//! A write that the disk refuses returns `Failed`, and `last_failure` says why. The id has the bytes
+//! that it had, and no label. No other object changes. Reads and removals go on.
+//!
+//! A removed object's slot is used again for an object of the same class. A file gives its space back
+//! only when its class has no object any more. So a full disk may refuse a large object although small
+//! ones were removed.
+//!
+//! # A damaged file
+//!
+//! A read compares the length and the keyed digest with those in the index. If either differs, it
+//! returns `Failed`, and `last_failure` is `Damaged`. The caller gets no bytes. A file that is too
+//! short, or that the system can't read, is `Failed` too. The object stays in the index, and each later
+//! read tries again. It is never reported as absent. Other objects are not affected.
+//!
+//! # The end
+//!
+//! The index is in memory only. When the device is dropped or the process ends, all objects are lost.
 ghost use Rattle.std.specs.Prelude.{◌≡◌, ◌≢◌, ◌<◌, ◌++◌, ℕ, IsTrue, take, Some, None, IsOk, IsSome, IfOk, IfSome, OnOk, OnErr};
 ghost use Rattle.std.specs.Bool.{OnTrue};
 ghost use Rattle.std.specs.FinMap.{empty, get, len};
@@ -18,14 +44,21 @@ use far_device::{Device, DeviceFault};
 use std::alloc::{AllocError, Global};
 use std::hash::RandomState;
 
-/// A device whose objects lie in the slots of a disk. Of each object it keeps where it lies, its
-/// length, its digest and its label.
+/// A far device that stores objects in slots of a disk, and an index of them in memory.
+///
+/// For each object the index has the slot, the length, a digest and the label. It is honest if the disk
+/// is. Whatever the disk does, a read appends bytes with the length and the digest of what was written,
+/// or fails.
+///
+/// The device has no lock: its user makes one call at a time. A device in scratch files keeps about 61
+/// to 72 bytes of memory for each object. In addition it keeps the room of the longest object written
+/// and of the longest one read.
 #[derive(Drop)]
 pub struct FileDevice<K: Disk> {
     disk: K,
     keys: RandomState,
     catalog: Catalog,
-    // What is written now, so that proofs can tell of it.
+    // A copy of the bytes that are being written. The proofs need it.
     scratch: Vec<u8>,
     failures: Failures,
     ghost kept: { AreKept K.HONEST (K.kept disk) keys catalog.index.entries },
@@ -34,8 +67,9 @@ pub struct FileDevice<K: Disk> {
 impl<K: Disk> FileDevice<K> {
     ghost use Rattle.file_device.specs.Devices.{contents_in, labels_in, state_in, slot_in};
 
-    /// An empty device on the disk, whose digests are under these keys. Who opens the device draws
-    /// them, and nobody who can write to the disk may know them.
+    /// An empty device on the disk. The digests are made with these keys.
+    ///
+    /// Draw the keys at random for each device. Nobody who can write to the disk may know them.
     pub fn new(alloc: Global, disk: K, keys: RandomState) -> Self
         ensures { state_in result ≡ record { contents = empty; failures = 0 } }
     {
@@ -48,24 +82,24 @@ impl<K: Disk> FileDevice<K> {
         }
     }
 
-    /// The disk, to look at.
+    /// The disk, for example to ask for its size.
     pub fn disk(&self) -> &K {
         &self.disk
     }
 
-    /// Why the last call that answered `Failed` did so, and none before there was one.
+    /// Why a call returned `Failed` the last time. None if none did.
     pub fn last_failure(&self) -> Option<Failure> {
         self.failures.last
     }
 
-    /// How many objects it keeps.
+    /// How many objects the device has.
     pub fn len(&self) -> usize
         ensures { result ≡ len (contents_in self.now) }
     {
         self.catalog.len()
     }
 
-    /// The slot in which the object of the id lies, if there is one. No other id's object lies there.
+    /// The slot of the id's object, if there is one. No other id's object is in this slot.
     pub fn slot(&self, id: u64) -> Option<Slot>
         ensures place { result ≡ slot_in self.now id }
         ensures apart { (other : ℕ) → other ≢ id → IsSome result → slot_in self.now other ≢ result }
@@ -76,9 +110,11 @@ impl<K: Disk> FileDevice<K> {
         }
     }
 
-    /// A slot that went out to the id comes back. Where it was the last one of its class in use, the
-    /// disk lets go of the class; where that fails, the numbers stay, and it is tried again the next
-    /// time.
+    /// Frees a slot that was taken for the id. If no slot of its class is in use then, the disk
+    /// releases the class.
+    ///
+    /// If the disk can't, the class keeps its numbers. It is tried again the next time that no slot of
+    /// the class is in use. Such a fault is not counted.
     fn give_back(&mut self, slot: Slot, id: u64)
         requires known { slot.class < 21 }
         requires free { IsFree self.old.catalog.index.entries slot }
@@ -92,7 +128,7 @@ impl<K: Disk> FileDevice<K> {
         }
     }
 
-    /// As `put`, but after a fault the id has the label that it had too.
+    /// As `put`, but after an error the id also keeps its label.
     fn store(&mut self, id: u64, label: Option<u32>, bytes: &[u8]) -> Result<(), DeviceFault>
         ensures writes { Writes (state_in self.old) (state_in self.new) id bytes.now result }
         ensures labelled { OnOk result (Relabels (labels_in self.old) (labels_in self.new) id label) }
@@ -126,8 +162,8 @@ impl<K: Disk> FileDevice<K> {
         Ok(())
     }
 
-    /// Keeps these bytes and this label under the id. After a fault it has the bytes that it had, and
-    /// no label.
+    /// Stores these bytes and this label under the id. After an error the id has the bytes that it had,
+    /// and no label.
     fn put(&mut self, id: u64, label: Option<u32>, bytes: &[u8]) -> Result<(), DeviceFault>
         ensures writes { Writes (state_in self.old) (state_in self.new) id bytes.now result }
         ensures refused { OnErr result (contents_in self.new ≡ contents_in self.old) }
@@ -142,8 +178,9 @@ impl<K: Disk> FileDevice<K> {
         done
     }
 
-    /// Appends the bytes of the slot to `out`, which after a fault is as before. Whatever the disk
-    /// does, they have this length and this digest.
+    /// Appends the bytes of the slot to `out`. After an error `out` is as before.
+    ///
+    /// Whatever the disk does, the appended bytes have this length and this digest.
     fn read_place(
         &mut self,
         slot: Slot,
@@ -181,7 +218,10 @@ impl<K: Disk> Device for FileDevice<K> {
 
     ghost labels = { λ device. labels_in device };
 
-    /// Lets go of all slots too, and fails where the disk can't. The device is empty all the same.
+    /// Also releases all slots on the disk. After an error the device is empty all the same.
+    ///
+    /// It returns the disk's fault if a class can't be cleared. Slots that were in use in this class,
+    /// or in those after it, are used again only after a later `construct` has cleared them.
     fn construct(&mut self) -> Result<(), DeviceFault>
         ensures constructs { Constructs (state_in self.old) (state_in self.new) result }
         ensures unlabelled { AreNone (labels_in self.new) }
@@ -197,8 +237,10 @@ impl<K: Disk> Device for FileDevice<K> {
         Ok(())
     }
 
-    /// An object of more than 64 MiB is `Failed`. After each fault the id has what it had, but no
-    /// label.
+    /// `Failed` if the object has more than 64 MiB, if its class has no free slot, or if the disk
+    /// fails, for example because it is full. `Memory` if an allocation fails.
+    ///
+    /// After each error the id has the bytes that it had, and no label.
     fn write(&mut self, id: u64, bytes: &[u8]) -> Result<(), DeviceFault>
         ensures writes { Writes (state_in self.old) (state_in self.new) id bytes.now result }
         ensures unlabelled { Relabels (labels_in self.old) (labels_in self.new) id None }
@@ -207,8 +249,9 @@ impl<K: Disk> Device for FileDevice<K> {
         self.put(id, None, bytes)
     }
 
-    /// Whatever the disk does, what comes has the length and the digest of what was written; where it
-    /// has not, the call answers `Failed`.
+    /// Whatever the disk does, the appended bytes have the length and the digest of what was written.
+    ///
+    /// `Failed` if they have not, or if the disk can't read the slot. `Memory` if an allocation fails.
     fn read(&mut self, id: u64, out: &mut Vec<u8>) -> Result<bool, DeviceFault>
         ensures reads { Reads K.HONEST (state_in self.old) (state_in self.new)
             id out.old.items out.new.items result }
@@ -239,7 +282,7 @@ impl<K: Disk> Device for FileDevice<K> {
         }
     }
 
-    /// As `write`. Each label is kept.
+    /// As `write`. It keeps each label.
     fn write_labelled(&mut self, id: u64, label: u32, bytes: &[u8]) -> Result<bool, DeviceFault>
         ensures writes { Writes (state_in self.old) (state_in self.new) id bytes.now result }
         ensures labelled { Relabels (labels_in self.old) (labels_in self.new) id
@@ -251,7 +294,7 @@ impl<K: Disk> Device for FileDevice<K> {
         Ok(true)
     }
 
-    /// As `read`, of an id that has a label. It looks into the index once.
+    /// As `read`, if the id has a label. It looks into the index once.
     fn read_labelled(&mut self, id: u64, out: &mut Vec<u8>) -> Result<Option<u32>, DeviceFault>
         ensures reads { ReadsLabelled K.HONEST (state_in self.old) (state_in self.new)
             (labels_in self.old id) id out.old.items out.new.items result }

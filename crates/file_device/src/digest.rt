@@ -1,11 +1,11 @@
-//! What shows that bytes came back as they were.
+//! The digest that shows whether the disk returned what was written.
 ghost use Rattle.std.specs.Prelude.{◌≡◌, length};
 ghost use Rattle.std.specs.Bool.{OnTrue};
 ghost use Rattle.file_device.specs.Digests.{digest_under};
 
 use std::hash::{BuildHasher, Hasher, RandomState};
 
-/// The digest of the bytes: SipHash-1-3 under the keys.
+/// The digest of the bytes: SipHash-1-3 with these keys.
 pub(crate) fn digest_of(keys: &RandomState, bytes: &[u8]) -> u64
     ensures { result ≡ digest_under keys.now bytes.now }
 {

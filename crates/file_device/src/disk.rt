@@ -1,21 +1,29 @@
-//! What a disk is: slots that keep bytes.
+//! The trait of disks: slots that store bytes.
 ghost use Rattle.std.specs.Prelude.{◌≡◌, ◌≢◌, ◌≤◌, ◌<◌, ◌*◌, ◌^◌, Bool, IsTrue, List, ℕ, ◌++◌, length, take, OnOk, OnErr};
 ghost use Rattle.file_device.specs.declared.slot.Slot.{Slot};
 
 use crate::{DiskFault, Slot};
 
-/// A place apart that keeps bytes in slots. The bytes of a slot that was never written, and those
-/// behind what was written last, may be any. A disk makes nothing of what it keeps, and may lie:
-/// `FileDevice` finds that out.
+/// A place that stores bytes in numbered slots.
+///
+/// A `FileDevice` decides which slot has which object. The disk knows nothing of objects. The classes
+/// of slots are 0 to 20, and `Slot` says how long they are. All errors are `DiskFault`: `Memory` if an
+/// allocation fails, and `Io` if the system refuses a step.
+///
+/// A slot may have any bytes if nothing was written to it, and after the end of what was written last.
+/// A disk may also return wrong bytes: `FileDevice` finds that out by a digest.
 pub trait Disk: Drop {
-    /// Whether a slot gives what was written. No code reads it: it is said of the type alone.
+    /// Whether a read of a slot returns what was written. It is a statement about the type, and only
+    /// contracts read it.
     ghost HONEST: { Bool };
 
-    /// What a slot keeps.
+    /// What a slot has.
     ghost kept: { Self → Slot → List ℕ };
 
-    /// Puts the bytes at the front of the slot. After a fault it may keep anything; all other slots
-    /// are as before.
+    /// Writes the bytes to the front of the slot.
+    ///
+    /// After an error, for example because the disk is full, the slot may have anything. All other
+    /// slots are as before in each case.
     fn write_slot(&mut self, slot: Slot, bytes: &[u8]) -> Result<(), DiskFault>
         requires known { slot.class < 21 }
         requires fits { length bytes.now ≤ 64 * 2 ^ slot.class }
@@ -23,7 +31,7 @@ pub trait Disk: Drop {
             → OnOk result (take (length bytes.now) (kept self.new slot) ≡ bytes.now) }
         ensures others { (other : Slot) → other ≢ slot → kept self.new other ≡ kept self.old other };
 
-    /// Appends the first `len` bytes of the slot to `out`, which after a fault is as before.
+    /// Appends the first `len` bytes of the slot to `out`. After an error `out` is as before.
     fn read_slot(&mut self, slot: Slot, len: u32, out: &mut Vec<u8>) -> Result<(), DiskFault>
         requires { slot.class < 21 }
         ensures honest { IsTrue HONEST
@@ -32,7 +40,10 @@ pub trait Disk: Drop {
         ensures fault { OnErr result (out.new.items ≡ out.old.items) }
         ensures same { (other : Slot) → kept self.new other ≡ kept self.old other };
 
-    /// Lets go of what the slots of the class keep. All other slots are as before.
+    /// Releases what the slots of the class have. All other slots are as before.
+    ///
+    /// It is called when no object is in the class. The slots of the class may have anything
+    /// afterwards, and may be written again, also after an error.
     fn clear(&mut self, class: u8) -> Result<(), DiskFault>
         requires { class < 21 }
         ensures { (other : Slot) → other.class ≢ class → kept self.new other ≡ kept self.old other };

@@ -1,11 +1,11 @@
-//! How often a device failed.
+//! How often a device has failed, and why it did so last.
 ghost use Rattle.std.specs.Prelude.{◌≡◌, ◌+◌, ◌-◌, ◌^◌, min, Err};
 ghost use Rattle.file_device.specs.Counts.{count_after_fault};
 
 use crate::{DiskFault, Failure};
 use far_device::DeviceFault;
 
-/// The count, and why it last rose.
+/// The count of failures, and why it rose last.
 #[derive(Drop)]
 pub(crate) struct Failures {
     pub(crate) count: u64,
@@ -32,7 +32,7 @@ impl Failures {
         DeviceFault::Failed
     }
 
-    /// The device's fault where the disk has this one, which is counted but for want of memory.
+    /// The device's fault for this fault of the disk. It is counted, unless it is `Memory`.
     pub(crate) fn of_disk(&mut self, fault: DiskFault) -> DeviceFault
         ensures counted { self.new.count ≡ count_after_fault result self.old.count }
     {

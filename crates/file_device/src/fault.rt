@@ -1,27 +1,27 @@
-//! Why a disk or a device on one fails.
+//! Why a disk, or a device on it, fails.
 use std::alloc::AllocError;
 use std::io::ErrorKind;
 use thiserror::Error;
 
-/// What a disk was about where the system failed it.
+/// The step of a disk that the system refused.
 #[derive(Clone, Copy, Debug, PartialEq, Eq, Error)]
 pub enum Step {
-    /// To draw random bytes.
+    /// To draw random bytes for a file's name or the keys of digests.
     #[error("no random bytes")]
     Random,
     /// To make a scratch file in its folder.
     #[error("cannot open a scratch file")]
     Open,
-    /// To remove the name of a scratch file.
+    /// To remove the name of a scratch file that was just made.
     #[error("cannot unlink a scratch file")]
     Unlink,
-    /// To write a slot whole, as where the disk is full.
+    /// To write all bytes of an object to its slot. For example, the disk is full.
     #[error("cannot write a slot")]
     Write,
-    /// To read a slot whole.
+    /// To read all bytes of an object from its slot. For example, the file is too short.
     #[error("cannot read a slot")]
     Read,
-    /// To cut a scratch file without an object to nothing.
+    /// To cut a scratch file without objects to no bytes.
     #[error("cannot cut a scratch file")]
     Cut,
 }
@@ -29,10 +29,10 @@ pub enum Step {
 /// Why a call of a disk failed.
 #[derive(Clone, Copy, Debug, PartialEq, Eq, Error)]
 pub enum DiskFault {
-    /// A growth of memory was refused.
+    /// An allocation failed.
     #[error("memory")]
     Memory,
-    /// The system failed this step, and answered so.
+    /// The system refused this step, with this kind of error.
     #[error("{0}: {1}")]
     Io(Step, ErrorKind),
 }
@@ -48,19 +48,19 @@ impl From<AllocError> for DiskFault {
     }
 }
 
-/// Why a call of a `FileDevice` answered `Failed`.
+/// Why a call of a `FileDevice` returned `Failed`.
 #[derive(Clone, Copy, Debug, PartialEq, Eq, Error)]
 pub enum Failure {
-    /// The object is longer than the longest slot, of 64 MiB.
+    /// The object has more than 64 MiB, which is the longest slot.
     #[error("an object is too long")]
     TooLong,
-    /// All slots of the object's class are in use, 2^32 of them.
+    /// All 2^32 slots of the object's class are in use.
     #[error("no slot is free")]
     NoSlot,
-    /// What came back is not what was written: its length or its digest differs.
+    /// The disk returned other bytes than were written: their length or digest differs.
     #[error("an object is damaged")]
     Damaged,
-    /// The disk failed.
+    /// The disk failed. The fault in it is `Io`, because `Memory` is not counted.
     #[error(transparent)]
     Disk(DiskFault),
 }

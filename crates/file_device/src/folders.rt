@@ -1,4 +1,4 @@
-//! Devices in folders, one for each lane.
+//! Opens devices in folders, one for each lane.
 ghost use Rattle.std.specs.Prelude.{◌≡◌, ◌<◌, ◌≤◌, length, vec_len, IfOk, IfErr};
 ghost use Rattle.file_device.specs.Folders.{IsOfFolders};
 
@@ -11,7 +11,7 @@ use thiserror::Error;
 /// Why devices could not be opened in folders.
 #[derive(Clone, Copy, Debug, PartialEq, Eq, Error)]
 pub enum FolderFault {
-    /// A growth of memory was refused.
+    /// An allocation failed.
     #[error("memory")]
     Memory,
     /// The folder of this number, counted from 1, can't be used.
@@ -19,11 +19,15 @@ pub enum FolderFault {
     CannotOpen(u32),
 }
 
-/// A device for each of so many lanes, in 1 to 64 folders in turn: lane i lies in the folder i modulo
-/// their count. A folder beyond the lanes isn't looked at.
+/// Opens a device for each of `lanes` lanes, in 1 to 64 folders.
 ///
-/// `CannotOpen` names the first that can't be used, as one that is not there, that may not be written,
-/// or whose name is empty.
+/// The lanes take the folders in turn: lane i is in the folder i modulo their count. If there are more
+/// folders than lanes, the last ones are not looked at. Several lanes, also of other processes, may be
+/// in one folder.
+///
+/// `CannotOpen` names the first folder that can't be used. For example, it does not exist, may not be
+/// written, or has an empty name. It is also returned if the system gives no random bytes. `Memory` if
+/// an allocation fails. After an error the devices that were opened are dropped.
 pub fn open_lanes<R>(
     rt: R,
     folders: &[&str],

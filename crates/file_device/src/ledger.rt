@@ -1,21 +1,23 @@
-//! Which id each slot of one class is for.
+//! Which id has each slot of one class, and which slots are free.
 ghost use Rattle.std.specs.Prelude.{◌≡◌, ◌≢◌, ◌≤◌, ◌<◌, ℕ, Some, None, OnOk, OnErr, IfSome};
 ghost use Rattle.file_device.specs.Ledgers.{entry_at, count_of};
 
 use std::alloc::{AllocError, Global};
 
-/// The end of the list of numbers that came back. It is no number.
+/// The end of the list of free numbers. It is no number of a slot.
 const LAST: u64 = u64::MAX;
 
-/// The numbers of a class. Of each: the id that it went out to or, where it came back, the number
-/// that came back before it, so 8 bytes a slot. Nothing that is said of a number that came back is
-/// relied on: who takes one asks first whether an id has it.
+/// The numbers of a class's slots, with 8 bytes for each.
+///
+/// The entry of a number in use is the id that took it. The entry of a free number is the number that
+/// was freed before it, so the free numbers form a list. Nobody relies on the entry of a free number.
+/// Before a number is taken, the index is asked whether an object is there.
 #[derive(Drop)]
 pub(crate) struct Ledger {
     entries: Vec<u64>,
-    // The number that came back last, or `LAST`.
+    // The number that was freed last, or `LAST`.
     back: u64,
-    // How many numbers are out.
+    // How many numbers are in use.
     out: u64,
 }
 
@@ -28,26 +30,26 @@ impl Ledger {
         }
     }
 
-    /// What stands at the number: the id that has it, where one has.
+    /// The entry of the number: the id that has it, if it is in use.
     pub(crate) fn entry(&self, number: u32) -> Option<u64>
         ensures { result ≡ entry_at self.now number }
     {
         self.entries.get(number as usize).copied()
     }
 
-    /// How many numbers there are.
+    /// How many numbers there are, in use or free.
     pub(crate) fn count(&self) -> usize
         ensures { result ≡ count_of self.now }
     {
         self.entries.len()
     }
 
-    /// Whether all numbers came back.
+    /// Whether all numbers are free.
     pub(crate) fn is_idle(&self) -> bool {
         self.out == 0
     }
 
-    /// The number that came back last or else the next new one, and none where all are out.
+    /// The number that was freed last, or the next new one. None if all 2^32 are in use.
     pub(crate) fn next(&self) -> Option<u32>
         ensures { IfSome result (λ number. number ≤ count_of self.now) }
     {
@@ -57,7 +59,7 @@ impl Ledger {
         }
     }
 
-    /// The number goes out to the id.
+    /// Takes the number for the id.
     pub(crate) fn take(&mut self, number: u32, id: u64) -> Result<(), AllocError>
         requires { number ≤ count_of self.old }
         ensures taken { OnOk result (entry_at self.new number ≡ Some id) }
@@ -74,7 +76,7 @@ impl Ledger {
         Ok(())
     }
 
-    /// The number comes back.
+    /// Frees the number.
     pub(crate) fn give_back(&mut self, number: u32)
         ensures { (other : ℕ) → other ≢ number → entry_at self.new other ≡ entry_at self.old other }
     {
@@ -85,7 +87,7 @@ impl Ledger {
         }
     }
 
-    /// No number is out any more.
+    /// Forgets all numbers.
     pub(crate) fn clear(&mut self) {
         self.entries.clear();
         self.back = LAST;

@@ -1,4 +1,9 @@
-//! A device whose objects lie in the slots of a disk: in memory, or in scratch files.
+//! A far device over the slots of a disk: scratch files in a folder, or memory of the process.
+//!
+//! `FileDevice` implements `far_device::Device` over any `Disk`. It has an index in memory: of each
+//! object the slot, the length, a digest and a label. `FileDisk` is a disk in scratch files, and
+//! `MemoryDisk` one in the process. The heads of `scratch.rt` and `device.rt` say what is in the
+//! folder, and what happens when a disk is full, a process is killed or a file is damaged.
 #![tactic(auto)]
 
 mod catalog;

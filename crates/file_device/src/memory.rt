@@ -1,4 +1,4 @@
-//! A disk that lies in the process.
+//! A disk in the memory of the process.
 ghost use Rattle.std.specs.Prelude.{true};
 ghost use Rattle.file_device.specs.Slots.{bytes_in};
 
@@ -8,7 +8,9 @@ use std::alloc::{AllocError, Global};
 use std::array;
 use std::collections::HashMap;
 
-/// A disk in the process. It gives what was written and never fails but for want of memory.
+/// A disk in the memory of the process.
+///
+/// It is honest. It fails only with `Memory`, if an allocation fails.
 #[derive(Drop)]
 pub struct MemoryDisk {
     alloc: Global,
@@ -16,7 +18,7 @@ pub struct MemoryDisk {
 }
 
 impl MemoryDisk {
-    /// A disk that keeps nothing. It takes no memory before the first write.
+    /// A disk without bytes. It takes no memory before the first write.
     pub fn new(alloc: Global) -> Self {
         MemoryDisk {
             alloc,

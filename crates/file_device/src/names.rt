@@ -1,12 +1,14 @@
-//! How scratch files are named.
+//! The names of scratch files: `fazhitta-TOKEN-LANE-CLASS.scratch`, with a token of 16 hexadecimal
+//! digits.
 
-/// What stands before the name's random part.
+/// How a name begins, before its token.
 pub(crate) const BEFORE: &str = "fazhitta-";
 
-/// What stands at the name's end.
+/// How a name ends.
 pub(crate) const BEHIND: &str = ".scratch";
 
-/// Whether scratch files are named so. Their names have lane and class behind 16 random digits.
+/// Whether a scratch file may have this name. Between its beginning and its end are more than 16
+/// hexadecimal digits and dashes.
 pub(crate) fn is_scratch(name: &str) -> bool {
     let middle = name
         .strip_prefix(BEFORE)
@@ -17,7 +19,7 @@ pub(crate) fn is_scratch(name: &str) -> bool {
     }
 }
 
-/// Whether these are hexadecimal digits and dashes.
+/// Whether all of these are hexadecimal digits and dashes.
 fn are_digits(bytes: &[u8]) -> bool {
     bytes
         .iter()

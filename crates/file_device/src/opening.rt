@@ -1,4 +1,4 @@
-//! A device in a folder.
+//! Opens a device in a folder.
 ghost use Rattle.std.specs.Prelude.{◌≡◌, IfOk};
 ghost use Rattle.std.specs.FinMap.{empty};
 ghost use Rattle.file_device.specs.Devices.{state_in};
@@ -10,8 +10,10 @@ use std::random::RandomSource;
 use std::rt::Files;
 
 impl<R: Files<File = File> + AllocGlobal + RandomSource + Clone + Drop> FileDevice<FileDisk<R>> {
-    /// An empty device in scratch files in the folder, for this lane, whose number stands in their
-    /// names. Draws the keys of its digests. Each fault is as `FileDisk::open` says.
+    /// An empty device in scratch files in the folder, for the lane of this number.
+    ///
+    /// It draws the keys of the digests. If the system gives no random bytes for them, it returns `Io`
+    /// with `Step::Random`. All other errors are those of `FileDisk::open`.
     pub fn open(rt: R, folder: &str, lane: u32) -> Result<Self, DiskFault>
         ensures { IfOk result (λ device.
             state_in device ≡ record { contents = empty; failures = 0 }) }

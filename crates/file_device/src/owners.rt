@@ -1,4 +1,4 @@
-//! Which id each slot is for.
+//! Which id has each slot.
 ghost use Rattle.std.specs.Prelude.{◌≡◌, ◌≢◌, ◌≤◌, ◌<◌, ℕ, Some, OnOk, IfSome};
 ghost use Rattle.file_device.specs.Owners.{owner_in, count_in};
 ghost use Rattle.file_device.specs.declared.slot.Slot.{Slot};
@@ -22,7 +22,7 @@ impl Owners {
         }
     }
 
-    /// The id that has the slot, where one has.
+    /// The id that has the slot, if it is in use. If it is free, it may be any id or none.
     pub(crate) fn owner(&self, slot: Slot) -> Option<u64>
         requires { slot.class < 21 }
         ensures { result ≡ owner_in self.now.ledgers slot }
@@ -30,7 +30,7 @@ impl Owners {
         self.ledgers[slot.class as usize].entry(slot.number)
     }
 
-    /// How many numbers the class has.
+    /// How many numbers the class has, in use or free.
     pub(crate) fn count(&self, class: u8) -> usize
         requires { class < 21 }
         ensures { result ≡ count_in self.now.ledgers class }
@@ -38,14 +38,14 @@ impl Owners {
         self.ledgers[class as usize].count()
     }
 
-    /// Whether all numbers of the class came back.
+    /// Whether all numbers of the class are free.
     pub(crate) fn is_idle(&self, class: u8) -> bool
         requires { class < 21 }
     {
         self.ledgers[class as usize].is_idle()
     }
 
-    /// The number of the class to take next, and none where all are out.
+    /// The number of the class to take next. None if all are in use.
     pub(crate) fn next(&self, class: u8) -> Option<u32>
         requires { class < 21 }
         ensures { IfSome result (λ number. number ≤ count_in self.now.ledgers class) }
@@ -53,7 +53,7 @@ impl Owners {
         self.ledgers[class as usize].next()
     }
 
-    /// The slot goes out to the id.
+    /// Takes the slot for the id.
     pub(crate) fn take(&mut self, slot: Slot, id: u64) -> Result<(), AllocError>
         requires known { slot.class < 21 }
         requires next { slot.number ≤ count_in self.old.ledgers slot.class }
@@ -64,7 +64,7 @@ impl Owners {
         self.ledgers[slot.class as usize].take(slot.number, id)
     }
 
-    /// The slot comes back.
+    /// Frees the slot.
     pub(crate) fn give_back(&mut self, slot: Slot)
         requires { slot.class < 21 }
         ensures { (other : Slot) → other ≢ slot
@@ -73,7 +73,7 @@ impl Owners {
         self.ledgers[slot.class as usize].give_back(slot.number);
     }
 
-    /// No slot of the class is out any more.
+    /// Forgets all numbers of the class.
     pub(crate) fn clear(&mut self, class: u8)
         requires { class < 21 }
         ensures { (other : Slot) → other.class ≢ class

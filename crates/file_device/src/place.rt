@@ -1,4 +1,4 @@
-//! Where an object lies on a disk.
+//! Where an object is on a disk, and how its bytes are checked.
 ghost use Rattle.std.specs.Prelude.{◌≡◌, ◌≤◌, ◌<◌, ◌^◌, length};
 
 use crate::Slot;
@@ -7,14 +7,15 @@ use crate::digest::digest_of;
 use std::hash::RandomState;
 use std::snapshot::Snapshot;
 
-/// A slot's number, and length, digest and label of the object in it. The length says the class.
+/// A slot's number, and the length, the digest and the label of the object in it. The length determines
+/// the class.
 #[derive(Drop)]
 pub(crate) struct Place {
     pub(crate) number: u32,
     pub(crate) len: u32,
     pub(crate) digest: u64,
     pub(crate) label: Option<u32>,
-    // What was written, which takes no memory.
+    // What was written. Only proofs see it, and it takes no memory.
     pub(crate) written: Snapshot<Vec<u8>>,
     ghost short: { len ≤ 2 ^ 26 },
 }

@@ -1,17 +1,43 @@
 //! A disk in scratch files.
 //!
-//! # One file for each class that is used
+//! # Which files are made
 //!
-//! A slot of number n lies at n times the slot's size, so one system call reads or writes an object.
-//! A file is made once its class is used, and its name is removed at once: an open file goes on
-//! without a name, and is no more when the process is. So no scratch file is ever opened by its name,
-//! and to remove one harms nobody: neither a process that lives nor one that makes it just now, which
-//! then finds the name gone. Who opens a folder removes the names that it finds there, which a kill
-//! between both steps left.
+//! There is one file for each class of slots that was used, so at most 21 for each lane.
+//! `FileDisk::open` makes the file of class 0, and the first write to another class makes its file. So
+//! the folder is needed as long as the disk is used.
 //!
-//! # What a file gives
+//! A file is made as `fazhitta-TOKEN-LANE-CLASS.scratch`. TOKEN is 16 random hexadecimal digits. LANE
+//! and CLASS are the numbers of lane and class. Only the process's user may read and write it (mode
+//! 600). Its name is removed at once, and the open file goes on without a name. So a folder shows no
+//! file of a disk in use.
 //!
-//! No clause can say that a file gives what was written. A `FileDevice` finds out where it does not.
+//! Slot n is at n times the slot's size, so an object is usually read or written by one system call.
+//!
+//! # What is locked
+//!
+//! Nothing. A file is always made new, and none is opened by a name that exists. So several disks and
+//! several processes can use one folder. Each `FileDisk::open` removes all names of scratch files in
+//! its folder. That harms nobody: the file of another process stays open. A process that just made a
+//! file finds its name gone, and goes on.
+//!
+//! # After a kill
+//!
+//! When a process ends, also by a kill, the system frees its files without names. Their objects are
+//! lost, and their space on the disk is free. Only a kill between making a file and removing its name
+//! leaves a name. The next `FileDisk::open` in the folder removes it. If it may not, for example
+//! because the file is another user's, the name stays, and nothing depends on it.
+//!
+//! # A full disk
+//!
+//! A write that the system refuses returns `Io` with `Step::Write`. For example, the disk is full or
+//! the file is as long as the process may make it. A part of the bytes may be in the slot then. A file
+//! gets shorter only by `clear`, which cuts it to no bytes.
+//!
+//! # A damaged file
+//!
+//! No clause can say that a file returns what was written, so `HONEST` is false. A file that is too
+//! short is `Io` with `Step::Read`. A `FileDevice` finds changed bytes by their digest, and returns
+//! `Failed`.
 ghost use Rattle.std.specs.Prelude.{◌≡◌, ◌≤◌, ◌<◌, false, [], length, OnOk};
 
 use crate::class::CLASSES;
@@ -25,26 +51,34 @@ use std::random::RandomSource;
 use std::rt::Files;
 use std::{array, fs};
 
-/// The bits of a place within a slot of class 0.
+/// A slot of class 0 has 2 to this power of bytes.
 const SMALLEST_BITS: u32 = 6;
 
-/// A disk in scratch files without names, in a folder. They are far memory and no database: they live
-/// as long as the disk.
+/// A disk in scratch files without names, in a folder. The head of this module says what happens to
+/// them.
+///
+/// They are far memory, not a database: their bytes are lost when the disk is dropped or the process
+/// ends.
 #[derive(Drop)]
 pub struct FileDisk<R> {
     rt: R,
     alloc: Global,
-    // What the names of the files begin with, the folder first.
+    // The folder, and how the names of the files begin.
     stem: String,
     opened: [Option<File>; CLASSES],
-    // As long as the longest read so far, so that a read writes each byte once.
+    // A buffer as long as the longest read so far. It is kept, so that a read seldom has to zero it
+    // first.
     room: Vec<u8>,
 }
 
 impl<R: Files<File = File> + AllocGlobal + RandomSource + Clone + Drop> FileDisk<R> {
-    /// An empty disk in the folder, for this lane. Removes the names of scratch files there that
-    /// killed processes left, as far as it may. It opens the file of class 0 too, so that a folder that
-    /// can't be used is found here.
+    /// An empty disk in the folder, for the lane of this number.
+    ///
+    /// It removes the names of scratch files that killed processes left in the folder, as far as it
+    /// may. It makes the file of class 0 too, so that a folder that can't be used is found here.
+    ///
+    /// `Memory` if an allocation fails. `Io` if the system gives no random bytes (`Step::Random`), if a
+    /// file can't be made (`Step::Open`), or if its name can't be removed (`Step::Unlink`).
     pub fn open(rt: R, folder: &str, lane: u32) -> Result<Self, DiskFault> {
         let alloc = rt.alloc();
         remove_left(&rt, folder)?;
@@ -66,7 +100,8 @@ impl<R: Files<File = File> + AllocGlobal + RandomSource + Clone + Drop> FileDisk
 }
 
 impl<R: Files<File = File>> FileDisk<R> {
-    /// The bytes of all files together, those that were never written among them.
+    /// How long all files are together, in bytes. That includes parts that were never written. `Io`
+    /// with `Step::Read` if the system does not say how long one is.
     pub fn len(&self) -> Result<u64, DiskFault> {
         let mut sum = 0u64;
         for place in &self.opened {
@@ -80,7 +115,7 @@ impl<R: Files<File = File>> FileDisk<R> {
         Ok(sum)
     }
 
-    /// The file of the class, which is made where there is none.
+    /// The file of the class. It is made if there is none.
     fn file(&mut self, class: u8) -> Result<&File, DiskFault>
         requires { class < 21 }
     {
@@ -96,8 +131,9 @@ impl<R: Files<File = File>> FileDisk<R> {
     }
 }
 
-/// Removes the names of scratch files in the folder. What can't be listed or removed, as another
-/// user's, stays: nothing here depends on it.
+/// Removes the names of scratch files in the folder.
+///
+/// A name that can't be listed or removed stays, for example another user's. Nothing depends on it.
 fn remove_left<R>(rt: &R, folder: &str) -> Result<(), DiskFault>
 where
     R: Files + AllocGlobal + Clone + Drop,
@@ -119,7 +155,7 @@ where
     Ok(())
 }
 
-/// Of errors that nothing depends on, want of memory alone is a fault.
+/// Passes over an error that nothing depends on. Only a failed allocation is a fault.
 fn pass_over(kind: ErrorKind) -> Result<(), DiskFault> {
     if kind == ErrorKind::OutOfMemory {
         return Err(DiskFault::Memory);
@@ -127,7 +163,8 @@ fn pass_over(kind: ErrorKind) -> Result<(), DiskFault> {
     Ok(())
 }
 
-/// A new file of this name, which it has no more. Only the process's user may read it.
+/// Makes a file of this name, and removes the name. Only the process's user may read and write the
+/// file.
 fn open_unnamed<R: Files<File = File>>(rt: &R, name: &str) -> Result<File, DiskFault> {
     let opened = OpenOptions::new()
         .read(true)
@@ -146,14 +183,14 @@ fn open_unnamed<R: Files<File = File>>(rt: &R, name: &str) -> Result<File, DiskF
     }
 }
 
-/// Where the slot lies in the file of its class.
+/// Where the slot begins in the file of its class, in bytes.
 fn offset_of(slot: Slot) -> u64
     requires { slot.class < 21 }
 {
     u64::from(slot.number) << (SMALLEST_BITS + u32::from(slot.class))
 }
 
-/// Makes the room so long at least.
+/// Makes the buffer at least this long.
 fn grow(room: &mut Vec<u8>, count: usize) -> Result<(), DiskFault>
     ensures { OnOk result (count ≤ length room.new.items) }
 {

@@ -1,10 +1,10 @@
-//! A place of a disk for one object.
+//! A slot of a disk, with room for one object.
 ghost use Rattle.std.specs.Prelude.{◌≡◌, ◌<◌, ◌*◌, ◌^◌};
 
 use crate::class::SMALLEST;
 
-/// A slot of a disk. The classes are 0 to 20, and a slot of class c has 64 << c bytes, so 64 B to
-/// 64 MiB. Within a class the slots are numbered from 0.
+/// A slot of a disk. The classes are 0 to 20, and a slot of class c has 64 << c bytes: from 64 B to 64
+/// MiB. The slots of a class are numbered from 0.
 #[derive(Clone, Copy, Debug, PartialEq, Eq)]
 pub struct Slot {
     pub class: u8,
@@ -12,7 +12,7 @@ pub struct Slot {
 }
 
 impl Slot {
-    /// How many bytes it has.
+    /// How many bytes the slot has.
     pub fn bytes(self) -> u64
         requires { self.class < 21 }
         ensures { result ≡ 64 * 2 ^ self.class }

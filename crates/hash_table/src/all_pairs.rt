@@ -1,4 +1,4 @@
-//! The pairs of all buckets, read at the end of a table: by one caller, or by several side by side.
+//! The pairs of all buckets, read at the end of a table by one caller, or by several at once.
 ghost use Rattle.std.specs.Prelude.{◌≡◌, ◌+◌, ◌++◌, ◌<◌, ◌≤◌, [], IsTrue, IfOk, IfErr, OnOk, List, length};
 ghost use Rattle.std.specs.Thread.{IsSync, IsSend};
 ghost use mathlib.Core.List.{IsPrefix};
@@ -24,10 +24,11 @@ use std::sync::Wait;
 use std::thread::{Threads, join_mut};
 use version_words::{Mark, Naming, empty_holds};
 
-/// So many buckets at most are read by one caller alone: fewer are not worth a thread.
+/// Up to this many buckets are read by one caller, because they are not worth a thread.
 pub(crate) const PART: u32 = 16_384;
 
-// How many buckets the first of some callers reads of so many, where there are at most four parts.
+// How many of `count` buckets the first caller reads. Up to 65,536 buckets are divided into four parts at
+// most.
 fn first_part(count: u32, callers: usize) -> u32
     requires { 1 < count }
     ensures { (0 < result) × (result < count) }
@@ -41,22 +42,22 @@ fn first_part(count: u32, callers: usize) -> u32
     }
 }
 
-/// What pairs are put into, those of one bucket behind those of another.
+/// A collection of pairs, bucket after bucket.
 pub(crate) trait Gathering<K: FarObject, V: FarObject>: Drop {
     ghost use Rattle.std.specs.Prelude.{List};
 
     ghost gathered: { Self → List (K × V) };
 
-    /// No pairs. It takes no memory.
+    /// No pairs. It allocates nothing.
     fn none(alloc: Global) -> Self
         ensures { gathered result ≡ [] };
 
-    /// Puts the object's pairs behind the others.
+    /// Adds the object's pairs after the others.
     fn add(&mut self, object: &Object<K, V>) -> Result<(), Memory>
         ensures { OnOk result (gathered self.new ≡ gathered self.old ++ object.now) };
 }
 
-/// Keys and values of their own.
+/// Decoded keys and values.
 impl<K: FarObject, V: FarObject> Gathering<K, V> for Vec<(K, V)> {
     ghost gathered = { λ pairs. pairs.items };
 
@@ -85,7 +86,7 @@ impl<K: FarObject, V: FarObject> Gathering<K, V> for Bundle<K, V> {
 }
 
 impl<K: FarObject, V: FarObject, J: Naming, D: Device> FarTable<K, V, J, D> {
-    // Puts the pairs of a bucket, read by one try, behind those that were gathered.
+    // Adds the pairs of a bucket, read by one try, after those that were collected.
     pub(crate) fn gather_bucket<R: Wait, G: Gathering<K, V>>(
         &self,
         rt: &R,
@@ -135,8 +136,8 @@ impl<K: FarObject, V: FarObject, J: Naming, D: Device> FarTable<K, V, J, D> {
         }
     }
 
-    // The pairs of so many buckets from this one on, one bucket behind the other, behind a mark. At each later log that has
-    // the mark's history they are its map's.
+    // The pairs of `count` buckets from this one on, bucket after bucket, read by a caller that has seen the
+    // mark. In each later log that has the mark's history, they are its map's.
     fn gather_range<R: Wait, G: Gathering<K, V>>(
         &self,
         rt: &R,
@@ -188,7 +189,7 @@ impl<K: FarObject, V: FarObject, J: Naming, D: Device> FarTable<K, V, J, D> {
         }
     }
 
-    // The same in key order, as the one bundle of a list.
+    // The same in key order, as the only bundle of a list.
     fn bundle_by_first<R: Wait>(
         &self,
         rt: &R,
@@ -230,9 +231,9 @@ where
     J: Naming + Send + Sync,
     D: Device + Send,
 {
-    // As `bundle_by_first`, by a caller for each part: the bundles of the parts, in the order of the buckets. This thread
-    // starts those of all parts but the last, which it reads itself: one that a new thread starts may have to wait for that
-    // thread's processor, where another has nothing to do.
+    // As `bundle_by_first`, by one caller for each part. The bundles are in the order of the buckets. This
+    // thread starts a thread for each part except the last, which it reads itself. A thread that a new thread
+    // starts might wait for that thread's processor while another one is idle.
     #[cycle(parts)]
     pub(crate) fn read_parts<R: Threads + Wait + Sync>(
         &self,
@@ -260,7 +261,8 @@ where
         self.read_both(rt, alloc, own, others, mark, from, near, rest)
     }
 
-    // The pairs of the first so many buckets and of those behind them, read by these callers and those.
+    // The pairs of `half` buckets from this one on, read by the callers `own`, and of the `rest` after them,
+    // read by `others`.
     #[cycle(parts)]
     fn read_both<R: Threads + Wait + Sync>(
         &self,

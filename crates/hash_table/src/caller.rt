@@ -1,4 +1,4 @@
-//! Who calls the table.
+//! A caller of the table: an identity, and what its calls left.
 ghost use Rattle.std.specs.Prelude.{◌≡◌, ◌≤◌, [], ◌∷◌, length, MatchOption, MatchResult};
 ghost use Rattle.table_core.specs.Lawful.{IsLawful};
 ghost use Rattle.hash_table.specs.Calls.{most_spares};
@@ -8,17 +8,30 @@ use crate::traffic::Traffic;
 use far_object::{Buffers, FarObject};
 use version_words::{Mark, Naming, Pass, PassHolder, Spare, Words};
 
-/// A pass, and the spares that its calls left. Contracts see the pass, and the list of the spares from the oldest on.
+/// A thread's handle for calls on a table. `FarTable::enter` returns it.
+///
+/// It holds:
+///
+/// - a pass: the caller's identity, with the count of its calls
+/// - a limbo: the list of its spares, at most 64. A spare is a retired word, which a call of this caller
+///   replaced or gave up.
+/// - counts of what its calls did and, after `recycle`, a frame and memory for its next objects
+///
+/// Hand the spares to `FarTable::reclaim` or to an evictor: while 64 wait, changes are refused. A spare may
+/// be dropped, but then the memory that it points to is not freed before the table ends.
+///
+/// Keep the caller until the table ends, because `FarTable::close` needs all callers. Contracts see the pass,
+/// and the list of the spares from the oldest on.
 #[derive(Drop)]
 pub struct Caller<K: FarObject, V: FarObject, J: Naming> {
     pub(crate) pass: Pass<K, V, J>,
     pub(crate) limbo: Limbo<K, V, J>,
-    // Of versions that it reclaimed while it recycles: its changes build their objects in these.
+    // Memory of versions that it reclaimed while it recycles. Its changes build their objects there.
     pub(crate) buffers: Buffers,
 }
 
 impl<K: FarObject, V: FarObject, J: Naming> Caller<K, V, J> {
-    /// A mark of what it has seen.
+    /// A mark of what it has seen: evidence that other callers can learn by `FarTable::learn`.
     pub fn mark(&self) -> Mark<K, V, J>
         ensures front { result ≡ self.now.pass.front }
         ensures lawful { IsLawful K.enc V.enc J.limits result }
@@ -34,12 +47,12 @@ impl<K: FarObject, V: FarObject, J: Naming> Caller<K, V, J> {
         self.limbo.len()
     }
 
-    /// What its calls did since it entered. Nothing is claimed of it.
+    /// Counts of what its calls did since it entered. They are hints: no contract says anything about them.
     pub fn traffic(&self) -> Traffic {
         self.limbo.traffic()
     }
 
-    /// Takes out the oldest spare; none only where none waits.
+    /// Takes out the oldest spare. None if none waits.
     pub fn take_spare(&mut self) -> Option<Spare<K, V, J>>
         ensures limbo { MatchOption result ((self.old.limbo ≡ []) × (self.new.limbo ≡ [])) (λ s. self.old.limbo ≡ s ∷ self.new.limbo) }
         ensures pass { self.new.pass ≡ self.old.pass }
@@ -47,7 +60,7 @@ impl<K: FarObject, V: FarObject, J: Naming> Caller<K, V, J> {
         self.limbo.take()
     }
 
-    /// Puts a spare back as the oldest. It is handed back only where 64 wait.
+    /// Puts a spare back as the oldest. If 64 wait, the spare is returned as the error.
     pub fn return_spare(&mut self, spare: Spare<K, V, J>) -> Result<(), Spare<K, V, J>>
         ensures limbo { MatchResult result (λ _. self.new.limbo ≡ spare ∷ self.old.limbo)
             (λ s. (s ≡ spare) × (self.new.limbo ≡ self.old.limbo) × (length self.old.limbo ≡ most_spares)) }

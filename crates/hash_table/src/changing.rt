@@ -1,4 +1,7 @@
 //! Changes: put, remove and put_if.
+//!
+//! A change installs the bucket's new object under a new name (a version number). The word that it replaces
+//! becomes a spare (a retired word) in the caller's limbo (the list of its retired words).
 ghost use Rattle.std.specs.Prelude.{IfOk, IfErr, length};
 ghost use mathlib.Core.List.{IsPrefix};
 ghost use Rattle.far_object.specs.Buckets.{bucket};
@@ -25,7 +28,7 @@ use table_core::Operation;
 use version_words::Naming;
 
 impl<K: FarObject, V: FarObject, J: Naming, D: Device> FarTable<K, V, J, D> {
-    /// One try of a change, from a frame.
+    /// One try of a change of a bucket that is empty or in a frame.
     fn try_change<'a>(
         &self,
         alloc: Global,
@@ -72,11 +75,12 @@ impl<K: FarObject, V: FarObject, J: Naming, D: Device> FarTable<K, V, J, D> {
         }
     }
 
-    /// One round of an operation, wherever its bucket's contents lie: a put, remove or put_if goes on by these until one is finished.
-    /// A get reads a far bucket through.
+    /// One round of an operation, wherever its bucket's object is. `put`, `remove` and `put_if` make rounds
+    /// until one is finished. A get reads a far object, which stays on its device.
     ///
-    /// `Again` where another round may finish it: the frame or the lane did not give the version, or the bucket's word is another
-    /// one by now; it leaves one spare at most, of the name that the round drew. It is refused as `put` is, and leaves no spare then.
+    /// It returns `Again` if another round may finish the operation, that is, after what a single try reports
+    /// as `Missed` or `Moved`. Such a round leaves one spare at most, of the name that it drew. It is refused
+    /// as `put` is, and leaves no spare then.
     pub fn change_round<'a, R: Wait>(
         &self,
         rt: &R,
@@ -134,7 +138,7 @@ impl<K: FarObject, V: FarObject, J: Naming, D: Device> FarTable<K, V, J, D> {
         }
     }
 
-    // A change that goes on until it is done.
+    // A change that repeats until it is done.
     fn change<'a, R: Wait>(
         &self,
         rt: &R,
@@ -162,16 +166,24 @@ impl<K: FarObject, V: FarObject, J: Naming, D: Device> FarTable<K, V, J, D> {
         unreachable!()
     }
 
-    /// One try of a put, over a frame.
+    /// Tries once to set a key to a value, if its bucket is empty or in a frame. It returns the value before,
+    /// or none, and waits for nobody.
     ///
-    /// `LimboFull` comes before all; `Far` where the bucket's object lies on the device, `Missed` where the frame does not give
-    /// the version, `Memory` where a growth is refused, `TooLong` where the new object would be longer than the limit,
-    /// `NoFrame` where no frame was free, `NamesSpent` where the last name was drawn, `Moved`
-    /// where another name was drawn at that moment or the bucket's word is another one at the end.
+    /// After Ok the new object is in the frame that the bucket's word names, and the word that it replaced is
+    /// the newest spare, if it had an object. A refused try has made no call and leaves the bucket as it was.
+    /// `Moved` may leave one spare more, of the name that this try drew. No other refusal leaves one.
     ///
-    /// After Ok the object lies in the frame that its word names, and the word that it replaced is the newest spare. A refused
-    /// try has made no call and leaves the bucket as it stood; `Moved` may leave one spare more, of the name that this call drew,
-    /// and any other refusal leaves none.
+    /// Errors, in the order in which the try looks for them:
+    ///
+    /// - `LimboFull` if 64 spares wait in the caller
+    /// - `Far` if the bucket's object is on the device
+    /// - `Missed` if the frame does not return the version, for the reasons that `try_get` lists
+    /// - `Memory` if an allocation fails, or if the bucket has as many pairs as an object can count
+    ///   (`Refusal::Memory`)
+    /// - `TooLong` if the new object would be longer than the limit
+    /// - `NoFrame` if no frame was free
+    /// - `NamesSpent` if the last name was drawn
+    /// - `Moved` if another name was drawn at that moment, or if the bucket's word is another one at the end
     pub fn try_put(
         &self,
         alloc: Global,
@@ -192,10 +204,11 @@ impl<K: FarObject, V: FarObject, J: Naming, D: Device> FarTable<K, V, J, D> {
         self.try_change(alloc, caller, &Operation::Put(key, value))
     }
 
-    /// One try of a removal, over a frame.
+    /// Tries once to remove a key, if its bucket is empty or in a frame. It returns the value that the key
+    /// had, or none, and waits for nobody.
     ///
-    /// Its refusals are those of `try_put` but `TooLong`, and leave the same. Where the key is not there no frame and no name is
-    /// looked for, and where no pair is left no frame.
+    /// Its refusals are those of `try_put` except `TooLong`, and leave the same. If the key is not there, it
+    /// needs no frame and no name. If no pair is left, it needs no frame, and `Moved` leaves no spare.
     pub fn try_remove(
         &self,
         alloc: Global,
@@ -215,10 +228,14 @@ impl<K: FarObject, V: FarObject, J: Naming, D: Device> FarTable<K, V, J, D> {
         self.try_change(alloc, caller, &Operation::Remove(key))
     }
 
-    /// One try of a put where the key's value is the expected one, over a frame.
+    /// Tries once to set a key to `value`, if the key's value is `expected` and its bucket is empty or in a
+    /// frame. An `expected` of `None` means that the key has no value. It waits for nobody.
     ///
-    /// Its refusals are those of `try_put`, and leave the same. Where the value is not the expected one nothing is made, so that
-    /// `TooLong`, `NoFrame` and `NamesSpent` don't come.
+    /// It returns the value before. The key was set exactly if that is the expected one; values are compared
+    /// by their encodings.
+    ///
+    /// Its refusals are those of `try_put`, and leave the same. If the value is not the expected one, no
+    /// object is made. So `TooLong`, `NoFrame` and `NamesSpent` are not returned then.
     pub fn try_put_if(
         &self,
         alloc: Global,
@@ -240,12 +257,18 @@ impl<K: FarObject, V: FarObject, J: Naming, D: Device> FarTable<K, V, J, D> {
         self.try_change(alloc, caller, &Operation::PutIf(key, expected, value))
     }
 
-    /// A put that goes on until it is done: it repeats while it is moved or missed, and reads a far bucket through.
+    /// Sets a key to a value, and returns the value before, or none. It repeats while a try is refused with
+    /// `Moved` or `Missed`, and reads a far bucket's object from the device.
     ///
-    /// `LimboFull`, `Memory`, `TooLong`, `NoFrame` and `NamesSpent` come as at `try_put`; `Device` where the device fails,
-    /// `Damaged` where what it gives is no object of this bucket and name. A refused put has made no call and leaves the bucket as
-    /// it stood. Names that were drawn in vain leave their spares, whatever is answered; after Ok the word that was replaced is
-    /// behind them.
+    /// A refused put has made no call and leaves the bucket as it was. Names that were drawn in vain leave
+    /// their spares, whatever is returned. After Ok the word that was replaced is the newest spare, after
+    /// these, if it had an object.
+    ///
+    /// Errors:
+    ///
+    /// - `LimboFull`, `Memory`, `TooLong`, `NoFrame` and `NamesSpent` as `try_put` returns them
+    /// - `Device` if the device fails
+    /// - `Damaged` if what the device returns is no object of this bucket and name
     pub fn put<R: Wait>(
         &self,
         rt: &R,
@@ -267,7 +290,8 @@ impl<K: FarObject, V: FarObject, J: Naming, D: Device> FarTable<K, V, J, D> {
         self.change(rt, alloc, caller, &Operation::Put(key, value))
     }
 
-    /// A removal that goes on until it is done, as `put` does, with its refusals but `TooLong` and what they leave.
+    /// Removes a key, and returns the value that it had, or none. It repeats until it is done, as `put` does.
+    /// Its refusals are those of `put` except `TooLong`, and leave the same.
     pub fn remove<R: Wait>(
         &self,
         rt: &R,
@@ -288,7 +312,8 @@ impl<K: FarObject, V: FarObject, J: Naming, D: Device> FarTable<K, V, J, D> {
         self.change(rt, alloc, caller, &Operation::Remove(key))
     }
 
-    /// A put_if that goes on until it is done, as `put` does, with its refusals and what they leave.
+    /// Sets a key to `value` if the key's value is `expected`, and returns the value before, as `try_put_if`
+    /// does. It repeats until it is done, as `put` does. Its refusals are those of `put`, and leave the same.
     pub fn put_if<R: Wait>(
         &self,
         rt: &R,

@@ -1,10 +1,13 @@
-//! The end of a table: all passes are handed in, and all pairs come out.
+//! The end of a table: all passes are handed in, and all pairs are returned.
 //!
 //! # Why one look at each bucket is enough
 //!
-//! The passes are gathered before any bucket is read, and once more behind the last. Each pass has the same calls at both
-//! fronts, since nobody could make one in between, and no other pass was drawn. So the history is the same at both, though
-//! moves may stand between; and what each look tells of its bucket is so of the map of that history.
+//! A pass is a caller's identity, and its front is the prefix of the log that it has seen. The passes are
+//! brought to one front before any bucket is read, and again after the last. Each pass has the same calls at
+//! both fronts, because nobody could make one in between. No other pass was drawn.
+//!
+//! So the history is the same at both, although moves may be between them. What a look finds in a bucket is
+//! what the map of that history has there.
 ghost use Rattle.std.specs.Prelude.{◌≡◌, ◌<◌, ℕ, IsTrue, IfOk, IfErr, length, vec_len};
 ghost use Rattle.std.specs.List.Sorted.{IsPermutation, IsSortedBy};
 ghost use Rattle.std.specs.Ordering.{is_lt};
@@ -30,15 +33,16 @@ use version_words::{GatherFault, Mark, Naming, same_history};
 /// Why a table was not closed.
 #[derive(Drop)]
 pub enum CloseFault<K: FarObject, V: FarObject, J: Naming> {
-    /// At the mark's front more passes were drawn than callers are handed in.
+    /// More passes (callers' identities) were drawn than callers are handed in, as the mark shows.
     PassMissing(Mark<K, V, J>),
-    /// A growth of memory was refused.
+    /// An allocation failed.
     Memory,
     /// The device failed in this call.
     Device,
-    /// The bytes that were read are no object of their bucket and name.
+    /// The bytes that were read are no object of their bucket and name (version number). It is never returned
+    /// over an honest device.
     Damaged,
-    /// A frame or a lane did not give the name. Another try may find it.
+    /// A frame or a lane did not return the version that a word names. Another try may find it.
     Missed,
 }
 
@@ -68,7 +72,7 @@ impl<K: FarObject, V: FarObject, J: Naming> Display for CloseFault<K, V, J> {
 
 impl<K: FarObject, V: FarObject, J: Naming> error::Error for CloseFault<K, V, J> {}
 
-// The fault of a bucket that was not read.
+// The fault of a bucket that could not be read.
 pub(crate) fn unread<K: FarObject, V: FarObject, J: Naming>(refusal: Refusal) -> CloseFault<K, V, J>
     requires { IsUnreadFar J.limits.honest refusal }
     ensures { (n : ℕ) → IsCloseFault K.enc V.enc J.limits n result }
@@ -91,11 +95,15 @@ fn sorted<K: FarObject, V: FarObject>(mut pairs: Vec<(K, V)>) -> Vec<(K, V)>
 }
 
 impl<K: FarObject, V: FarObject, J: Naming, D: Device> FarTable<K, V, J, D> {
-    /// All passes at one front, where the callers are all that there are: it has just the calls that each of them made. It waits for
-    /// nothing and reads no bucket.
+    /// Brings all passes to one front (a prefix of the log), and returns its mark. `callers` has to be all
+    /// callers of the table. At that front the log has exactly the calls that they made.
     ///
-    /// `PassMissing` comes where a pass was drawn whose caller is not handed in, and `Memory` where the room for a number for each
-    /// pass is refused. The callers have made no call on every answer.
+    /// It waits for nobody and reads no bucket. Whatever is returned, the callers have made no further call.
+    ///
+    /// Errors:
+    ///
+    /// - `PassMissing` if a pass was drawn whose caller is not handed in
+    /// - `Memory` if the room for a number for each pass can't be allocated
     pub fn gather(
         &self,
         alloc: Global,
@@ -113,7 +121,7 @@ impl<K: FarObject, V: FarObject, J: Naming, D: Device> FarTable<K, V, J, D> {
         }
     }
 
-    // All pairs in any order, where the callers are all that there are.
+    // All pairs in any order. `callers` has to be all callers of the table.
     fn close_callers<R: Wait>(
         &self,
         rt: &R,
@@ -144,12 +152,18 @@ impl<K: FarObject, V: FarObject, J: Naming, D: Device> FarTable<K, V, J, D> {
         }
     }
 
-    /// Ends the table, where all callers are handed in, and gives all pairs in key order.
+    /// Ends the table, and returns all pairs in key order. `callers` has to be all callers of the table.
     ///
-    /// `PassMissing` comes before any bucket is read, where a pass was drawn whose caller is not handed in. Then the first
-    /// fault in the order of the buckets: `Memory` where a growth is refused, `Device` where the device fails, `Damaged`
-    /// where what it gives is no object of its bucket and name, `Missed` where a frame or a lane doesn't give a name. The
-    /// table and the callers come back then.
+    /// Errors, with which the table and the callers are returned:
+    ///
+    /// - `PassMissing` if a pass was drawn whose caller is not handed in. It is returned before any bucket is
+    ///   read.
+    /// - `Memory` if an allocation fails
+    /// - `Device` if the device fails
+    /// - `Damaged` if what the device returns is no object of its bucket and name (version number)
+    /// - `Missed` if a frame or a lane does not return the version that a word names
+    ///
+    /// Of several buckets' faults the first one in the order of the buckets is returned.
     pub fn close<R: Wait>(
         self,
         rt: &R,
@@ -182,7 +196,7 @@ where
     J: Naming + Send + Sync,
     D: Device + Send,
 {
-    // The same, where the callers read side by side.
+    // The same, read by several threads at once.
     fn close_callers_on_threads<R: Threads + Wait + Sync>(
         &self,
         rt: &R,
@@ -213,8 +227,14 @@ where
         }
     }
 
-    /// As `close`, for a large table: by as many threads as can be started, and at most four, where it has more than 16,384
-    /// buckets. The pairs come as they are written, in no order: `far_pairs::in_key_order` lends them in key order. The table is
+    /// As `close`, for a large table: it reads with several threads, and returns the pairs as they are
+    /// written.
+    ///
+    /// If there are more than 16,384 buckets, the callers share them, each on a thread. At most four threads
+    /// read up to 65,536 buckets, and at most as many as callers read more. If a thread can't be started, the
+    /// one that should start it reads its part.
+    ///
+    /// No order of the pairs is promised: `far_pairs::in_key_order` lends them in key order. The table is
     /// dropped in this call, each object by itself, which takes a while. Its faults are those of `close`.
     pub fn close_on_threads<R: Threads + Wait + Sync>(
         self,

@@ -2,8 +2,8 @@
 //!
 //! # Two widths
 //!
-//! The fields are the same for every table, and so are their numbers and the order in which they are looked at. A wide table
-//! may have more buckets, more frames and longer objects; all other limits are the same.
+//! A wide table may have more buckets, more frames and longer objects. All other limits are the same for
+//! every table. So are the fields, their numbers, and the order in which they are checked.
 ghost use Rattle.std.specs.Prelude.{◌≡◌, position};
 ghost use Rattle.hash_table.specs.Configs.{is_outside};
 
@@ -13,29 +13,35 @@ use table_core::{LAST_NAME, LAST_PASS, MOST_BUCKETS};
 /// The number of the field `lanes`.
 const LANES: u32 = 6;
 
-/// The settings of a table. `first_bad` says what each may be, and `first_bad_wide` what it may be in a wide table. Each field's
-/// number is the one that a fault names.
+/// The settings of a table.
+///
+/// Each field has a number, from 1, by which `OpenFault::BadConfig` reports it. `first_bad` returns the first
+/// field that is outside its limits, and `first_bad_wide` does so for a wide table.
 #[derive(Clone, Copy, Debug, PartialEq, Eq)]
 pub struct Config {
-    /// 1: buckets, 1 to 65,536, in a wide table to 2^22.
+    /// 1: the number of buckets, 1 to 65,536, or to 2^22 in a wide table. It can't be changed later.
     pub buckets: u32,
-    /// 2: local frames, each for one object, 1 to 65,536, in a wide table to 2^22.
+    /// 2: the number of frames, local slots for one object each, 1 to 65,536, or to 2^22 in a wide table.
     pub frames: u32,
-    /// 3: the most bytes of an object, 4 to 1,048,576, in a wide table to 2^24.
+    /// 3: the most bytes of an object, 4 to 1,048,576, or to 2^24 in a wide table. They are 4 bytes for the
+    /// count of a bucket's pairs, and the pairs. The header of format 2 is not counted.
     pub limit: u32,
-    /// 4: names that may be drawn, 1 to 2^40 - 1.
+    /// 4: how many names (version numbers) may be drawn, 1 to 2^40 - 1. Each change, swap-out and swap-in
+    /// draws one, and none is used again.
     pub names: u64,
-    /// 5: passes that may be drawn, 1 to 65,535.
+    /// 5: how many passes (callers' identities) may be drawn, 1 to 65,535. Each caller takes one for good.
     pub passes: u32,
-    /// 6: lanes, each a device of its own, 1 to 64.
+    /// 6: the number of lanes, 1 to 64. Each is one device with its lock.
     pub lanes: u32,
-    /// 7: spares that the queue to the evictor holds, 1 to 4,096.
+    /// 7: how many spares (retired words) the queue to the evictor holds, 1 to 4,096. The table only checks
+    /// it; `far_map` opens the queue.
     pub spares: u32,
-    /// 8: the format of an object that is written to a device, 1 or 2.
+    /// 8: the format of an object that is written to a device, 1 or 2. Format 2 adds a header of 16 bytes
+    /// with the bucket and the name, which a read checks.
     pub format: u32,
 }
 
-/// The greatest values of the settings that tell how wide a table is.
+/// The upper limits that differ between a usual and a wide table.
 #[derive(Clone, Copy)]
 struct Width {
     buckets: u32,
@@ -55,7 +61,7 @@ const WIDE: Width = Width {
     limit: 16_777_216,
 };
 
-/// A field's value with the least and the greatest that it may have.
+/// A field's value, with the least and the greatest value that it may have.
 #[derive(Clone, Copy)]
 struct Field {
     least: u64,
@@ -83,7 +89,7 @@ fn bounded(least: u64, greatest: u64, value: u64) -> Field
     }
 }
 
-/// The place of the first field that is outside its limits.
+/// The index of the first field that is outside its limits.
 fn first_outside(fields: &[Field]) -> Option<usize>
     ensures { result ≡ position is_outside fields.now }
 {
@@ -119,7 +125,7 @@ impl Config {
         }
     }
 
-    /// The first bad field where so many devices are handed in: the lanes are bad where they are not just as many.
+    /// The first bad field if this many devices are handed in. The lanes are bad if there are not as many.
     fn or_lanes(&self, first: Option<u32>, devices: usize) -> Option<u32>
         ensures { result ≡ or_lanes first (self.now.lanes == devices) }
     {
@@ -132,29 +138,29 @@ impl Config {
         }
     }
 
-    /// The number of the first field that is outside its limits, counted from 1.
+    /// The number of the first field that is outside its limits, counted from 1. None if all are within.
     pub fn first_bad(&self) -> Option<u32>
         ensures { result ≡ first_bad self.now }
     {
         self.first_bad_of(USUAL)
     }
 
-    /// The same, where so many devices are handed in: there have to be just as many lanes.
+    /// As `first_bad`, and the field `lanes` is bad too if it is not the number of devices.
     pub fn first_bad_with(&self, devices: usize) -> Option<u32>
         ensures { result ≡ first_bad_with devices self.now }
     {
         self.or_lanes(self.first_bad(), devices)
     }
 
-    /// The number of the first field that is outside the limits of a wide table, counted from 1.
+    /// As `first_bad`, by the limits of a wide table.
     pub fn first_bad_wide(&self) -> Option<u32>
         ensures { result ≡ first_bad_wide self.now }
     {
         self.first_bad_of(WIDE)
     }
 
-    /// The same, where so many devices are handed in: there have to be just as many lanes. What a usual table may have a wide one
-    /// may have too.
+    /// As `first_bad_wide`, and the field `lanes` is bad too if it is not the number of devices. Settings
+    /// that a usual table may have, a wide one may have too.
     pub fn first_bad_wide_with(&self, devices: usize) -> Option<u32>
         ensures is { result ≡ first_bad_wide_with devices self.now }
         ensures usual { first_bad_with devices self.now ≡ None → result ≡ None }

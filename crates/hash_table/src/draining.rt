@@ -1,15 +1,17 @@
-//! The end of a table whose pairs go into another one: they are handed over bucket by bucket, and each bucket's object is let go
-//! once they were. `closing.rt` says why one look at each bucket is enough.
+//! The end of a table whose pairs go into another one. They are handed over bucket by bucket, and each
+//! bucket's object is freed afterwards. `closing.rt` explains why one look at each bucket is enough.
 //!
-//! # What can't be read is passed over
+//! # What can't be read is skipped
 //!
-//! A table that is closed comes back after a fault, and can be closed again. One that is drained is gone in any case, since what was
-//! handed over lies in it no more. So a bucket that can't be read is passed over and counted, and the others are handed over.
+//! A table that could not be closed is returned, and can be closed again. A table that is drained is gone in
+//! any case, because what was handed over is no longer in it. So a bucket that can't be read is skipped and
+//! counted, and the others are handed over.
 //!
 //! # Memory
 //!
-//! An object in a frame is dropped from there once its pairs are handed over, so that at most one object lies twice in memory, and an
-//! object on a device is removed there once its pairs lie elsewhere. Only an exclusive owner of the table can do so.
+//! An object in a frame is dropped once its pairs are handed over, so that at most one object is in memory
+//! twice. An object on a device is removed there once its pairs are stored elsewhere. Only an exclusive owner
+//! of the table can do so.
 ghost use Rattle.std.specs.Prelude.{◌≡◌, ◌<◌, IfOk, IfErr, OnOk, OnErr, length, vec_len};
 ghost use mathlib.Core.List.{IsPrefix};
 ghost use Rattle.table_core.specs.BucketWords.{name_of};
@@ -34,11 +36,12 @@ use version_words::{Mark, Naming, Pass, empty_holds, same_history};
 /// What is left of a table that was drained.
 #[derive(Drop)]
 pub struct Drained<D> {
-    /// The devices of the lanes, in their order. They may hold objects yet: a table that is opened over them makes them empty.
+    /// The devices of the lanes, in their order. They may still hold objects: a table that is opened over
+    /// them makes them empty.
     pub devices: Vec<D>,
-    /// How many buckets were passed over, since they could not be read or added. A count of 2^64 - 1 stays.
+    /// How many buckets were skipped because they could not be read or added. A count of 2^64 - 1 stays.
     pub lost: u64,
-    /// How many of the buckets that were handed over lay on a device. No clause says so.
+    /// How many of the buckets that were handed over were on a device. No clause states it.
     pub far: u64,
 }
 
@@ -46,7 +49,7 @@ pub struct Drained<D> {
 #[derive(Clone, Copy, Debug, PartialEq, Eq)]
 struct PassedOver;
 
-// How many buckets were passed over, and how many of the others lay on a device.
+// How many buckets were skipped, and how many of the others were on a device.
 #[derive(Clone, Copy, Debug, PartialEq, Eq)]
 struct Counts {
     lost: u64,
@@ -54,13 +57,13 @@ struct Counts {
 }
 
 impl<K: FarObject, V: FarObject, J: Naming, D: Device> FarTable<K, V, J, D> {
-    /// How many names may still be drawn, at a moment of the call: a hint, of which no clause says anything. Once there are none, every
-    /// change is refused.
+    /// How many names (version numbers) may still be drawn, at a moment of the call. It is a hint: no clause
+    /// says anything about it. Once there are none, each call that needs a name is refused with `NamesSpent`.
     pub fn names_left(&self) -> u64 {
         self.words.names_left()
     }
 
-    // Hands over the pairs of a bucket from its frame, which is empty then.
+    // Hands over the pairs of a bucket from its frame, which is empty afterwards.
     fn drain_frame(
         &mut self,
         pass: &Pass<K, V, J>,
@@ -88,7 +91,7 @@ impl<K: FarObject, V: FarObject, J: Naming, D: Device> FarTable<K, V, J, D> {
         }
     }
 
-    // Hands over the pairs of a bucket from its device, which has them no more then, as far as it does not fail.
+    // Hands over the pairs of a bucket from its device, and removes them there unless the device fails.
     fn drain_device<R: Wait>(
         &mut self,
         rt: &R,
@@ -115,7 +118,7 @@ impl<K: FarObject, V: FarObject, J: Naming, D: Device> FarTable<K, V, J, D> {
         }
     }
 
-    // Hands over the pairs of a bucket, read by one try, and tells where they lay.
+    // Hands over the pairs of a bucket, read by one try, and returns where they were.
     fn drain_bucket<R: Wait>(
         &mut self,
         rt: &R,
@@ -150,7 +153,8 @@ impl<K: FarObject, V: FarObject, J: Naming, D: Device> FarTable<K, V, J, D> {
         }
     }
 
-    // Hands over the pairs of all buckets, behind a mark. At each later log that has the mark's history they are its map's.
+    // Hands over the pairs of all buckets, by a caller that has seen the mark. In each later log that has the
+    // mark's history, they are its map's.
     fn drain_buckets<R: Wait>(
         &mut self,
         rt: &R,
@@ -196,7 +200,7 @@ impl<K: FarObject, V: FarObject, J: Naming, D: Device> FarTable<K, V, J, D> {
         self.drain_buckets(rt, alloc, &mut callers[0], mark, rest)
     }
 
-    // Hands over all pairs, where the callers are all that there are.
+    // Hands over all pairs. `callers` has to be all callers of the table.
     fn drain_callers<R: Wait>(
         &mut self,
         rt: &R,
@@ -224,14 +228,18 @@ impl<K: FarObject, V: FarObject, J: Naming, D: Device> FarTable<K, V, J, D> {
         }
     }
 
-    /// Ends the table, where all callers are handed in, and hands over its pairs, those of each bucket once. What lay in a frame goes
-    /// into memory again, and what lay on a device is read and goes to the device of the handover.
+    /// Ends the table, and hands over its pairs, those of each bucket once. `callers` has to be all callers
+    /// of the table. An object in a frame is copied to memory. An object on a device is read, and goes to the
+    /// device of `rest`, or to memory if that device fails.
     ///
-    /// A bucket that can't be read or added is passed over and counted: where the device fails, where what it gives is no object of its
-    /// bucket and name, where a frame or a lane does not give a name, or where a growth is refused.
+    /// A bucket that can't be read or added is skipped and counted. That is, a device fails or returns no
+    /// object of the bucket and name, a frame or a lane does not return the version, or an allocation fails.
     ///
-    /// `PassMissing` comes before any bucket is read, where a pass was drawn whose caller is not handed in, and `Memory` where a
-    /// growth is refused before that, or where the passes are gathered behind the last bucket. The table is gone then too.
+    /// Errors, after which the table is gone too:
+    ///
+    /// - `PassMissing` if a pass was drawn whose caller is not handed in. It is returned before any bucket is
+    ///   read.
+    /// - `Memory` if an allocation fails before the first bucket is read, or after the last one
     pub fn drain<R: Wait>(
         mut self,
         rt: &R,
@@ -243,7 +251,7 @@ impl<K: FarObject, V: FarObject, J: Naming, D: Device> FarTable<K, V, J, D> {
         ensures devices { IfOk result (λ d. vec_len d.devices ≡ self.lanes) }
         ensures fault { IfErr result (λ e. IsCloseFault K.enc V.enc J.limits (vec_len callers) e) }
     {
-        // The devices need room at the end: it is asked for while the table is whole.
+        // The list for the devices is allocated while the table is whole, because they need it at the end.
         let Ok(devices) = Vec::with_capacity(alloc, self.lanes.count()) else {
             return Err(CloseFault::Memory);
         };

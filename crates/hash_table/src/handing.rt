@@ -1,5 +1,5 @@
-//! The end of a table whose pairs have no room in memory together: they are handed over bucket by bucket. `closing.rt` says why
-//! one look at each bucket is enough.
+//! The end of a table whose pairs don't fit into memory together: they are handed over bucket by bucket.
+//! `closing.rt` explains why one look at each bucket is enough.
 ghost use Rattle.std.specs.Prelude.{◌≡◌, ◌<◌, ℕ, IsTrue, IfErr, OnOk, List, length, vec_len};
 ghost use mathlib.Core.List.{IsPrefix};
 ghost use Rattle.table_core.specs.declared.event.Event.{Event};
@@ -20,23 +20,25 @@ use std::{error, fmt};
 use table_core::buckets_make_map;
 use version_words::{Mark, Naming, same_history};
 
-/// A taker takes no more pairs.
+/// The error of a taker that takes no more pairs.
 #[derive(Clone, Copy, Debug, PartialEq, Eq)]
 pub struct Stopped;
 
-/// Takes the pairs of a table that `FarTable::close_through` ends. What its contract says is its own to choose: one that writes
-/// pairs out says of `takes` what was written.
+/// Takes the pairs of a table that `FarTable::close_through` ends. An implementation chooses what its
+/// contract states. For example, one that writes pairs out states in `takes` what was written.
 pub trait TakesPairs<K: FarObject, V: FarObject> {
     ghost use Rattle.std.specs.Prelude.{List, [], ◌++◌, MatchResult};
 
-    /// How it stands after it took these pairs.
+    /// Relates the taker before and after it took these pairs.
     ghost takes: { Self → List (K × V) → Self → Type 0 };
 
-    /// How it stands after it stopped.
+    /// Relates the taker before and after it stopped.
     ghost stops: { Self → Self → Type 0 };
 
-    /// Takes the pairs of one bucket, in key order; there are none where it is empty. `Stopped` where it takes no more, as where a
-    /// disk is full. Why is its own to tell.
+    /// Takes the pairs of one bucket, in key order. An empty bucket has none.
+    ///
+    /// It returns `Stopped` if it takes no more, for example if a disk is full. The taker itself has to keep
+    /// the reason.
     fn take(&mut self, pairs: Vec<(K, V)>) -> Result<(), Stopped>
         ensures { MatchResult result (λ _. takes self.old pairs.items self.new) (λ _. stops self.old self.new) };
 
@@ -105,7 +107,8 @@ impl<K: FarObject, V: FarObject, J: Naming, D: Device> FarTable<K, V, J, D> {
         }
     }
 
-    // Hands over the pairs of all buckets, behind a mark. At each later log that has the mark's history they are its map's.
+    // Hands over the pairs of all buckets to the taker, by a caller that has seen the mark. In each later log
+    // that has the mark's history, they are its map's.
     fn hand_buckets<R: Wait, T: TakesPairs<K, V>>(
         &self,
         rt: &R,
@@ -152,7 +155,7 @@ impl<K: FarObject, V: FarObject, J: Naming, D: Device> FarTable<K, V, J, D> {
         }
     }
 
-    // Hands over all pairs, where the callers are all that there are.
+    // Hands over all pairs. `callers` has to be all callers of the table.
     fn close_callers_through<R: Wait, T: TakesPairs<K, V>>(
         &self,
         rt: &R,
@@ -184,11 +187,16 @@ impl<K: FarObject, V: FarObject, J: Naming, D: Device> FarTable<K, V, J, D> {
         }
     }
 
-    /// As `close`, for a table whose pairs have no room in memory together: the taker is handed those of each bucket once, in the
-    /// order of the buckets' numbers. The pairs of one bucket at most lie twice: in its object, and as they are handed over.
+    /// As `close`, for a table whose pairs don't fit into memory together. It hands the taker the pairs of
+    /// each bucket once, in the order of the buckets' numbers. At most one bucket's pairs are in memory
+    /// twice: in its object, and as they are handed over.
     ///
-    /// `Close` comes with the faults of `close`, and `Stopped` where the taker stopped; no further bucket is read then. The table and
-    /// the callers come back. What the taker took by then stays with it, and a further `close_through` hands it over again.
+    /// Errors, with which the table and the callers are returned:
+    ///
+    /// - `Close` with a fault of `close`
+    /// - `Stopped` if the taker stopped. No further bucket is read then.
+    ///
+    /// The taker keeps what it took until then, and a further `close_through` hands it over again.
     pub fn close_through<R: Wait, T: TakesPairs<K, V>>(
         self,
         rt: &R,

@@ -1,12 +1,32 @@
-//! A table whose buckets lie in frames or on devices, and which threads share.
+//! A concurrent hash table that may be larger than its memory.
 //!
-//! # One put, from here to the bucket's word
+//! Threads share a `FarTable`. All pairs of a bucket are one immutable object, which is stored in a frame (a
+//! slot of local memory) or on a device. A change builds a new object, and installs it by one
+//! compare-and-swap on the bucket's word.
 //!
-//! `changing.rt` has the public call. It looks at the bucket's word (`stages/seen.rt`), reads the object under it
-//! (`stages/local.rt`, `stages/far.rt`), makes the new one (`stages/build.rt`), and publishes it under a new name
-//! (`stages/publish.rt`). Gets take the first two stages (`reading.rt`, `scope.rt`), and moves between frames and devices
-//! all but the third (`moving.rt`). `telling.rt` only looks, and `closing.rt` takes the table back, for which `all_pairs.rt`
-//! reads all buckets.
+//! # Words of the code
+//!
+//! These are short names for known things. `docs/GLOSSARY.md` has them all.
+//!
+//! - *name*: a version number, which is drawn once for each new object
+//! - *word* of a bucket: 64 bits that hold a name and the place of the object
+//! - *pass*: a caller's identity, with the count of its calls
+//! - *front*: the prefix of the log of all events that a pass has seen
+//! - *mark*: evidence of such a prefix, which can be handed to another caller
+//! - *spare*: a retired word, that is, the permission to free what it points to
+//! - *limbo*: the list of retired words that wait with a caller
+//! - *lane*: a device with its lock
+//!
+//! # One put, file by file
+//!
+//! 1. `changing.rt` has the public call. It looks at the bucket's word (`stages/seen.rt`).
+//! 2. It reads the object under that word (`stages/local.rt`, `stages/far.rt`).
+//! 3. It makes the new object (`stages/build.rt`).
+//! 4. It publishes that under a new name (`stages/publish.rt`).
+//!
+//! Gets take the first two steps (`reading.rt`, `scope.rt`). Moves between frames and devices take all except
+//! the third (`moving.rt`). `telling.rt` only looks. `closing.rt`, `handing.rt` and `draining.rt` end a
+//! table; `all_pairs.rt` reads its buckets.
 #![tactic(auto, using(crate::proofs::Fronts::goes_trans))]
 
 mod all_pairs;

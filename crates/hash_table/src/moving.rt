@@ -1,5 +1,5 @@
-//! Moves of a bucket's contents between frames and devices, and the removal of old versions. They are no calls of the
-//! history.
+//! Moves of a bucket's object between a frame and a device, and the reclamation of old versions. They are no
+//! calls of the history.
 ghost use Rattle.std.specs.Prelude.{◌≡◌, ℕ, IfOk, IfErr, OnOk, MatchBool, length};
 ghost use mathlib.Core.List.{IsPrefix};
 ghost use Rattle.far_object.specs.Buckets.{bucket};
@@ -25,16 +25,23 @@ use table_core::word::{EMPTY_PLACE, FAR_PLACE, place_of};
 use version_words::{Change, Naming, Spare};
 
 impl<K: FarObject, V: FarObject, J: Naming, D: Device> FarTable<K, V, J, D> {
-    /// One try of a swap-in of the key's bucket: its object goes from the device into a frame of the table, under a new name. False
-    /// where the bucket's word does not say that its object lies on the device.
+    /// Tries once to swap in the key's bucket: its object goes from the device into a frame, under a new name
+    /// (a version number). It returns false if the bucket's word does not name the device.
     ///
-    /// `LimboFull` comes before all; `Missed` where the lane has no receipt, `Device` where the device fails, `Damaged`
-    /// where what it gives is no object of this bucket and name, `Memory` where a growth is refused, `NoFrame` where no
-    /// frame was free, `NamesSpent` where the last name was drawn, `Moved` where another name was drawn at that
-    /// moment or the bucket's word is another one at the end.
+    /// After true the object is in the frame that the bucket's word names, and the word that it replaced is
+    /// the newest spare (retired word). `Moved` leaves the spare of the name that this try drew, if it drew
+    /// one. False, and any other refusal, leave none.
     ///
-    /// After true the object lies in the frame that its word names, and the word that it replaced is the newest spare. `Moved`
-    /// leaves the spare of the name that this call drew, if it drew one; false, and any other refusal, leave none.
+    /// Errors, in the order in which the try looks for them:
+    ///
+    /// - `LimboFull` if 64 spares wait in the caller
+    /// - `Missed` if the lane does not have the object, that is, it has no receipt for it
+    /// - `Device` if the device fails
+    /// - `Damaged` if what the device returns is no object of this bucket and name
+    /// - `Memory` if an allocation fails
+    /// - `NoFrame` if no frame was free
+    /// - `NamesSpent` if the last name was drawn
+    /// - `Moved` if another name was drawn at that moment, or if the bucket's word is another one at the end
     pub fn fetch<R: Wait>(
         &self,
         rt: &R,
@@ -90,16 +97,23 @@ impl<K: FarObject, V: FarObject, J: Naming, D: Device> FarTable<K, V, J, D> {
         }
     }
 
-    /// One try of a swap-out of what lies in a frame: its object goes to the device under a new name. False where what
-    /// lies there is not what its bucket's word names.
+    /// Tries once to swap out the frame of this number: its object goes to the device, under a new name (a
+    /// version number). It returns false if nothing was seen in the frame, or if its bucket's word does not
+    /// name that.
     ///
-    /// `LimboFull` comes before all; `Missed` where the frame does not give the version, `NamesSpent` where the last name
-    /// was drawn, `Memory` where a growth of the lane or its device is refused, `Device` where the device fails, `Moved`
-    /// where another name was drawn at that moment or the bucket's word is another one at the end.
+    /// After true the device took the object before the bucket's word named it there, and the word of this
+    /// frame is the newest spare (retired word). The frame is free once that spare is reclaimed. `Memory` and
+    /// `Device` leave the spare of the name that this try drew. So does `Moved`, if it drew one. False, and
+    /// any other refusal, leave none.
     ///
-    /// After true the device took the object before its word said so, and the word of this frame is the newest spare. `Memory`
-    /// and `Device` leave the spare of the name that this call drew, and so does `Moved`, if it drew one; false, and any other
-    /// refusal, leave none.
+    /// Errors:
+    ///
+    /// - `LimboFull` if 64 spares wait in the caller, before all others
+    /// - `Missed` if the frame does not return the version
+    /// - `NamesSpent` if the last name was drawn
+    /// - `Memory` if an allocation of the lane or its device fails
+    /// - `Device` if the device fails
+    /// - `Moved` if another name was drawn at that moment, or if the bucket's word is another one at the end
     pub fn swap_out<R: Wait>(
         &self,
         rt: &R,
@@ -134,11 +148,17 @@ impl<K: FarObject, V: FarObject, J: Naming, D: Device> FarTable<K, V, J, D> {
         }
     }
 
-    /// Removes what the spare's word says the place of, and answers whether it was there: the version in its frame, or the
-    /// object on the device. False for a word without an object. The caller learns the spare's mark.
+    /// Frees what a spare (a retired word) points to: the version in its frame, or the object on the device.
+    /// It returns whether that was there, and false for a word without an object. The caller learns the
+    /// spare's mark.
     ///
-    /// The spare comes back with `Held` where a reader is in its frame, with `Device` where the device fails, with `Memory`
-    /// where a growth of it is refused. That it is handed back where what it names is still there is tested, not proved.
+    /// Errors, with which the spare is returned:
+    ///
+    /// - `Held` if a reader is in the spare's frame
+    /// - `Device` if the device fails
+    /// - `Memory` if an allocation of the device fails
+    ///
+    /// That the spare is returned if what it points to is still there is tested, not proved.
     pub fn reclaim<R: Wait>(
         &self,
         rt: &R,

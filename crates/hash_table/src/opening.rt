@@ -1,4 +1,8 @@
-//! A table is opened in two steps, since what proofs call its log is known only once the row of words is there.
+//! Opening a table, and entering it.
+//!
+//! A table is opened in two steps. A type `J: Naming` stands for the table in types and proofs. What it has
+//! to stand for is known only when the row of bucket words is there. So `Opening::open` makes the row, and
+//! `Opening::named` makes the table for a `J` that fits. `CALLING.md` has an example.
 ghost use Rattle.std.specs.Prelude.{◌≡◌, [], None, IfOk, IfErr, vec_len};
 ghost use Rattle.table_core.specs.declared.event.Event.TheVariants.{Enter};
 ghost use Rattle.table_core.specs.Lawful.{IsLawful};
@@ -22,7 +26,8 @@ use std::alloc::Global;
 use std::marker::{Model, PhantomData};
 use version_words::{EnterFault, Honesty, Naming, Opened, Sizes};
 
-/// Contents are vouched for as far as the device's type is honest.
+/// States in proofs that contents are vouched for exactly if the device's type is honest, that is, if it
+/// states that a read returns what was written.
 pub struct Vouched<D> {
     of: PhantomData<D>,
 }
@@ -31,8 +36,9 @@ impl<D: Device> Honesty for Vouched<D> {
     ghost honest = { D.HONEST };
 }
 
-/// Settings that are within their limits, a row of words for them, and their devices. It has no name yet. Contracts see
-/// what proofs call the row, and the settings.
+/// The first step of a table: checked settings, a row of bucket words, and the devices.
+///
+/// `named` makes the table. Contracts see the settings, and what proofs call the row.
 #[derive(Drop)]
 pub struct Opening<K: FarObject, V: FarObject, D: Device> {
     config: Config,
@@ -51,10 +57,14 @@ impl<K: FarObject, V: FarObject, D: Device> Model for Opening<K, V, D> {
 }
 
 impl<K: FarObject, V: FarObject, D: Device> Opening<K, V, D> {
-    /// A row of words for these settings, whose words are all 0. There have to be as many devices as lanes.
+    /// Checks the settings and makes the bucket words, which are all 0. `devices` has to have `config.lanes`
+    /// elements.
     ///
-    /// `BadConfig` comes where a setting is outside its limits, and names the first one; `Memory` where a growth is refused.
-    /// The devices are dropped then.
+    /// Errors, after which the devices are dropped:
+    ///
+    /// - `BadConfig` if a setting is outside its limits, with the number of the first one. `lanes`, field 6,
+    ///   is also bad if it is not the number of devices.
+    /// - `Memory` if an allocation fails
     pub fn open(
         alloc: Global,
         config: Config,
@@ -70,11 +80,13 @@ impl<K: FarObject, V: FarObject, D: Device> Opening<K, V, D> {
         }
     }
 
-    /// As `open`, for a wide table: of up to 2^22 buckets and frames, and objects of up to 2^24 bytes. Each bucket takes 8 bytes
-    /// and each frame 64, whether they hold anything or not; all that grows with them is allocated here and in `named`.
+    /// As `open`, for a wide table: up to 2^22 buckets and frames, and objects of up to 2^24 bytes.
     ///
-    /// An object has 1,048,576 pairs at most, which only such a table's limit has room for: what would put another pair to so
-    /// many is refused with `Refusal::Memory`.
+    /// Each bucket takes 8 bytes and each frame 64, whether they hold anything or not. All memory that grows
+    /// with their numbers is allocated here and in `named`.
+    ///
+    /// An object has at most 1,048,576 pairs, which only the limit of a wide table has room for. A put into a
+    /// bucket with that many pairs is refused with `Refusal::Memory`, even if it would only replace a value.
     pub fn open_wide(
         alloc: Global,
         config: Config,
@@ -110,10 +122,15 @@ impl<K: FarObject, V: FarObject, D: Device> Opening<K, V, D> {
         }
     }
 
-    /// The table under a name, which the caller picks so that it fits: no bucket has a pair, all frames are free, and the
-    /// devices are made empty.
+    /// The second step: makes the frames, empties the devices and returns the table. No bucket has a pair,
+    /// and all frames are free.
     ///
-    /// `Memory` comes where a growth is refused, `Device` where a device fails. All is dropped then.
+    /// `J` is the type that stands for this table in proofs. Pick it so that the three `requires` hold.
+    ///
+    /// Errors, after which everything is dropped:
+    ///
+    /// - `Memory` if an allocation fails
+    /// - `Device` if a device fails
     pub fn named<J: Naming>(self, alloc: Global) -> Result<FarTable<K, V, J, D>, OpenFault>
         requires book { self.row.book ≡ J.book }
         requires boards { self.row.names ≡ J.names }
@@ -155,9 +172,13 @@ impl<K: FarObject, V: FarObject, D: Device> Opening<K, V, D> {
 }
 
 impl<K: FarObject, V: FarObject, J: Naming, D: Device> FarTable<K, V, J, D> {
-    /// A caller who has made no call: a new pass, and an empty limbo. It takes no memory.
+    /// Returns a caller that has made no call, with a new pass (an identity) and an empty limbo (no retired
+    /// words). It allocates nothing.
     ///
-    /// `PassesSpent` comes where the last pass was drawn, `Moved` where another one was drawn meanwhile.
+    /// Errors, each with a mark of the log that shows it:
+    ///
+    /// - `PassesSpent` if the last pass was drawn
+    /// - `Moved` if another thread drew a pass meanwhile. Another try may draw the next one.
     pub fn enter(&self) -> Result<Caller<K, V, J>, EnterFault<K, V, J>>
         ensures lawful { IfOk result (λ c. IsLawful K.enc V.enc J.limits c.pass.front) }
         ensures entered { IfOk result (λ c. EndsWith [] (Enter c.pass.number) c.pass.front) }

@@ -1,4 +1,4 @@
-//! Gets.
+//! Gets: one try, one round, and a get that repeats until it is done.
 ghost use Rattle.std.specs.Prelude.{◌≡◌, ◌≢◌, ◌<◌, true, IsTrue, IfOk, IfErr, length};
 ghost use mathlib.Core.List.{IsPrefix};
 ghost use Rattle.far_object.specs.Buckets.{bucket};
@@ -27,7 +27,7 @@ use std::sync::Wait;
 use version_words::{Change, Moved, Naming, Pass, Probe, empty_holds, seen_answers, seen_stay};
 
 impl<K: FarObject, V: FarObject, J: Naming, D: Device> FarTable<K, V, J, D> {
-    // Finds the word still there, and so enters a get that this answers.
+    // Checks that the word is still there, which makes the call a get with this answer.
     fn answer(
         &self,
         pass: &mut Pass<K, V, J>,
@@ -51,7 +51,7 @@ impl<K: FarObject, V: FarObject, J: Naming, D: Device> FarTable<K, V, J, D> {
         }
     }
 
-    // The value of a key in the contents of a word that was seen, which lie in a frame.
+    // The value of a key in the object under a word that was seen, if that is in a frame or there is none.
     fn read_local(
         &self,
         alloc: Global,
@@ -86,7 +86,7 @@ impl<K: FarObject, V: FarObject, J: Naming, D: Device> FarTable<K, V, J, D> {
         }
     }
 
-    // The value of a key in the contents of a word that was seen, wherever they lie.
+    // The same, wherever the object is.
     fn read_anywhere<R: Wait>(
         &self,
         rt: &R,
@@ -126,12 +126,19 @@ impl<K: FarObject, V: FarObject, J: Naming, D: Device> FarTable<K, V, J, D> {
         }
     }
 
-    /// One try of a get, from a frame: the value of the key, copied, or none. It waits for nothing, and touches the frame.
+    /// Tries once to get the value of a key from a frame. It returns a copy, or none if the key has no value.
     ///
-    /// `Far` comes where the bucket's object lies on the device, `Missed` where the frame does not give the version: it has
-    /// another one by now, is being filled or emptied, has as many readers as can be counted, or 1,000 claims to read it in a
-    /// row each met a change by another thread. `Memory` comes where the copy is refused, `Moved` where the bucket's word is
-    /// another one at the end. A refused try has made no call, and no try leaves a spare.
+    /// It waits for nobody, and marks the frame as used, for the choice of what to swap out. It leaves no
+    /// spare (retired word). A refused try has made no call.
+    ///
+    /// Errors:
+    ///
+    /// - `Far` if the bucket's object is on the device
+    /// - `Missed` if the frame does not return the version: it has another one by now, is being filled or
+    ///   emptied, or has as many readers as can be counted. It is also returned if 1,000 attempts in a row to
+    ///   enter it each met a change by another thread.
+    /// - `Memory` if the copy can't be allocated
+    /// - `Moved` if the bucket's word is another one at the end
     pub fn try_get(
         &self,
         alloc: Global,
@@ -158,11 +165,19 @@ impl<K: FarObject, V: FarObject, J: Naming, D: Device> FarTable<K, V, J, D> {
         }
     }
 
-    /// One try of a get, from a frame or from the device, where the object stays.
+    /// Tries once to get the value of a key, from a frame or from the device. A far object stays on the
+    /// device. It returns a copy, or none if the key has no value.
     ///
-    /// `Missed` comes where the frame does not give the version or the lane has no receipt, `Device` where the device
-    /// fails, `Damaged` where what it gives is no object of this bucket and name, `Memory` where a growth is refused,
-    /// `Moved` where the bucket's word is another one at the end. A refused try has made no call, and no try leaves a spare.
+    /// It leaves no spare (retired word). A refused try has made no call.
+    ///
+    /// Errors:
+    ///
+    /// - `Missed` if the frame does not return the version, or the lane does not have the object, that is, it
+    ///   has no receipt for it
+    /// - `Device` if the device fails
+    /// - `Damaged` if what the device returns is no object of this bucket and name (version number)
+    /// - `Memory` if an allocation fails
+    /// - `Moved` if the bucket's word is another one at the end
     pub fn read_through<R: Wait>(
         &self,
         rt: &R,
@@ -193,7 +208,7 @@ impl<K: FarObject, V: FarObject, J: Naming, D: Device> FarTable<K, V, J, D> {
         }
     }
 
-    // A round that answers a get from what was read of the device, where the object stays.
+    // A round that answers a get from an object that was read from the device, and stays there.
     fn answer_from(
         &self,
         alloc: Global,
@@ -221,8 +236,8 @@ impl<K: FarObject, V: FarObject, J: Naming, D: Device> FarTable<K, V, J, D> {
         }
     }
 
-    // A round that brings what was read of the device into a frame, for the next round. Where that lacks a frame or a name, what was
-    // read is the answer.
+    // A round that brings an object that was read from the device into a frame, for the next round. If there
+    // is no frame for it, or no name is drawn, it answers from the object.
     fn bring_in(
         &self,
         alloc: Global,
@@ -268,8 +283,8 @@ impl<K: FarObject, V: FarObject, J: Naming, D: Device> FarTable<K, V, J, D> {
         }
     }
 
-    // One round of a get of a far bucket, which reads the device once: the object is brought into a frame, for the next round. Where
-    // that lacks a frame, a name or room for a spare, what was read is the answer.
+    // One round of a get of a far bucket, which reads the device once. It brings the object into a frame for
+    // the next round. If it lacks a frame, a name or room for a spare, it answers from what it read.
     fn get_far<R: Wait>(
         &self,
         rt: &R,
@@ -314,10 +329,14 @@ impl<K: FarObject, V: FarObject, J: Naming, D: Device> FarTable<K, V, J, D> {
         }
     }
 
-    /// One round of a get: a get goes on by these until one is finished. A far bucket's object is read once and brought into a
-    /// frame, where the next round finds it; without a frame, a name or room for a spare for that, what was read is the answer.
+    /// One round of a get. `get` makes rounds until one is finished.
     ///
-    /// `Again` where another round may finish it. It is refused as `get` is. Spares come as `fetch` leaves them.
+    /// It reads a far bucket's object once and brings it into a frame, where the next round finds it. That
+    /// needs a frame, a new name (version number) and room for a spare (retired word). Without one of these
+    /// it answers from what it read.
+    ///
+    /// It returns `Again` if another round may finish the get. It is refused as `get` is, and leaves the
+    /// spares that `fetch` leaves.
     pub fn get_round<R: Wait>(
         &self,
         rt: &R,
@@ -345,11 +364,18 @@ impl<K: FarObject, V: FarObject, J: Naming, D: Device> FarTable<K, V, J, D> {
         }
     }
 
-    /// A get that goes on until it is done. A far bucket's object is brought into a frame; without a frame, a name or room for a
-    /// spare for that, what was read is the answer.
+    /// Gets the value of a key. It repeats until it is done, and returns a copy, or none if the key has no
+    /// value.
     ///
-    /// `Memory` comes where a growth is refused, `Device` where the device fails, `Damaged` where what it gives is no object
-    /// of this bucket and name. A refused get has made no call. Swap-ins leave their spares, whatever is answered.
+    /// A far bucket's object is brought into a frame. That needs a frame, a new name (version number) and
+    /// room for a spare (retired word). Without one of these the answer is taken from what was read. Swap-ins
+    /// leave their spares, whatever is returned. A refused get has made no call.
+    ///
+    /// Errors:
+    ///
+    /// - `Memory` if an allocation fails
+    /// - `Device` if the device fails
+    /// - `Damaged` if what the device returns is no object of this bucket and name
     pub fn get<R: Wait>(
         &self,
         rt: &R,

@@ -1,12 +1,14 @@
-//! A frame that a caller emptied itself, and owns until its next object lies there.
+//! A frame that a caller emptied itself, and owns until it puts its next object there.
 //!
-//! A caller who reclaims its own spares empties a frame for each that it fills. Where each is named to all threads as free,
-//! and the next one is looked for among those, all callers write the same few words at every change, and wait for one
-//! another. A caller who recycles fills the frame that it emptied, and writes none of these words. Nobody else gets that frame
-//! meanwhile (`frame_cache::Owned`).
+//! A caller that reclaims its own spares (retired words) empties a frame for each frame that it fills. If
+//! each were listed as free for all threads, and the next one taken from that list, all callers would write
+//! the same few words at every change. They would wait for one another. A caller that recycles fills the
+//! frame that it emptied, and writes none of these words. Nobody else gets that frame meanwhile
+//! (`frame_cache::Owned`).
 //!
-//! So it is with the memory of the version that it took out: nobody reads it any more, and the caller's next object is built in it
-//! (`far_object::Buffers`). A caller whose objects keep their sizes takes no memory for them then.
+//! The same holds for the memory of the version that was there. Nobody reads it any more, so the caller
+//! builds its next object in it (`far_object::Buffers`). A caller whose objects keep their sizes, of at most
+//! 65,536 bytes, then allocates nothing for them.
 ghost use Rattle.std.specs.Prelude.{◌≡◌, ◌<◌, IfOk, IfErr};
 ghost use Rattle.table_core.specs.BucketWords.{place_of, empty_place};
 
@@ -18,41 +20,43 @@ use far_object::{Buffers, FarObject};
 use frame_cache::{NoFrame, Owned, Reserved};
 use version_words::{Naming, Spare};
 
-/// Whether a caller owns a frame between its calls.
+/// Which frame a caller owns between its calls.
 #[derive(Drop)]
 pub enum Recycling {
     /// It owns none.
     Off,
-    /// It has had none, and owns the next one that it empties. Where it needs one before, it looks behind this part of all
-    /// frames first, in 2^32nds.
+    /// It has had none yet, and keeps the next one that it empties. If it needs one before, it searches from
+    /// this part of all frames on, in 2^32nds.
     Begun(u32),
-    /// It has none, and owns the next one that it empties. Where it needs one before, it looks from this one on first.
+    /// It has none, and keeps the next one that it empties. If it needs one before, it searches from this one
+    /// on.
     Wanting(u32),
-    /// It has this frame.
+    /// It owns this frame.
     Owning(Owned),
 }
 
-// Behind which part of all frames the caller of this pass looks for its first one, in 2^32nds: the bits of the number in
-// their other order, so that the parts of two, of four and of eight callers that were drawn one after another lie as far
-// apart as they can.
+// The part of all frames, in 2^32nds, from which the caller of this pass searches for its first one. It is
+// the number less 1, with its bits in reverse order. So two, four or eight callers that were drawn one after
+// another begin as far apart as they can.
 fn part_of(pass: u32) -> u32 {
     pass.wrapping_sub(1).reverse_bits()
 }
 
-// The frame behind this part of so many.
+// The frame at this part of all frames.
 fn frame_behind(part: u32, frames: u32) -> u32 {
     (u64::from(part).wrapping_mul(u64::from(frames)) >> 32) as u32
 }
 
 impl<K: FarObject, V: FarObject, J: Naming> Caller<K, V, J> {
-    /// From now on the caller owns one of the frames that it empties by `FarTable::reclaim`, and fills it by the next of
-    /// its calls that needs a frame; the memory of what lay there is used for its next objects. For a caller that reclaims its
-    /// own spares: several such callers don't contend for the same free frames. No contract speaks of it, since none says which
-    /// frame is filled.
+    /// Lets the caller own a frame: it keeps one of the frames that it empties by `FarTable::reclaim`. Its
+    /// next call that needs a frame fills it. The memory of what was there is used for its next objects.
     ///
-    /// While it owns the frame nobody else gets it, and `FarTable::free` does not count it: so let a caller recycle only where
-    /// frames are several times as many as such callers. `FarTable::stop_recycling` gives the frame back; where the caller is
-    /// dropped with it, it stays empty until the table is closed.
+    /// It is for callers that reclaim their own spares: they then don't contend for the same free frames. No
+    /// contract says anything about it, because none says which frame is filled.
+    ///
+    /// While a caller owns a frame nobody else gets it, and `FarTable::free` does not count it. So have
+    /// several times as many frames as callers that recycle. `FarTable::stop_recycling` gives the frame back.
+    /// If the caller is dropped with it, the frame stays empty until the table ends.
     pub fn recycle(&mut self)
         ensures pass { self.new.pass ≡ self.old.pass }
         ensures limbo { self.new.limbo ≡ self.old.limbo }
@@ -64,15 +68,16 @@ impl<K: FarObject, V: FarObject, J: Naming> Caller<K, V, J> {
         self.limbo.set_recycling(Recycling::Begun(part));
     }
 
-    /// Whether the caller has a frame that it emptied, which its next call that needs one fills. Nothing is claimed of it.
+    /// Whether the caller owns a frame, which its next call that needs one fills. It is a hint: no contract
+    /// says anything about it.
     pub fn owns_frame(&self) -> bool {
         self.limbo.owns_frame()
     }
 }
 
 impl<K: FarObject, V: FarObject, J: Naming, D: Device> FarTable<K, V, J, D> {
-    /// From now on the caller owns no frame that it empties, and keeps no memory of what lay there. The frame that it has is free
-    /// for all.
+    /// Ends what `Caller::recycle` began. The caller's frame is free for all, and it keeps no frame and no
+    /// memory of what it empties from now on.
     pub fn stop_recycling(&self, caller: &mut Caller<K, V, J>)
         ensures pass { caller.new.pass ≡ caller.old.pass }
         ensures limbo { caller.new.limbo ≡ caller.old.limbo }
@@ -83,13 +88,15 @@ impl<K: FarObject, V: FarObject, J: Naming, D: Device> FarTable<K, V, J, D> {
         caller.buffers = Buffers::new();
     }
 
-    /// Whether a frame is likely to be had, by few loads: a hint, of which nothing is claimed.
+    /// Whether there is probably a frame to reserve, by few loads. It is a hint: no contract says anything
+    /// about it.
     pub(crate) fn may_reserve(&self, limbo: &Limbo<K, V, J>) -> bool {
         limbo.owns_frame() || self.frames.has_free()
     }
 
-    /// A free frame: the one that the caller owns, or else one behind the last that it had, or else any. `NoFrame` comes as
-    /// `Refusal::NoFrame` says.
+    /// Reserves a free frame: the one that the caller owns. If the caller recycles and owns none, the search
+    /// begins at the last one that it had, and otherwise at frame 0. `NoFrame` is returned as
+    /// `Refusal::NoFrame` states.
     pub(crate) fn reserve(
         &self,
         limbo: &mut Limbo<K, V, J>,
@@ -113,7 +120,7 @@ impl<K: FarObject, V: FarObject, J: Naming, D: Device> FarTable<K, V, J, D> {
         Ok(reserved)
     }
 
-    /// Leaves the frame free: the caller owns it where it has none and recycles, and else it is for all.
+    /// Leaves the frame empty. The caller owns it if it recycles and has none; otherwise it is free for all.
     pub(crate) fn cancel(&self, limbo: &mut Limbo<K, V, J>, reserved: Reserved<'_, K, V, J>)
         ensures limbo { limbo.new ≡ limbo.old }
     {
@@ -124,8 +131,8 @@ impl<K: FarObject, V: FarObject, J: Naming, D: Device> FarTable<K, V, J, D> {
         }
     }
 
-    /// Empties the frame of the spare's word. The caller owns it afterwards where it recycles and has none, and keeps the memory of
-    /// the object that lay there.
+    /// Empties the frame of the spare's word. If the caller recycles and has no frame, it owns this one
+    /// afterwards, and keeps the memory of the object that was there.
     pub(crate) fn reclaim_frame(
         &self,
         limbo: &mut Limbo<K, V, J>,

@@ -1,48 +1,55 @@
-//! Why a call of the table is refused.
+//! The errors of the table's calls.
 ghost use Rattle.std.specs.Prelude.{◌≡◌};
 ghost use Rattle.hash_table.specs.Refusals.{passes_by};
 
 use thiserror::Error;
 
-/// Why a call was not finished. The calls say which of these each may answer.
+/// Why a call was not finished. A refused call is no call of the history, and changes no pair. Each call
+/// lists which of these it returns, and when.
 #[derive(Clone, Copy, Debug, PartialEq, Eq, Error)]
 pub enum Refusal {
-    /// A growth of memory was refused; and of an object that has 1,048,576 pairs, the most that it may count, where the limit of a
-    /// wide table has room for more.
+    /// An allocation failed.
+    ///
+    /// In a wide table it is also returned by a put into a bucket that has 1,048,576 pairs, the most that an
+    /// object can count.
     #[error("memory")]
     Memory,
-    /// The bucket's object lies on the device.
+    /// The bucket's object is on the device. `FarTable::fetch` brings it into a frame.
     #[error("far")]
     Far,
-    /// The bucket's word is another one by now, or another name was drawn.
+    /// Another thread was faster. The bucket's word is another one by now, or another name (version number)
+    /// was drawn meanwhile. Another try may succeed.
     #[error("moved")]
     Moved,
-    /// The frame or the lane does not give the name.
+    /// The frame or the lane did not return the version that the word names, for example because it was
+    /// replaced meanwhile. Another try may succeed.
     #[error("missed")]
     Missed,
-    /// No frame was free when it was looked at: each holds a version, is being filled or emptied, or is owned by a caller who
-    /// recycles.
+    /// The call found no free frame. Each holds a version, is being filled or emptied, or is owned by a
+    /// caller that recycles. Among more than 4,096 frames a free one may be overlooked for a moment.
+    /// `FarTable::swap_out`, and `FarTable::reclaim` of the spare that it leaves, free a frame.
     #[error("no frame")]
     NoFrame,
-    /// The new object would be longer than the limit.
+    /// The bucket's new object would be longer than `Config::limit`.
     #[error("too long")]
     TooLong,
-    /// The last name was drawn.
+    /// All names (version numbers) are drawn. No call that needs one can succeed any more. Gets go on.
     #[error("names spent")]
     NamesSpent,
-    /// 64 spares wait in the caller.
+    /// 64 spares (retired words) wait with the caller. Reclaim some before the next try.
     #[error("limbo full")]
     LimboFull,
     /// The device failed in this call.
     #[error("device")]
     Device,
-    /// The bytes that were read are no object of this bucket and name.
+    /// The bytes that were read are no object of this bucket and name. It is never returned over an honest
+    /// device, that is, one whose type states that a read returns what was written.
     #[error("damaged")]
     Damaged,
 }
 
 impl Refusal {
-    // Whether another try may not meet it, without anything else being done.
+    // Whether another try may succeed, although nothing else is done meanwhile.
     pub(crate) fn passes_by(self) -> bool
         ensures { result ≡ passes_by self }
     {
@@ -54,21 +61,21 @@ impl Refusal {
     }
 }
 
-/// Why no table was opened.
+/// Why a table was not opened. What was handed in is dropped.
 #[derive(Clone, Copy, Debug, PartialEq, Eq, Error)]
 pub enum OpenFault {
-    /// The first field of the settings that is outside its limits, by its number.
+    /// A setting is outside its limits. The number is that of the first such field of `Config`, from 1.
     #[error("bad config {0}")]
     BadConfig(u32),
-    /// A growth of memory was refused.
+    /// An allocation failed.
     #[error("memory")]
     Memory,
-    /// A device failed as it was made empty.
+    /// A device failed while it was made empty.
     #[error("device")]
     Device,
 }
 
-/// Why a spare was not reclaimed.
+/// Why a spare (a retired word) was not reclaimed. It is returned, and can be tried again later.
 #[derive(Clone, Copy, Debug, PartialEq, Eq, Error)]
 pub enum ReclaimFault {
     /// A reader is in its frame.
@@ -77,7 +84,7 @@ pub enum ReclaimFault {
     /// The device failed in this call.
     #[error("device")]
     Device,
-    /// A growth of memory was refused.
+    /// An allocation failed.
     #[error("memory")]
     Memory,
 }

@@ -1,10 +1,10 @@
 //! A removal on a condition.
 //!
-//! # No operation of its own
+//! # It is a removal or a get
 //!
-//! What it does is told by the operations that there are: where the key's value is the expected one it installs a removal over
-//! the word under which that value was found, and else it finds the word still there, as a get does. So a newer value is never
-//! taken out, and the map of one thread needs no further operation.
+//! The call needs no further operation of the history. If the key's value is the expected one, it installs a
+//! removal over the word under which it found that value. Otherwise it checks that the word is still there,
+//! as a get does. So a newer value is never removed.
 ghost use Rattle.std.specs.Prelude.{◌≡◌, Some, None, false, IfOk, IfErr, IfSome, MatchOption, MatchResult, length};
 ghost use mathlib.Core.List.{IsPrefix};
 ghost use Rattle.far_object.specs.Buckets.{bucket};
@@ -29,16 +29,16 @@ use std::sync::Wait;
 use table_core::Operation;
 use version_words::Naming;
 
-/// What a removal on a condition found and did.
+/// What `FarTable::remove_if` found and did.
 #[derive(Drop)]
 pub struct Removal<V> {
-    /// Whether the value was the expected one. Then the key is out.
+    /// Whether the value was the expected one. If so, the key is removed.
     pub removed: bool,
     /// The value that the key had.
     pub found: Option<V>,
 }
 
-// What a refused try means for the round that made it: none where another round may finish the call.
+// Makes a round's result of a refused try: none if another round may finish the call.
 fn again<V>(refusal: Refusal) -> Result<Option<Removal<V>>, Refusal>
     ensures { MatchResult result (λ r. r ≡ None) (λ e. (e ≡ refusal) × (passes_by refusal ≡ false)) }
 {
@@ -49,7 +49,7 @@ fn again<V>(refusal: Refusal) -> Result<Option<Removal<V>>, Refusal>
 }
 
 impl<K: FarObject, V: FarObject, J: Naming, D: Device> FarTable<K, V, J, D> {
-    // One round; none where another may finish the call.
+    // One round. None if another round may finish the call.
     fn remove_if_round<R: Wait>(
         &self,
         rt: &R,
@@ -125,10 +125,11 @@ impl<K: FarObject, V: FarObject, J: Naming, D: Device> FarTable<K, V, J, D> {
         }
     }
 
-    /// Takes the key out where its value is the expected one, and answers the value that it had. It goes on until it is done, as
-    /// `remove` does. In the history it is a removal where the value was the expected one, and else a get.
+    /// Removes a key if its value is the expected one, and returns the value that it had. Values are compared
+    /// by their encodings. It repeats until it is done, as `remove` does.
     ///
-    /// It is refused as `remove` is, and leaves the same spares.
+    /// In the history it is a removal if the value was the expected one, and otherwise a get. It is refused
+    /// as `remove` is, and leaves the same spares (retired words).
     pub fn remove_if<R: Wait>(
         &self,
         rt: &R,

@@ -1,4 +1,4 @@
-//! A value that stays readable.
+//! A value that is read in its frame, without a copy.
 ghost use Rattle.std.specs.Prelude.{◌≡◌, ◌≢◌, IsTrue, Some, IfOk, IfErr, IfSome};
 ghost use Rattle.far_object.specs.Buckets.{bucket};
 ghost use Rattle.table_core.specs.declared.operation.Operation.TheVariants.{Get};
@@ -23,8 +23,11 @@ use std::marker::Model;
 use std::ops::Range;
 use version_words::{Naming, Probe, empty_holds, seen_answers};
 
-/// A value that stays where it is until this is closed. It has to be closed, in its own thread. Contracts see the value and
-/// the name of its version.
+/// A permission to read a value in its frame. It works as a hazard pointer does, but is counted.
+///
+/// `FarTable::open_scope` opens it. While it is open nobody empties the frame, even if the bucket is changed
+/// meanwhile. Close it in the thread that opened it: the compiler refuses a program that drops it. Contracts
+/// see the value, and the name (version number) of its version.
 pub struct TableScope<'a, K: FarObject, V: FarObject, J: Naming> {
     scope: Scope<'a, K, V, J>,
     place: Range<usize>,
@@ -43,7 +46,8 @@ impl<'a, K: FarObject, V: FarObject, J: Naming> Model for TableScope<'a, K, V, J
 }
 
 impl<'a, K: FarObject, V: FarObject, J: Naming> TableScope<'a, K, V, J> {
-    /// The value's encoding, where it lies.
+    /// The value's encoding, in place. For example, the text `Venus` is two bytes for its length, and then
+    /// five.
     pub fn bytes(&self) -> &[u8]
         ensures encoding { Encodes V.enc self.now.value result.now }
         ensures decoded { V.dec result.now ≡ self.now.value }
@@ -51,7 +55,7 @@ impl<'a, K: FarObject, V: FarObject, J: Naming> TableScope<'a, K, V, J> {
         &self.scope.object().as_bytes()[self.place.start..self.place.end]
     }
 
-    /// The value, decoded into memory of its own. `Memory` comes where that is refused.
+    /// The value, decoded into newly allocated memory. `Memory` is returned if that allocation fails.
     pub fn value(&self, alloc: Global) -> Result<V, Memory>
         ensures { IfOk result (λ v. self.now.value ≡ Some v) }
     {
@@ -61,14 +65,14 @@ impl<'a, K: FarObject, V: FarObject, J: Naming> TableScope<'a, K, V, J> {
         }
     }
 
-    /// The name of its version.
+    /// The name (version number) of the version that it reads.
     pub fn name(&self) -> u64
         ensures { result ≡ self.now.name }
     {
         self.scope.name()
     }
 
-    /// Lets the frame go, in which the version may end from now on.
+    /// Ends the reading. From now on the version can be reclaimed, if no other scope is open on it.
     pub fn close(self) {
         let Self { scope, place: _ } = self;
         scope.close();
@@ -76,12 +80,17 @@ impl<'a, K: FarObject, V: FarObject, J: Naming> TableScope<'a, K, V, J> {
 }
 
 impl<K: FarObject, V: FarObject, J: Naming, D: Device> FarTable<K, V, J, D> {
-    /// One try of a get whose value stays readable, from a frame: a scope on the value, or none. It waits for nothing, takes
-    /// no memory and copies nothing, and touches the frame.
+    /// Tries once to open a scope on the value of a key, in its frame. None if the key has no value.
     ///
-    /// `Far` comes where the bucket's object lies on the device, `Missed` where the frame does not give the version, `Moved`
-    /// where the bucket's word is another one at the end. A refused try has made no call and holds no frame, and no try leaves a
-    /// spare.
+    /// It is a get that waits for nobody, allocates nothing and copies nothing. It marks the frame as used,
+    /// for the choice of what to swap out. It leaves no spare (retired word). A refused try has made no call
+    /// and holds no frame.
+    ///
+    /// Errors:
+    ///
+    /// - `Far` if the bucket's object is on the device
+    /// - `Missed` if the frame does not return the version, for the reasons that `try_get` lists
+    /// - `Moved` if the bucket's word is another one at the end
     pub fn open_scope(
         &self,
         caller: &mut Caller<K, V, J>,

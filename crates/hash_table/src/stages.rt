@@ -1,5 +1,5 @@
-//! The stages of which every call is made. A stage takes "this word was seen" and gives "these are its contents"; reading
-//! leaves the pass as it is.
+//! The stages that every call is made of. A stage takes "this word was seen" and returns "these are its
+//! contents". Reading leaves the pass (the caller's identity, with what it has seen) as it is.
 
 pub(crate) mod build;
 pub(crate) mod far;

@@ -1,4 +1,4 @@
-//! What a table tells, beside the values of keys.
+//! What a table reports apart from the values of keys.
 ghost use Rattle.std.specs.Prelude.{◌≡◌, ◌<◌, IsTrue, IfOk, IfErr, IfSome};
 ghost use mathlib.Core.List.{IsPrefix};
 ghost use Rattle.frame_cache.specs.Slots.{IsOfVersion};
@@ -20,19 +20,20 @@ use std::sync::Wait;
 use table_core::word::name_of;
 use version_words::{Mark, Naming};
 
-/// Where a bucket's contents lie, with the name of its word.
+/// Where a bucket's object is, with the name (version number) of the bucket's word.
 #[derive(Clone, Copy, Debug, PartialEq, Eq)]
 pub enum BucketState {
     /// There is no pair. The name of a bucket that was never written is 0.
     Empty(u64),
-    /// In a frame.
+    /// It is in a frame.
     Local(u64),
-    /// On the device.
+    /// It is on the device.
     Far(u64),
 }
 
 impl<K: FarObject, V: FarObject, J: Naming, D: Device> FarTable<K, V, J, D> {
-    /// Where the contents of a bucket lie.
+    /// Reports where the object of a bucket is, by one load of its word. `bucket` has to be below the number
+    /// of buckets.
     pub fn state_of(&self, caller: &mut Caller<K, V, J>, bucket: u32) -> BucketState
         requires bucket { bucket < J.limits.buckets }
         ensures lawful { IsLawful K.enc V.enc J.limits caller.new.pass.front }
@@ -49,7 +50,7 @@ impl<K: FarObject, V: FarObject, J: Naming, D: Device> FarTable<K, V, J, D> {
         }
     }
 
-    /// Afterwards the caller has seen what the mark has.
+    /// Lets the caller learn a mark. Afterwards it has seen the prefix of the log that the mark shows.
     pub fn learn(&self, caller: &mut Caller<K, V, J>, mark: &Mark<K, V, J>)
         ensures lawful { IsLawful K.enc V.enc J.limits caller.new.pass.front }
         ensures goes { Goes caller.old.pass caller.new.pass }
@@ -59,11 +60,15 @@ impl<K: FarObject, V: FarObject, J: Naming, D: Device> FarTable<K, V, J, D> {
         self.words.learn(&mut caller.pass, mark);
     }
 
-    /// All pairs of a bucket, in key order, by one try. It is no call of the history.
+    /// Tries once to read all pairs of a bucket, in key order. `bucket` has to be below the number of
+    /// buckets. It is no call of the history.
     ///
-    /// `Missed` comes where the frame does not give the version or the lane has no receipt, `Device` where the device
-    /// fails, `Damaged` where what it gives is no object of this bucket and name, `Memory` where a growth is refused. Nothing is
-    /// changed then.
+    /// Errors, after which nothing is changed:
+    ///
+    /// - `Missed` if the frame does not return the version, or the lane does not have the object
+    /// - `Device` if the device fails
+    /// - `Damaged` if what the device returns is no object of this bucket and name (version number)
+    /// - `Memory` if an allocation fails
     pub fn pairs_in<R: Wait>(
         &self,
         rt: &R,
@@ -85,7 +90,9 @@ impl<K: FarObject, V: FarObject, J: Naming, D: Device> FarTable<K, V, J, D> {
         }
     }
 
-    /// The bucket and the name of what lay in a frame at a moment of the call. No clause says when none comes.
+    /// The bucket and the name (version number) of what a frame held at a moment of the call. None if it held
+    /// nothing, was being filled or emptied, or had as many readers as can be counted. No clause states when
+    /// none is returned.
     pub fn frame_seen(&self, frame: u32) -> Option<(u32, u64)>
         ensures bucket { IfSome result (λ found. found.0 < J.limits.buckets) }
         ensures own { IfSome result (λ found. IsOfVersion K.enc V.enc J.limits found.0 found.1) }
@@ -94,18 +101,22 @@ impl<K: FarObject, V: FarObject, J: Naming, D: Device> FarTable<K, V, J, D> {
         self.frames.seen(frame)
     }
 
-    /// Whether the frame was read since the last such question. Nothing is claimed of it.
+    /// Whether a get or a scope read the frame since the last such question. It is a hint: no contract says
+    /// anything about it.
     pub fn touched(&self, frame: u32) -> bool {
         self.frames.touched(frame)
     }
 
-    /// Whether a frame is named as free, by few loads at any number of frames: a hint, of which nothing is claimed.
+    /// Whether a frame is listed as free. It takes few loads, however many frames there are. It is a hint: no
+    /// contract says anything about it.
     pub fn has_free(&self) -> bool {
         self.frames.has_free()
     }
 
-    /// How many frames are free: a hint, of which nothing is claimed. It looks at a word for each 64 frames, and above 65,536
-    /// frames at some 1,024 words, as if the others were like them.
+    /// How many frames are free. It is a hint: no contract says anything about it.
+    ///
+    /// It reads a word for each 64 frames. Above 65,536 frames it reads some 1,024 words, and reports as if
+    /// the others were like them.
     pub fn free(&self) -> u32 {
         self.frames.free()
     }

@@ -1,25 +1,30 @@
-//! What a caller's calls read, moved and keep in frames. No contract claims anything of it: these are hints.
+//! Counts of what a caller's calls read, moved and keep in frames. They are hints: no contract says anything
+//! about them.
 
 use crate::refusal::Refusal;
 use crate::stages::seen::{Place, split};
 
-/// What a caller's calls did since it entered. A call that takes several rounds counts in each: so a get that fetches its object
-/// counts as a far read there, and as a local one where it reads the frame then.
+/// What a caller's calls did since it entered. A call of several rounds counts in each. For example, a get
+/// that fetches its object counts as a far read, and then as a local one when it reads the frame.
 #[derive(Clone, Copy, Debug, Default, PartialEq, Eq)]
 pub struct Traffic {
-    /// How often a get, a scope, a change or a read of a whole bucket found the bucket empty, or read its object in a frame.
+    /// How often a get, a scope, a change or a read of a whole bucket found the bucket empty, or read its
+    /// object in a frame.
     pub local_reads: u64,
-    /// How often one of these or a swap-in read the object from a device.
+    /// How often one of these, or a swap-in, read the object from a device.
     pub far_reads: u64,
     /// Swap-ins that brought an object into a frame.
     pub swap_ins: u64,
     /// Swap-outs that brought an object to a device.
     pub swap_outs: u64,
-    /// Calls that were refused since a device failed, and spares that came back for that.
+    /// Calls that were refused because a device failed, and spares (retired words) that were returned for
+    /// that reason.
     pub device_failures: u64,
-    /// Bytes of objects in the frames that words name: those that this caller's calls brought there, less those that they moved
-    /// out or replaced, whoever had brought them. So it can be less than 0, and the sum over all callers that there were is what
-    /// lies there at rest. An old version that waits to be reclaimed is not counted.
+    /// Bytes of objects in frames, as far as words name them: what this caller's calls brought there, less
+    /// what they moved out or replaced, whoever had brought it.
+    ///
+    /// So it can be less than 0. At rest the sum over all callers that ever entered is what frames hold. An
+    /// old version that waits to be reclaimed is not counted.
     pub bytes: i64,
 }
 
@@ -29,16 +34,16 @@ pub(crate) enum Counted {
     LocalRead,
     FarRead,
     Refused(Refusal),
-    /// An object of so many bytes came into a frame.
+    /// An object of this many bytes came into a frame.
     SwapIn(usize),
-    /// An object of so many bytes left its frame.
+    /// An object of this many bytes left its frame.
     SwapOut(usize),
-    /// In frames there are so many bytes less, and so many more.
+    /// In frames, objects of the first number of bytes were replaced by objects of the second.
     Replaced(usize, usize),
 }
 
 impl Counted {
-    /// A read of the contents of this word.
+    /// A read of the object under this word.
     pub(crate) fn read(word: u64) -> Counted {
         match split(word) {
             Place::Device => Counted::FarRead,

@@ -1,4 +1,4 @@
-//! The requests at the front of bytes are answered.
+//! Answers the requests at the front of a connection's bytes, and sends the replies.
 ghost use Rattle.std.specs.Prelude.{◌≡◌, ℕ, true, List, [], ◌∷◌, ◌++◌, length, IfOk, OnOk, OnErr};
 ghost use Rattle.lanes.specs.declared.slots.Slots.{Slots};
 ghost use Rattle.lanes.specs.Lanes.{Frame};
@@ -15,19 +15,20 @@ use crate::slots::FIRST;
 use crate::taking::{Taken, take_one};
 use resp::{Limits, Span};
 
-/// Once replies have more bytes they are written, though more of them may follow.
+/// Replies with more bytes than this are sent before the next request is answered.
 const MOST: usize = 1 << 16;
 
-/// How a turn of a connection ended.
+/// How the answering of a connection's bytes ended.
 #[derive(Clone, Copy)]
 pub(crate) enum Turned {
-    /// From this place on is the beginning of a request, which may be whole once it has so many bytes.
+    /// The bytes from `at` on are no whole request. There may be a whole one once they are `wanted`
+    /// bytes.
     Holds { at: usize, wanted: usize },
     /// The connection is over.
     Closes,
 }
 
-/// Writes bytes of a connection, in as many frames as they need.
+/// Writes bytes of a connection, in as many packets as they need.
 fn put_pieces<D: Duplex>(duplex: &mut D, connection: u64, bytes: &[u8]) -> Result<(), FrameFault>
     ensures put { OnOk result (Sends D.tells connection duplex.old duplex.new bytes.now []) }
     ensures part { OnErr result ((rest : List ℕ) × Sends D.tells connection duplex.old duplex.new bytes.now rest) }
@@ -44,7 +45,7 @@ fn put_pieces<D: Duplex>(duplex: &mut D, connection: u64, bytes: &[u8]) -> Resul
     Ok(())
 }
 
-/// Writes the replies.
+/// Writes the replies, and empties `out`.
 fn put<D: Duplex>(duplex: &mut D, connection: u64, out: &mut Vec<u8>) -> Result<(), FrameFault>
     ensures put { OnOk result (Sends D.tells connection duplex.old duplex.new out.old.items []) }
     ensures part { OnErr result ((rest : List ℕ) × Sends D.tells connection duplex.old duplex.new out.old.items rest) }
@@ -56,7 +57,7 @@ fn put<D: Duplex>(duplex: &mut D, connection: u64, out: &mut Vec<u8>) -> Result<
     Ok(())
 }
 
-/// Writes a frame that has no bytes of a connection.
+/// Writes a packet that has no bytes for a client.
 pub(crate) fn put_signal<D: Duplex>(
     duplex: &mut D,
     head: Head,
@@ -70,7 +71,7 @@ pub(crate) fn put_signal<D: Duplex>(
     duplex.write(head, text)
 }
 
-/// Writes what a service wants of all lanes or of the front: whether the connection goes on.
+/// Writes a packet without bytes, which a service asked for. Returns that the connection goes on.
 fn signal<D: Duplex>(duplex: &mut D, kind: Kind, connection: u64) -> Result<bool, FrameFault>
     requires { IsSignal kind }
     ensures put { OnOk result (Signals D.tells duplex.old duplex.new) }
@@ -82,8 +83,10 @@ fn signal<D: Duplex>(duplex: &mut D, kind: Kind, connection: u64) -> Result<bool
     Ok(true)
 }
 
-/// What is done after a request: whether the connection goes on. Replies that are many are written. A signal is written at once,
-/// before the replies that are not written yet.
+/// Does what the service asked for after a request. Returns whether the connection goes on.
+///
+/// A packet that the service asked for is written at once, before replies that wait. If the service
+/// asked for nothing, the replies are written if they have more than `MOST` bytes.
 fn go_on<D: Duplex>(
     duplex: &mut D,
     connection: u64,
@@ -112,7 +115,8 @@ fn go_on<D: Duplex>(
     }
 }
 
-/// Answers the whole requests at the front of a connection's bytes. The connection is over too where there is no memory to look at one.
+/// Answers the whole requests at the front of a connection's bytes. The connection is over too if an
+/// allocation fails for a request.
 fn answer_all<D: Duplex, S: Service>(
     duplex: &mut D,
     service: &mut S,
@@ -151,7 +155,7 @@ fn answer_all<D: Duplex, S: Service>(
     }
 }
 
-/// The lane closes the connection.
+/// Closes a connection: informs the service, and sends a close.
 pub(crate) fn leave<D: Duplex, S: Service>(
     duplex: &mut D,
     service: &mut S,
@@ -172,8 +176,8 @@ pub(crate) fn leave<D: Duplex, S: Service>(
     }
 }
 
-/// Answers the whole requests at the front of a connection's bytes, writes the replies, and closes the connection if it is
-/// over.
+/// Answers the whole requests at the front of a connection's bytes, and writes the replies. Closes the
+/// connection if it is over.
 pub(crate) fn answer<D: Duplex, S: Service>(
     duplex: &mut D,
     service: &mut S,

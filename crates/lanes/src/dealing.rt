@@ -1,4 +1,4 @@
-//! What a lane does with a frame of a connection.
+//! What the loop does with each packet.
 ghost use Rattle.std.specs.Prelude.{◌≡◌, List, [], ◌∷◌, ◌++◌, Some, None, IfOk, OnOk, OnErr, IsSome};
 ghost use Rattle.lanes.specs.declared.slots.Slots.{Slots};
 ghost use Rattle.lanes.specs.Marks.{Mark, Piece, Stop};
@@ -20,7 +20,7 @@ use crate::slots::{
 use resp::{Limits, Span};
 use std::alloc::Global;
 
-/// Closes a connection whose bytes can't be held. The replies so far were sent.
+/// Closes a connection whose bytes can't be kept. The replies to its earlier requests were sent.
 fn shed<D: Duplex, S: Service>(
     duplex: &mut D,
     service: &mut S,
@@ -37,8 +37,10 @@ fn shed<D: Duplex, S: Service>(
     }
 }
 
-/// Answers what stands in a frame, where nothing is held from before: the bytes of a whole request are not copied. Returns what is held
-/// then, or None if the lane has closed the connection.
+/// Answers the requests of a packet when nothing is held of the connection. The bytes of whole requests
+/// are not copied.
+///
+/// Returns what is held afterwards, or None if the loop has closed the connection.
 fn answer_frame<D: Duplex, S: Service>(
     duplex: &mut D,
     service: &mut S,
@@ -69,7 +71,7 @@ fn answer_frame<D: Duplex, S: Service>(
     }
 }
 
-/// The same of the bytes that were held, with a frame's behind them.
+/// The same for bytes that were held, followed by those of the packet.
 fn answer_held<D: Duplex, S: Service>(
     duplex: &mut D,
     service: &mut S,
@@ -103,8 +105,10 @@ fn answer_held<D: Duplex, S: Service>(
     }
 }
 
-/// Takes bytes of a connection that runs, behind those that are held. They are looked at once there are as many as were missing.
-/// Returns what is held then, or None if the lane has closed the connection.
+/// Takes bytes of a running connection, which follow those that are held. They are looked at once there
+/// are as many as a whole request may have.
+///
+/// Returns what is held afterwards, or None if the loop has closed the connection.
 fn take_turn<D: Duplex, S: Service>(
     duplex: &mut D,
     service: &mut S,
@@ -137,7 +141,8 @@ fn take_turn<D: Duplex, S: Service>(
     answer_held(duplex, service, limits, connection, bytes, spans, out)
 }
 
-/// Takes bytes of a connection that runs, and keeps what is held of it then. The front is told how much that is, if the connection goes on.
+/// Takes bytes of a running connection, and keeps what is held of it afterwards. If the connection goes
+/// on, the gateway is informed how much that is.
 fn take_bytes<D: Duplex, S: Service>(
     alloc: Global,
     duplex: &mut D,
@@ -171,7 +176,9 @@ fn take_bytes<D: Duplex, S: Service>(
     }
 }
 
-/// The client closes its connection, which is gone then. It may be gone already: it was given up when it began.
+/// The client closes its connection, which is gone afterwards.
+///
+/// It may be gone already: it was given up when it was opened.
 fn take_close<D: Duplex, S: Service>(
     duplex: &mut D,
     service: &mut S,
@@ -199,7 +206,8 @@ fn take_close<D: Duplex, S: Service>(
     }
 }
 
-/// Takes a frame of bytes. Those behind the lane's own close are passed over, also once the connection is gone.
+/// Takes a packet of bytes. After the loop's own close they are passed over, also once the connection
+/// is gone.
 fn take_data<D: Duplex, S: Service>(
     alloc: Global,
     duplex: &mut D,
@@ -226,7 +234,7 @@ fn take_data<D: Duplex, S: Service>(
     }
 }
 
-/// Does what a frame says. Whether the lane leaves.
+/// Does what a packet asks for. Returns whether the service leaves.
 pub(crate) fn take_frame<D: Duplex, S: Service>(
     alloc: Global,
     duplex: &mut D,

@@ -1,4 +1,4 @@
-//! Where frames come from and go to.
+//! The trait of what packets are read from and written to.
 ghost use Rattle.std.specs.Prelude.{◌≡◌, ℕ, List, [], ◌∷◌, ◌++◌, IfOk, OnOk, OnErr, MatchOption};
 ghost use Rattle.resp.specs.declared.limits.Limits.{Limits as limits_of_requests};
 ghost use Rattle.lanes.specs.Lanes.{Frame, AreSettled};
@@ -7,25 +7,37 @@ use crate::fault::FrameFault;
 use crate::frame::Head;
 use resp::Limits;
 
-/// Frames that come and go.
+/// Packets that are read and written.
 ///
-/// No frame is read while a reply is owed: before each `read` every connection has been sent the replies to all whole requests
-/// that came on it, and a close if the client closed it or if it is over.
+/// No packet is read while a reply is owed. Before each `read` every connection has been sent the
+/// replies to all whole requests that were read of it. It has also been sent a close, if its client
+/// closed it or it is over.
+///
+/// After an error each further call may fail. `Wire` does so.
 pub trait Duplex {
-    /// Whether it tells that from the first state to the second these frames came, and these were sent. A type may hold of any:
-    /// it claims nothing then.
+    /// What the type claims: that from the first state to the second these packets were read, and these
+    /// were written. A type that claims nothing has a `tells` that always holds.
     ghost tells: { Self → Self → List Frame → List Frame → Type 0 };
 
-    /// Whether nothing but whole frames came and was sent.
+    /// Whether only whole packets were read and written.
     ghost whole: { Self → Type 0 };
 
-    /// What its requests may have.
+    /// The limits of requests on its connections.
     ghost limits: { Self → limits_of_requests };
 
+    /// The limits of requests on its connections.
     fn limits(&self) -> Limits
         ensures { result ≡ limits self.now };
 
-    /// The next frame; its bytes take the place of what `room` had. None at the end.
+    /// Reads the next packet. Its bytes replace what `room` had. None at the end of the packets.
+    ///
+    /// The caller has sent all replies that are owed. `Wire` returns these errors:
+    ///
+    /// - `Io` if the reader fails, and `Cut` if it ends inside a packet.
+    /// - `Kind` if the packet's kind is unknown, and `TooLong` if it has more bytes than its kind may
+    ///   have.
+    /// - `Memory` if an allocation for the packet fails.
+    /// - `Failed` after an earlier error.
     fn read(&mut self, room: &mut Vec<u8>) -> Result<Option<Head>, FrameFault>
         requires settled { (start : Self) × (came : List Frame) × (sent : List Frame) × tells start self.old came sent × AreSettled (limits self.old) came sent }
         ensures came { IfOk result (λ r. MatchOption r
@@ -35,6 +47,13 @@ pub trait Duplex {
         ensures whole { OnOk result (whole self.new) }
         ensures limits { limits self.new ≡ limits self.old };
 
+    /// Writes a packet.
+    ///
+    /// `Wire` returns these errors:
+    ///
+    /// - `TooLong` if the packet has more bytes than its kind may have. Nothing of it is written.
+    /// - `Io` if the writer fails.
+    /// - `Failed` after an earlier error.
     fn write(&mut self, head: Head, bytes: &[u8]) -> Result<(), FrameFault>
         ensures sent { OnOk result ((start : Self) (came sent : List Frame) → tells start self.old came sent → tells start self.new came (sent ++ record { head = head; bytes = bytes.now } ∷ [])) }
         ensures failed { OnErr result ((start : Self) (came sent : List Frame) → tells start self.old came sent → tells start self.new came sent) }

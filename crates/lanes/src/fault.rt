@@ -1,44 +1,51 @@
-//! Why a lane ends before its frames do.
+//! Why the loop ends before its packets do.
 use std::alloc::AllocError;
 use thiserror::Error;
 
-/// Why a frame can't be read or written.
+/// Why a packet can't be read or written.
 #[derive(Clone, Copy, Debug, PartialEq, Eq, Error)]
 pub enum FrameFault {
-    /// The system failed a read or a write.
+    /// The reader or the writer failed.
     #[error("frames cannot be read or written")]
     Io,
-    /// The frames end inside a frame.
+    /// The packets end inside a packet.
     #[error("the frames end inside a frame")]
     Cut,
-    /// A frame is of no kind that there is.
+    /// A packet is of an unknown kind.
     #[error("a frame is of an unknown kind")]
     Kind,
-    /// A frame has more bytes than its kind may: 2^20 for data, 64 for an open, 4,096 for a note, 8 for what is held, none for the others.
+    /// A packet has more bytes than its kind may have: 2^20 for `Data`, 64 for `Open`, 4,096 for
+    /// `Note`, 8 for `Holds`, and none for the others.
     #[error("a frame is too long")]
     TooLong,
-    /// A growth of memory was refused.
+    /// An allocation failed.
     #[error("memory")]
     Memory,
-    /// An earlier call failed, and so does each after it.
+    /// An earlier call failed, so this one does too.
     #[error("an earlier frame failed")]
     Failed,
 }
 
-/// Why a lane ended before its frames did.
+/// Why the loop ended before its packets did.
 #[derive(Clone, Copy, Debug, PartialEq, Eq, Error)]
 pub enum LaneFault {
-    /// A frame can't be read or written.
+    /// A packet can't be read or written. That includes a packet whose bytes have no room.
     #[error(transparent)]
     Frame(FrameFault),
-    /// The service was refused a growth of memory. What the lane itself is refused ends one connection.
+    /// The service returned that an allocation failed.
+    ///
+    /// Most allocations of the loop itself cost one connection when they fail. Only those for the head
+    /// and the bytes of a packet end the loop, as a `FrameFault`.
     #[error("memory")]
     Memory,
-    /// A frame came that can't come now: data or a close of a connection that has not begun, an open whose number is not the next
-    /// one, or what only a lane sends.
+    /// A packet was read that is not allowed now.
+    ///
+    /// For example, `Data` or `Close` of a connection that was not opened, or an `Open` whose number is
+    /// not the next one, or is 2^64 - 1. `LetIn`, `LetOut` and `Holds` are never allowed, because only
+    /// the loop sends them.
     #[error("a frame out of turn")]
     OutOfTurn,
-    /// It took more frames than there are numbers.
+    /// The loop took 2^64 - 1 packets, as many as it can count.
     #[error("too many frames")]
     Counted,
 }

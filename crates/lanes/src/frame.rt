@@ -1,37 +1,40 @@
-//! What stands in front of a frame's bytes.
+//! The head of a packet, which precedes its bytes.
 ghost use Rattle.std.specs.Prelude.{◌≡◌};
 ghost use Rattle.lanes.specs.Frames.{most_bytes};
 
-/// What a frame is for.
+/// What a packet is for.
 #[derive(Clone, Copy, Debug, PartialEq, Eq)]
 pub enum Kind {
-    /// Bytes of a connection.
+    /// Bytes that the client sent, or bytes for the client.
     Data,
-    /// A connection begins. The bytes are its client's address as text. Only the gateway sends it.
+    /// A client has connected. The bytes are its address as text. Only the gateway sends it.
     Open,
-    /// Who sends it sends nothing more on the connection. It is answered by another; once both are sent the connection is gone.
+    /// The sender sends nothing more on the connection. The receiver answers with one, unless it has
+    /// sent one already. Once both are sent, the connection is gone.
     Close,
-    /// To a lane: look up from waiting. From a lane: wake all lanes. It is of no connection.
+    /// From the gateway: the service looks whether it has to leave. From the loop: wake all workers. It
+    /// belongs to no connection.
     Wake,
-    /// The connection may ask from now on. Only a lane sends it.
+    /// The connection is authenticated from now on. Only the loop sends it.
     LetIn,
-    /// The connection may ask no more. Only a lane sends it.
+    /// The connection is unauthenticated from now on. Only the loop sends it.
     LetOut,
-    /// Text that is of no connection.
+    /// Text that belongs to no connection.
     Note,
-    /// How many bytes of memory the server keeps for the connection now. Only a lane sends it.
+    /// How many bytes of memory the server keeps for the connection now: a number of 8 bytes, the
+    /// highest first. Only the loop sends it.
     Holds,
 }
 
-/// A frame's kind and connection.
+/// A packet's kind and connection.
 #[derive(Clone, Copy, Debug, PartialEq, Eq)]
 pub struct Head {
     pub kind: Kind,
-    /// 0 if it is of none.
+    /// The connection's number. 0 if the packet belongs to none.
     pub connection: u64,
 }
 
-/// How many bytes a frame of the kind has at most.
+/// How many bytes a packet of the kind has at most.
 pub(crate) fn most_of(kind: Kind) -> u32
     ensures { result ≡ most_bytes kind }
 {

@@ -1,4 +1,5 @@
-//! What a lane holds in memory: its buffers, and the beginnings of requests. The front is told how much a connection takes.
+//! What the loop keeps in memory: its buffers, and the beginnings of requests. The gateway is informed
+//! how much that is for a connection.
 ghost use Rattle.std.specs.Prelude.{◌≡◌, ◌<◌, ◌≤◌, ◌++◌, List, [], length, drop, vec_len, OnOk, OnErr, IsSome};
 ghost use Rattle.lanes.specs.Lanes.{Frame};
 ghost use Rattle.lanes.specs.Slots.{Runs, find_slot, Replaces};
@@ -15,13 +16,13 @@ use std::alloc::AllocError;
 /// Up to this length the room for what is held grows as that of any list.
 const SMALL: usize = 1 << 16;
 
-/// The front is not told of a smaller change.
+/// The gateway is not informed of a smaller change.
 const LEAST: u64 = 512;
 
-/// A buffer with room for more bytes than this is given back once it is empty.
+/// A buffer with room for more bytes than this is given back to the system once it is empty.
 pub(crate) const LARGE: usize = 1 << 18;
 
-/// Empties a buffer. One with room for more items is given back to the system.
+/// Empties a buffer. One with room for more than `most` items is given back to the system.
 pub(crate) fn empty<T: Drop>(buffer: &mut Vec<T>, most: usize)
     ensures { buffer.new.items ≡ [] }
 {
@@ -31,8 +32,10 @@ pub(crate) fn empty<T: Drop>(buffer: &mut Vec<T>, most: usize)
     }
 }
 
-/// Makes room for that many bytes more, if it can. Above 64 KiB the room is at most what the request wants, and at most twice what has
-/// come. So a client that only announces a long request takes no memory.
+/// Makes room for `more` bytes, if an allocation succeeds.
+///
+/// Above 64 KiB the room is at most twice what was read. It is at most what the request needs, unless
+/// more was read. So a client that only announces a long request takes no memory.
 fn make_room(held: &mut Vec<u8>, more: usize, wanted: usize)
     ensures { held.new.items ≡ held.old.items }
 {
@@ -44,7 +47,7 @@ fn make_room(held: &mut Vec<u8>, more: usize, wanted: usize)
     let _ = held.reserve_exact(room - held.len());
 }
 
-/// Holds bytes after the others. `wanted` is the length at which the request may be whole.
+/// Adds bytes to those that are held. `wanted` is the length at which the request may be whole.
 pub(crate) fn hold(held: &mut Vec<u8>, bytes: &[u8], wanted: usize) -> Result<(), AllocError>
     ensures held { OnOk result (held.new.items ≡ held.old.items ++ bytes.now) }
     ensures some { OnErr result (0 < length bytes.now) }
@@ -56,7 +59,8 @@ pub(crate) fn hold(held: &mut Vec<u8>, bytes: &[u8], wanted: usize) -> Result<()
     held.extend_from_slice(bytes)
 }
 
-/// What follows the requests that were taken. This takes no memory, and gives back the room that is not needed any more.
+/// What follows the requests that were taken. This takes no memory, and gives room back that is not
+/// needed any more.
 pub(crate) fn rest_of(held: Vec<u8>, at: usize) -> Vec<u8>
     requires { at ≤ vec_len held }
     ensures { result.items ≡ drop at held.items }
@@ -71,7 +75,8 @@ pub(crate) fn rest_of(held: Vec<u8>, at: usize) -> Vec<u8>
     rest
 }
 
-/// Tells the front how many bytes are kept for a connection, if that has changed by much or is none now. Returns what the front knows.
+/// Informs the gateway how many bytes are kept for a connection, if that changed by `LEAST` or more, or
+/// is none now. Returns the number that the gateway has then.
 fn tell<D: Duplex>(duplex: &mut D, connection: u64, told: u64, kept: u64) -> Result<u64, FrameFault>
     ensures told { OnOk result (Hints D.tells duplex.old duplex.new) }
     ensures failed { OnErr result ((start : D) (came sent : List Frame) → D.tells start duplex.old came sent → D.tells start duplex.new came sent) }
@@ -88,7 +93,8 @@ fn tell<D: Duplex>(duplex: &mut D, connection: u64, told: u64, kept: u64) -> Res
     }
 }
 
-/// Puts what is held of a running connection into its slot, and tells the front how much is kept for it.
+/// Puts what is held of a running connection into its slot, and informs the gateway how much is kept
+/// for it.
 pub(crate) fn keep<D: Duplex, S: Service>(
     duplex: &mut D,
     service: &S,

@@ -1,4 +1,4 @@
-//! What a lane holds between two services.
+//! What is kept of the connections between two services.
 ghost use Rattle.std.specs.Prelude.{◌≡◌};
 ghost use Rattle.lanes.specs.Slots.{none_seen};
 
@@ -6,17 +6,20 @@ use crate::slots::Slots;
 use std::alloc::Global;
 use std::marker::Model;
 
-/// Why a service left.
+/// Why `serve_on` returned.
 #[derive(Clone, Copy, Debug, PartialEq, Eq)]
 pub enum Pause {
-    /// There are no more frames.
+    /// There are no more packets.
     End,
-    /// It left at a wake.
+    /// The service left at a wake.
     Wake,
 }
 
-/// What a lane holds of its connections where a service left: of each one that is not gone whether the lane has closed it before
-/// the client, and the bytes that came and are no whole request; and which numbers were used.
+/// What the loop keeps of its connections when a service leaves, for the next service.
+///
+/// - Of each connection that is not gone: whether the loop has closed it before the client did, and the
+///   bytes that were read and are no whole request.
+/// - Which numbers were used.
 #[derive(Drop)]
 pub struct Holds {
     pub(crate) slots: Slots,
@@ -31,7 +34,7 @@ impl Model for Holds {
 }
 
 impl Holds {
-    /// Nothing, as no frame came yet.
+    /// Nothing: no packet was read yet.
     pub fn none(alloc: Global) -> Self
         ensures { result ≡ none_seen }
     {

@@ -1,4 +1,13 @@
-//! A lane: it reads frames of many connections, answers their requests in order, and writes frames.
+//! The request loop of a server's worker: packets of many connections come in, and their requests are
+//! answered in order.
+//!
+//! The loop has no sockets. A gateway holds these, and exchanges packets (`Kind`) with the loop. The
+//! loop cuts the bytes of each connection into requests (crate `resp`), asks a `Service` for each
+//! reply, and sends the replies as packets.
+//!
+//! - `serve_over` runs the loop over a reader and a writer, to the end of the packets.
+//! - `serve` does so over any `Duplex`.
+//! - `serve_on` begins where an earlier service left, and returns what the next one needs (`Holds`).
 #![tactic(auto)]
 
 mod answering;

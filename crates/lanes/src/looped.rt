@@ -1,4 +1,4 @@
-//! A lane's loop.
+//! The request loop.
 ghost use Rattle.std.specs.Prelude.{◌≡◌, ℕ, List, [], IfOk, OnOk, OnErr};
 ghost use Rattle.lanes.specs.Marks.{Mark};
 ghost use Rattle.lanes.specs.Calls.{Exchange, Awake};
@@ -16,13 +16,19 @@ use crate::service::{Service, Woken};
 use resp::Span;
 use std::alloc::Global;
 
-/// The gateway's frames have no more bytes. There is room for them from the beginning, since a lane that has none for a frame ends. If
-/// that is refused, it is asked for again as frames come.
+/// Packets of the gateway have no more bytes than this. The loop ends if a packet has no room, so there
+/// is room from the beginning. If that allocation fails, it is made again when packets are read.
 const ROOM: usize = 1 << 16;
 
-/// Reads frames until there are no more, or the service leaves at a wake, from where an earlier service left. The requests of
-/// each connection are answered in order, and the replies are written before it reads on. Where the service leaves, another
-/// may go on over the same frames with what is held.
+/// Serves packets until there are no more, or the service leaves at a wake. It begins where an earlier
+/// service left (`holds`).
+///
+/// The requests of each connection are answered in order. All replies are written before the next
+/// packet is read. If the service leaves, another one may go on over the same packets, with the `Holds`
+/// that are returned.
+///
+/// An error ends the loop (`LaneFault`). What was sent up to then is a beginning of the replies to a
+/// beginning of what was read.
 pub fn serve_on<D: Duplex, S: Service>(
     alloc: Global,
     duplex: &mut D,
@@ -72,7 +78,9 @@ pub fn serve_on<D: Duplex, S: Service>(
     Err(LaneFault::Counted)
 }
 
-/// Serves all frames, or those before the service leaves at a wake: what is held then is forgotten.
+/// Serves all packets, or those before the service leaves at a wake. What is held then is dropped.
+///
+/// Errors are those of `serve_on`.
 pub fn serve<D: Duplex, S: Service>(
     alloc: Global,
     duplex: &mut D,

@@ -1,4 +1,4 @@
-//! Frames from a reader.
+//! Reads packets from a reader.
 ghost use Rattle.std.specs.Prelude.{◌≡◌, ℕ, ◌+◌, ◌≤◌, List, true, length, IfOk, IfSome, OnErr, MatchOption};
 ghost use Rattle.std.specs.Int.{w32, w64, from_be_bytes};
 ghost use Rattle.std.specs.Io.KnownBytes.{Keeps, prepend_known, Consumes};
@@ -8,8 +8,8 @@ use crate::fault::FrameFault;
 use crate::frame::{Head, Kind, most_of};
 use std::io::{BufRead, ErrorKind};
 
-/// Moves bytes from the reader behind those of the room, so many at most, and says how many. None where the read was
-/// interrupted, and 0 where the reader has no byte.
+/// Moves at most `most` bytes from the reader to the end of the room, and returns how many. None if the
+/// read was interrupted, and 0 if the reader has ended.
 fn move_some<R: BufRead>(
     input: &mut R,
     room: &mut Vec<u8>,
@@ -37,7 +37,7 @@ fn move_some<R: BufRead>(
     Ok(Some(count))
 }
 
-/// Moves so many bytes, and says whether the reader had them.
+/// Moves `count` bytes, and returns whether the reader had them.
 fn move_all<R: BufRead>(input: &mut R, room: &mut Vec<u8>, count: usize) -> Result<bool, FrameFault>
     ensures moved { Keeps (prepend_known room.old.items (R.remaining input.old)) (prepend_known room.new.items (R.remaining input.new)) }
     ensures all { IfOk result (λ whole. whole ≡ true → length room.new.items ≡ length room.old.items + count) }
@@ -94,7 +94,7 @@ fn kind_of(byte: u8) -> Option<Kind>
     }
 }
 
-/// The next frame; its bytes take the place of what `room` had. None where the reader has no byte.
+/// Reads the next packet. Its bytes replace what `room` had. None if the reader has ended.
 pub(crate) fn read_frame<R: BufRead>(
     input: &mut R,
     header: &mut Vec<u8>,

@@ -1,4 +1,4 @@
-//! What a lane does when a client has come, and when a note has.
+//! What the loop does when a client has connected, and at a note.
 ghost use Rattle.std.specs.Prelude.{◌≡◌, ℕ, List, [], OnOk};
 ghost use Rattle.lanes.specs.Marks.{Mark, Else};
 ghost use Rattle.lanes.specs.Calls.{Exchange};
@@ -14,8 +14,10 @@ use crate::slots::{Slots, open};
 use resp::Limits;
 use std::alloc::Global;
 
-/// A client has come. If the service lets it in at once, the front is sent that. If there is no memory for its slot, the lane closes
-/// the connection, and the service is told that it is over.
+/// A client has connected. If the service takes it as authenticated at once, the gateway is informed.
+///
+/// If there is no memory for its slot, the loop closes the connection, and informs the service that it
+/// is over.
 pub(crate) fn take_open<D: Duplex, S: Service>(
     alloc: Global,
     duplex: &mut D,
@@ -45,7 +47,7 @@ pub(crate) fn take_open<D: Duplex, S: Service>(
     }
 }
 
-/// A note has come. What the service pushes goes back as one, cut at the most bytes of a note.
+/// A note was read. What the service pushes is sent back as one note, cut at the most bytes of a note.
 pub(crate) fn take_note<D: Duplex, S: Service>(
     duplex: &mut D,
     service: &mut S,

@@ -1,4 +1,4 @@
-//! A reader and a writer as the frames that come and go.
+//! A `Duplex` over a reader and a writer.
 ghost use Rattle.std.specs.Prelude.{◌≡◌, [], false};
 ghost use Rattle.lanes.specs.Frames.{WireTells};
 
@@ -11,7 +11,10 @@ use resp::Limits;
 use std::alloc::Global;
 use std::io::{BufRead, Write};
 
-/// Frames over a reader and a writer. After a failed call each further one fails, and nothing is read or written any more.
+/// Packets over a reader and a writer.
+///
+/// Each packet is flushed after it was written. After a call that failed each further call returns
+/// `Failed`, and nothing is read or written any more.
 #[derive(Drop)]
 pub struct Wire<R, W> {
     input: R,
@@ -22,6 +25,8 @@ pub struct Wire<R, W> {
 }
 
 impl<R: BufRead, W: Write> Wire<R, W> {
+    /// Packets of this reader and this writer, whose requests have these limits. It takes no memory
+    /// yet.
     pub fn new(alloc: Global, input: R, output: W, limits: Limits) -> Self
         ensures nothing { ⟦<Wire<R, W> as Duplex>⟧.tells result result [] [] }
         ensures parts { (result.input ≡ input) × (result.output ≡ output) }
@@ -76,7 +81,7 @@ impl<R: BufRead, W: Write> Duplex for Wire<R, W> {
 }
 
 impl<R, W> Wire<R, W> {
-    /// The reader and the writer.
+    /// The reader and the writer, whatever was read and written.
     pub fn into_parts(self) -> (R, W)
         ensures { (result.0 ≡ self.input) × (result.1 ≡ self.output) }
     {

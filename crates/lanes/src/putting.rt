@@ -1,4 +1,4 @@
-//! Frames to a writer.
+//! Writes packets to a writer.
 ghost use Rattle.std.specs.Prelude.{◌≡◌, ℕ, ◌≤◌, List, length, take, IfOk, OnOk, OnErr};
 ghost use Rattle.std.specs.Io.KnownBytes.{Keeps, Appends};
 ghost use Rattle.lanes.specs.Frames.{kind_byte, frame_bytes};
@@ -7,7 +7,7 @@ use crate::fault::FrameFault;
 use crate::frame::{Head, Kind, most_of};
 use std::io::{ErrorKind, Write};
 
-/// Writes some of the bytes, and says how many: none where the write was interrupted.
+/// Writes some of the bytes, and returns how many: 0 if the write was interrupted.
 fn put_some<W: Write>(output: &mut W, bytes: &[u8]) -> Result<usize, FrameFault>
     ensures within { IfOk result (λ n. n ≤ length bytes.now) }
     ensures put { IfOk result (λ n. Appends (W.contents output.old) (W.contents output.new) (take n bytes.now)) }
@@ -61,7 +61,8 @@ fn byte_of(kind: Kind) -> u8
     }
 }
 
-/// Writes a frame, and flushes. One with more bytes than its kind has is refused, and nothing of it is written.
+/// Writes a packet, and flushes. A packet with more bytes than its kind may have is refused, and
+/// nothing of it is written.
 pub(crate) fn write_frame<W: Write>(
     output: &mut W,
     head: Head,

@@ -1,4 +1,4 @@
-//! A lane from the reader's bytes to the writer's.
+//! The request loop from a reader's bytes to a writer's.
 ghost use Rattle.std.specs.Prelude.{ℕ, List, IfOk};
 ghost use Rattle.std.specs.Io.KnownBytes.{Consumes, Appends};
 ghost use Rattle.lanes.specs.Lanes.{Frame};
@@ -13,8 +13,14 @@ use resp::Limits;
 use std::alloc::Global;
 use std::io::{BufRead, Write};
 
-/// Serves the frames of a reader to its end, and writes frames. Where both tell their bytes: these frames came, and these were
-/// sent, of which each connection has the replies to what it asked, in order, all of them.
+/// Serves the packets of a reader to its end, or until the service leaves at a wake, and writes
+/// packets.
+///
+/// The contract holds if both types state which bytes were read and written. Then these packets were
+/// read, and these written. Each connection was sent the replies to its requests, in order, and none is
+/// missing.
+///
+/// Returns the reader and the writer. Errors are those of `serve_on`.
 pub fn serve_over<R: BufRead + Drop, W: Write + Drop, S: Service>(
     alloc: Global,
     input: R,

@@ -1,4 +1,4 @@
-//! What a lane holds of each number.
+//! What the loop keeps of each connection, by its number.
 ghost use Rattle.std.specs.Prelude.{◌≡◌, ◌+◌, ◌<◌, [], Some, None, IfSome, IsSome, IfOk, OnOk};
 ghost use Rattle.lanes.specs.Slots.{Fresh, Runs, Gone, seen, seen_so, seen_opened, state_of, slot_at, find_slot, views_of, none_seen, Replaces, OthersSame};
 
@@ -6,23 +6,23 @@ use crate::fault::LaneFault;
 use std::alloc::Global;
 use std::collections::BTreeMap;
 
-/// How many bytes are wanted where there is none.
+/// How many bytes a request may have at least. That many are waited for if none is held.
 pub(crate) const FIRST: usize = 1;
 
-/// How a connection stands that is not gone.
+/// The state of a connection that is not gone.
 #[derive(Clone, Copy, PartialEq, Eq)]
 pub(crate) enum State {
     Running,
-    /// The lane has closed the connection, and the client not yet.
+    /// The loop has closed the connection, and the client has not yet.
     Over,
 }
 
 /// The beginning of a request.
 #[derive(Drop)]
 pub(crate) struct Held {
-    /// The bytes that came and are no whole request.
+    /// The bytes that were read and are no whole request.
     pub(crate) bytes: Vec<u8>,
-    /// Of how many bytes the request may be whole.
+    /// The number of bytes with which the request may be whole.
     pub(crate) wanted: usize,
 }
 
@@ -30,7 +30,7 @@ pub(crate) struct Held {
 pub(crate) struct Slot {
     pub(crate) state: State,
     pub(crate) held: Held,
-    /// How many bytes are kept for the connection, as the front was last told.
+    /// How many bytes are kept for the connection, as last reported to the gateway.
     pub(crate) told: u64,
 }
 
@@ -38,12 +38,12 @@ pub(crate) struct Slot {
 #[derive(Drop)]
 pub(crate) struct Slots {
     pub(crate) map: BTreeMap<u64, Slot, Global>,
-    /// The number of the next connection. All below it were used.
+    /// The number of the next connection. All smaller ones were used.
     pub(crate) next: u64,
 }
 
 impl Slot {
-    /// Nothing is held, and the front was told of nothing.
+    /// A slot without held bytes, of which nothing was reported to the gateway.
     pub(crate) fn new(alloc: Global, state: State, wanted: usize) -> Self
         ensures { seen result ≡ seen_so state [] wanted }
     {
@@ -57,7 +57,7 @@ impl Slot {
 }
 
 impl Slots {
-    /// No number was used.
+    /// No connections: no number was used.
     pub(crate) fn new(alloc: Global) -> Self
         ensures { views_of result ≡ none_seen }
     {
@@ -68,7 +68,7 @@ impl Slots {
     }
 }
 
-/// How a connection stands, if it has begun and is not gone.
+/// The state of a connection, if it was opened and is not gone.
 pub(crate) fn state_at(slots: &Slots, connection: u64) -> Option<State>
     ensures state { IfSome result (λ state. state_of (slot_at slots.now connection) ≡ Some state) }
     ensures within { IsSome result → IsSome (find_slot slots.now connection) }
@@ -84,7 +84,8 @@ pub(crate) fn state_at(slots: &Slots, connection: u64) -> Option<State>
     }
 }
 
-/// What comes of a connection that is gone is passed over. It is a fault if the connection has not begun.
+/// Passes over a packet of a connection that is gone. If the connection was never opened, it is a
+/// fault.
 pub(crate) fn pass_over(slots: &Slots, connection: u64) -> Result<(), LaneFault>
     ensures { OnOk result (connection < slots.now.next) }
 {
@@ -95,7 +96,7 @@ pub(crate) fn pass_over(slots: &Slots, connection: u64) -> Result<(), LaneFault>
     }
 }
 
-/// Puts the slot in the place of the connection's, and gives that back. It takes no memory.
+/// Replaces the connection's slot, and returns the old one. It takes no memory.
 pub(crate) fn replace_slot(slots: &mut Slots, connection: u64, slot: Slot) -> Slot
     requires { IsSome (find_slot slots.old connection) }
     ensures old { seen result ≡ slot_at slots.old connection }
@@ -109,7 +110,7 @@ pub(crate) fn replace_slot(slots: &mut Slots, connection: u64, slot: Slot) -> Sl
     }
 }
 
-/// Takes out what is held, and what the front was told of it.
+/// Takes out what is held, and returns it with the number that was last reported to the gateway.
 pub(crate) fn take_held(alloc: Global, slots: &mut Slots, connection: u64) -> (Held, u64)
     requires { IsSome (find_slot slots.old connection) }
     ensures held { state_of (slot_at slots.old connection) ≡ Some State.Running → slot_at slots.old connection ≡ Runs result.0.bytes.items result.0.wanted }
@@ -131,7 +132,7 @@ pub(crate) fn set_slot(slots: &mut Slots, connection: u64, slot: Slot)
     let _old = replace_slot(slots, connection, slot);
 }
 
-/// The connection is gone: its number is not used again.
+/// The connection is gone. Its number is not used again.
 pub(crate) fn remove_slot(slots: &mut Slots, connection: u64)
     requires { connection < slots.old.next }
     ensures { Replaces connection Gone slots.old slots.new }
@@ -139,8 +140,10 @@ pub(crate) fn remove_slot(slots: &mut Slots, connection: u64)
     let _old = slots.map.remove(&connection);
 }
 
-/// Lets a connection begin, if there is memory for its slot; else it is gone. It is refused if its number is not the next one, or is
-/// the last of all. So no number is used twice.
+/// Opens a connection, and returns whether there is memory for its slot. If not, the connection is
+/// gone.
+///
+/// It is a fault if its number is not the next one, or is the last of all. So no number is used twice.
 pub(crate) fn open(alloc: Global, slots: &mut Slots, connection: u64) -> Result<bool, LaneFault>
     ensures fresh { OnOk result (slot_at slots.old connection ≡ Fresh) }
     ensures opened { IfOk result (λ is_made. Replaces connection (seen_opened is_made) slots.old slots.new) }

@@ -1,4 +1,4 @@
-//! A request at the front of bytes is answered.
+//! Takes one request from the front of a connection's bytes.
 ghost use Rattle.std.specs.Prelude.{◌≡◌, IfOk};
 ghost use Rattle.lanes.specs.Lanes.{fault_text as text_of};
 ghost use Rattle.lanes.specs.Turns.{Takes};
@@ -9,21 +9,22 @@ use std::alloc::AllocError;
 
 /// What was taken.
 pub(crate) enum Taken {
-    /// A request of so many bytes.
+    /// A request of `consumed` bytes.
     Whole { consumed: usize, next: Next },
-    /// Nothing: so many bytes of the request are missing at least.
+    /// Nothing: at least `missing` bytes of the request are missing.
     Short { missing: usize },
-    /// Nothing, and an error was pushed.
+    /// Nothing: the bytes are no request. An error was pushed.
     Bad,
-    /// Nothing: there is no memory for where its arguments lie, or for a short reply.
+    /// Nothing: there is no memory for the places of its arguments, for a short reply, or for an
+    /// error's text.
     Refused,
 }
 
-/// The room for a reply without which no request is taken: a number, a status, an error or the head of a longer reply has fewer bytes. So a
-/// request whose reply can't be written changes nothing.
+/// The room for a reply without which no request is taken. A number, a status, an error and the head of
+/// a longer reply have fewer bytes. So a request whose reply can't be written changes nothing.
 const ROOM: usize = 1 << 10;
 
-/// What a client is told, in Redis' words where it has some.
+/// The text of the error that the client gets, as Redis has it if it has such an error.
 fn fault_text(fault: Fault) -> &'static [u8]
     ensures { result.now ≡ text_of fault }
 {
@@ -38,8 +39,11 @@ fn fault_text(fault: Fault) -> &'static [u8]
     }
 }
 
-/// Takes a request if there is room for a short reply, and pushes the reply to it. One without arguments gets none. Want of memory is
-/// answered only where the service answers it.
+/// Takes a request if there is room for a short reply, and pushes the reply to it. A request without
+/// arguments gets no reply.
+///
+/// The only error is that of the service. If an allocation fails here, nothing is taken
+/// (`Taken::Refused`).
 pub(crate) fn take_one<S: Service>(
     service: &mut S,
     limits: Limits,

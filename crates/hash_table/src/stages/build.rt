@@ -14,12 +14,12 @@ use far_object::{Buffers, Entry, FarObject, MOST_PAIRS, Object, full_objects_gro
 use std::alloc::Global;
 use table_core::Operation;
 
-/// What an operation answers, and the object that it makes; none where it leaves the one that there is.
+/// The answer of an operation, and the object that it makes. None if it leaves the one that there is.
 #[derive(Drop)]
 pub struct Built<K: FarObject, V: FarObject> {
     pub(crate) answer: Option<V>,
     pub(crate) object: Option<Object<K, V>>,
-    // The bytes of the object that there is, where it lies in a frame.
+    // The bytes of the old object if it is in a frame, and otherwise 0.
     pub(crate) replaced: usize,
 }
 
@@ -34,7 +34,7 @@ pub(crate) fn is_met<V: FarObject>(expected: Option<&V>, found: &Option<V>) -> b
     }
 }
 
-// The object with the value at the key of the entry, where it is no longer than the limit.
+// The object with the value at the key of the entry, if it is no longer than the limit.
 fn with<K: FarObject, V: FarObject>(
     alloc: Global,
     buffers: &mut Buffers,
@@ -52,7 +52,8 @@ fn with<K: FarObject, V: FarObject>(
     full_objects_grow_too_long::<K, V>();
     let _map = object.as_bytes();
     if object.count() >= MOST_PAIRS {
-        // It would grow past a limit of as many bytes, but not past each greater one.
+        // An object of this many pairs is longer than a limit of `MOST_PAIRS` bytes, but not than each
+        // greater one.
         if limit > MOST_PAIRS {
             return Err(Refusal::Memory);
         }
@@ -68,7 +69,7 @@ fn with<K: FarObject, V: FarObject>(
     Ok(object)
 }
 
-// The object of this one pair, where it is no longer than the limit.
+// The object of this one pair, if it is no longer than the limit.
 fn only<K: FarObject, V: FarObject>(
     alloc: Global,
     buffers: &mut Buffers,
@@ -91,8 +92,8 @@ fn only<K: FarObject, V: FarObject>(
     Ok(object)
 }
 
-/// What the operation makes of a bucket without a pair. It takes no memory where it leaves the bucket, and one buffer or
-/// allocation where it sets the key.
+/// What the operation makes of a bucket without a pair. It takes one buffer or one allocation if it sets the
+/// key, and no memory if it leaves the bucket.
 pub(crate) fn build_first<'a, K: FarObject, V: FarObject>(
     alloc: Global,
     buffers: &mut Buffers,
@@ -139,8 +140,8 @@ pub(crate) fn build_first<'a, K: FarObject, V: FarObject>(
     }
 }
 
-/// What the operation makes of the object, of which it looks for its key once. The new object lies in one of the buffers, where it
-/// has room there.
+/// What the operation makes of the object, in which it looks for its key once. The new object is built in one
+/// of the buffers if it fits there.
 pub(crate) fn build<'a, K: FarObject, V: FarObject>(
     alloc: Global,
     buffers: &mut Buffers,

@@ -16,7 +16,9 @@ use table_core::word::name_of;
 use version_words::{Naming, Pass, contents_stay, seen_stay};
 
 impl<K: FarObject, V: FarObject, J: Naming, D: Device> FarTable<K, V, J, D> {
-    /// The object of a word on the device. As in a frame, the receipt's mark ties it to what the pass has seen.
+    /// Reads the object of a word from the device. The lane keeps a receipt for each object that it stored.
+    /// The receipt's mark ties the object to what the pass (the caller's identity) has seen, as a version's
+    /// mark does in a frame.
     pub(crate) fn read_device<R: Wait>(
         &self,
         rt: &R,

@@ -12,10 +12,11 @@ use table_core::word::name_of;
 use version_words::{Naming, Pass, contents_stay, seen_stay};
 
 impl<K: FarObject, V: FarObject, J: Naming, D: Device> FarTable<K, V, J, D> {
-    /// The version of a word, which stays in its frame until the scope is closed.
+    /// Opens a scope on the version of a word, which stays in its frame until the scope is closed.
     ///
-    /// Its name was drawn in the one log of which the pass has seen a beginning too, so its object is what the pass would
-    /// say of the name; marks have no bytes, and bringing the two together costs nothing.
+    /// The version's name (its number) was drawn in the one log of which the pass has seen a prefix too. So
+    /// the version's object is the one that the pass knows under that name. Marks have no bytes, and joining
+    /// the two costs nothing.
     pub(crate) fn enter_frame(
         &self,
         pass: &Pass<K, V, J>,

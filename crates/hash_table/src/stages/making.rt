@@ -1,4 +1,5 @@
-//! What an operation makes of the contents of a word that was seen: they are entered in their frame, or read from the device.
+//! What an operation makes of the object under a word that was seen. The object is read in its frame or from
+//! the device.
 ghost use Rattle.std.specs.Prelude.{◌≡◌, IsTrue, IfOk, IfErr};
 ghost use Rattle.table_core.specs.BucketWords.{name_of};
 ghost use Rattle.table_core.specs.Maps.{reply};
@@ -21,7 +22,7 @@ use table_core::Operation;
 use version_words::{Naming, Pass, empty_holds};
 
 impl<K: FarObject, V: FarObject, J: Naming, D: Device> FarTable<K, V, J, D> {
-    /// What the operation makes of the contents of a word that was seen, which lie in a frame.
+    /// What the operation makes of the object under this word, if that is in a frame or there is none.
     pub(crate) fn build_local<'a>(
         &self,
         alloc: Global,
@@ -63,7 +64,7 @@ impl<K: FarObject, V: FarObject, J: Naming, D: Device> FarTable<K, V, J, D> {
         }
     }
 
-    /// The same, wherever they lie.
+    /// The same, wherever the object is.
     pub(crate) fn build_anywhere<'a, R: Wait>(
         &self,
         rt: &R,

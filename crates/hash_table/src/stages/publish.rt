@@ -1,4 +1,4 @@
-//! A new object gets a name and a place, and is installed over the word that was seen.
+//! A new object gets a name (a version number) and a place, and is installed over the word that was seen.
 ghost use Rattle.std.specs.Prelude.{◌≡◌, ◌<◌, ℕ, [], ◌++◌, IsTrue, IfOk, IfErr, IfSome, length, option_to_list};
 ghost use Rattle.table_core.specs.BucketWords.{name_of, place_of, empty_place};
 ghost use Rattle.table_core.specs.Logs.{contents, word};
@@ -23,7 +23,7 @@ use table_core::word::{EMPTY_PLACE, FAR_PLACE};
 use version_words::{Change, Moved, Name, NameFault, Naming, Pass, changes_fit, seen_stay};
 
 impl<K: FarObject, V: FarObject, J: Naming, D: Device> FarTable<K, V, J, D> {
-    /// Draws a name for what the change makes of the contents of a word that was seen.
+    /// Draws a name for what the change makes of the object under a word that was seen.
     pub(crate) fn draw(
         &self,
         pass: &mut Pass<K, V, J>,
@@ -54,7 +54,8 @@ impl<K: FarObject, V: FarObject, J: Naming, D: Device> FarTable<K, V, J, D> {
         }
     }
 
-    /// Puts the object into a frame under a new name, and installs it. Where that lacks a frame or a name the object comes back.
+    /// Puts the object into a frame under a new name, and installs it. If it gets no frame or no name, it
+    /// returns the object.
     pub(crate) fn publish_local(
         &self,
         pass: &mut Pass<K, V, J>,
@@ -106,7 +107,7 @@ impl<K: FarObject, V: FarObject, J: Naming, D: Device> FarTable<K, V, J, D> {
         }
     }
 
-    /// Installs an object of no pairs under a new name. It lies nowhere.
+    /// Installs an object without pairs under a new name. It is not stored anywhere.
     pub(crate) fn publish_empty(
         &self,
         pass: &mut Pass<K, V, J>,
@@ -142,14 +143,14 @@ impl<K: FarObject, V: FarObject, J: Naming, D: Device> FarTable<K, V, J, D> {
                 Ok(())
             }
             Err((Moved, name)) => {
-                // What lies nowhere leaves nothing to reclaim.
+                // It is not stored anywhere, so there is nothing to reclaim.
                 drop(name.give_up(EMPTY_PLACE));
                 Err(Refusal::Moved)
             }
         }
     }
 
-    /// Has the object of a word in its frame written to the device under a new name, and installs that.
+    /// Writes the object of a word in its frame to the device under a new name, and installs that.
     pub(crate) fn publish_far<R: Wait>(
         &self,
         rt: &R,

@@ -1,22 +1,22 @@
-//! Where the contents of a word lie.
+//! Where the object of a word is.
 ghost use Rattle.std.specs.Prelude.{◌≡◌, IsTrue};
 ghost use Rattle.table_core.specs.BucketWords.{name_of, place_of};
 ghost use Rattle.hash_table.specs.Stages.{IsPlace, IsLocal};
 
 use table_core::word::{EMPTY_PLACE, FAR_PLACE, name_of, place_of};
 
-/// Where the contents of a word lie.
+/// Where the object of a word is.
 #[derive(Clone, Copy, Debug, PartialEq, Eq)]
 pub enum Place {
-    /// There are none.
+    /// There is none.
     Nothing,
     /// In this frame.
     Frame(u32),
-    /// On the device, under the word's name.
+    /// On the device, under the word's name (its version number).
     Device,
 }
 
-/// Where the contents of the word lie.
+/// Where the object of the word is.
 pub(crate) fn split(word: u64) -> Place
     ensures { IsPlace word result }
 {
@@ -30,7 +30,7 @@ pub(crate) fn split(word: u64) -> Place
     }
 }
 
-/// Whether the word says that its contents lie in this frame, under this name.
+/// Whether the word names this frame and this version.
 pub(crate) fn lies_in(word: u64, name: u64, frame: u32) -> bool
     ensures { IsTrue result → IsLocal word × (place_of word ≡ frame) × (name_of word ≡ name) }
 {

@@ -1,4 +1,5 @@
-//! What was made of a bucket is installed over the word that was seen, or that word is found still there.
+//! The last stage of a change. It installs what was made over the word that was seen, or checks that this
+//! word is still there.
 ghost use Rattle.std.specs.Prelude.{◌≡◌, ◌<◌, Some, IsTrue, IfOk, IfErr, length};
 ghost use Rattle.far_object.specs.Buckets.{bucket};
 ghost use Rattle.table_core.specs.BucketWords.{name_of};
@@ -22,7 +23,7 @@ use far_object::FarObject;
 use table_core::Operation;
 use version_words::{Change, Naming, Pass, Probe, seen_answers};
 
-// As it is installed.
+// The operation as it is installed.
 fn change_of<'a, K, V>(operation: &Operation<&'a K, &'a V>) -> Change<'a, K, V>
     requires { MayChange (lent operation.now) }
     ensures { operation_of result ≡ Some (lent operation.now) }
@@ -35,7 +36,7 @@ fn change_of<'a, K, V>(operation: &Operation<&'a K, &'a V>) -> Change<'a, K, V>
     }
 }
 
-// As it leaves its bucket.
+// The operation as a call that leaves its bucket.
 fn probe_of<'a, K, V>(operation: &Operation<&'a K, &'a V>) -> Probe<'a, K, V>
     requires { MayLeave (lent operation.now) }
     ensures { probed result ≡ lent operation.now }
@@ -49,7 +50,8 @@ fn probe_of<'a, K, V>(operation: &Operation<&'a K, &'a V>) -> Probe<'a, K, V>
 }
 
 impl<K: FarObject, V: FarObject, J: Naming, D: Device> FarTable<K, V, J, D> {
-    /// Installs what was built over the word that was seen, or finds that word still there where it is left.
+    /// Installs what was built over the word that was seen. If nothing was built, it checks that the word is
+    /// still there.
     pub(crate) fn settle<'a>(
         &self,
         pass: &mut Pass<K, V, J>,
