@@ -21,7 +21,7 @@ from pathlib import Path
 ROOT = Path(__file__).resolve().parent.parent
 PAGES = ("README.md", "CONTRIBUTING.md", "CHANGELOG.md", "docs/*.md", "crates/README.md", "crates/*/README.md", "front/README.md",
          "examples/*/README.md", "tests/*/README.md", "tests/*/*/README.md")
-FOLDERS = {"src", "specs", "proofs", "must-fail", "more-edits", *(it.name for it in [*ROOT.iterdir(), *ROOT.glob("crates/*")])}
+FOLDERS = {"src", "specs", "proofs", "must-fail", "long-edits", *(it.name for it in [*ROOT.iterdir(), *ROOT.glob("crates/*")])}
 FILE = re.compile(r"\.(rt|antt|md|sh|py|c|rs|txt|edit|svg)$")
 MOST_WORDS = 35
 PASSED_OVER = re.compile(r"NAME|MODULE|FUNCTION|(^|/)out(/|$)")

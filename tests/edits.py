@@ -1,6 +1,6 @@
 """Tries the first line of each edit, and that the table of docs/GUARANTEES.md has it: edits.py [--write].
 
-An edit, crates/NAME/must-fail/*.edit or crates/NAME/more-edits/*.edit, begins with a line that the prover's tools don't read:
+An edit, crates/NAME/must-fail/*.edit or crates/NAME/long-edits/*.edit, begins with a line that the prover's tools don't read:
 
     # WHAT A USER WOULD SUFFER: `CLAUSE` of `FUNCTION`.
 
@@ -19,7 +19,7 @@ from pathlib import Path
 ROOT = Path(__file__).resolve().parent.parent
 PAGE = ROOT / "docs/GUARANTEES.md"
 MARK = "<!-- `tests/edits.py --write` makes what follows. -->\n"
-FOLDERS = ("must-fail", "more-edits")
+FOLDERS = ("must-fail", "long-edits")
 NAMES = r"`[^`]+`(?: of `[^`]+`)?"
 LINE = re.compile(rf"# (?P<suffered>[^`:]+): (?P<clauses>{NAMES}(?:(?:, | and ){NAMES})*)\.")
 MOST_WORDS = 30
@@ -45,7 +45,7 @@ def faults_of(line, names):
 def read():
     """The edits' first lines by crate, and what is wrong with them."""
     lines, wrong = defaultdict(dict), []
-    for edit in sorted(ROOT.glob("crates/*/m*/*.edit")):
+    for edit in sorted(ROOT.glob("crates/*/*/*.edit")):
         crate = edit.parent.parent
         if edit.parent.name in FOLDERS:
             lines[crate][edit] = edit.read_text().split("\n")[0]

@@ -27,7 +27,7 @@ ROOT = Path(__file__).resolve().parent.parent
 PLANTED = ROOT / "tests/planted"
 LIST = PLANTED / "caught.txt"
 COPIED = ("bin", "crates", "crates.txt", "HANDLES", "tests")
-NOT_COPIED = shutil.ignore_patterns("out", "proofs", "must-fail", "more-edits")
+NOT_COPIED = shutil.ignore_patterns("out", "proofs", "must-fail", "long-edits")
 # Each test has so many seconds, and all of a crate with their build two hours: on a busy machine the longest test takes minutes.
 SECONDS, ALL_SECONDS = 600, 7200
 NO_END = " (no end)"

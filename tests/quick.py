@@ -27,7 +27,7 @@ TESTS = ROOT / "tests"
 RUNS = {
     "docs": [], "transcripts": ["transcripts"], "arguments": ["fartable"], "threads": ["fartable"], "thread_starts": ["fartable"], "front": [],
     "starts": ["fartable", "farrun", "wordcount", "farserve"], "wordcount_frames": ["wordcount"], "folders": ["fartable", "farrun"],
-    "refused_growths": ["fartable", "transcripts"], "scratch": ["farrun"], "server": ["farserve"],
+    "allocation_failures": ["fartable", "transcripts"], "scratch": ["farrun"], "server": ["farserve"],
     "cluster": ["farserve"], "stores": ["fartable", "farrun"],
 }
 # Those whose trials have bounds of time, as the 60 seconds that a run of random files has. The longest is first.

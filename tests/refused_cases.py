@@ -1,6 +1,6 @@
 """Plays case files with each growth refused in turn: refused_cases.py PROGRAM LIBRARY [FILE..].
 
-PROGRAM is the build of `transcripts`, and LIBRARY is refuse_growth.c, built. Without a FILE all files of tests/cases are played that
+PROGRAM is the build of `transcripts`, and LIBRARY is refuse_allocation.c, built. Without a FILE all files of tests/cases are played that
 have the line of MARK in their head. A call to which a growth is refused replies `memory`, and the program makes it once more. Then
 each reply has to be what the file says: the call did what it should, and what was there before still was.
 
@@ -23,7 +23,7 @@ from pathlib import Path
 from transcripts import CASES, counts, play
 
 # What a file has in its head, before its first case.
-MARK = "# Each of its growths is refused in turn, too."
+MARK = "# Each of its allocations fails in turn, too."
 LISTED = Path(__file__).resolve().parent / "refused_calls.txt"
 # A file whose cases grow more often would take minutes.
 MOST_GROWTHS = 5_000

@@ -13,7 +13,7 @@ import builds
 # What a checkout has for its programs.
 PARTS = ["bin", "crates", "front", "crates.txt", "HANDLES"]
 # What only a real build needs.
-LEFT_OUT = ["proofs", "specs", "must-fail", "more-edits", "README.md"]
+LEFT_OUT = ["proofs", "specs", "must-fail", "long-edits", "README.md"]
 # Commands that launchers need, beside rt and rustc.
 COMMANDS = ["sh", "env", "readlink", "cat", "git", "true", "sleep", "cp"]
 # Another user, as whom root can start something.

@@ -4,7 +4,7 @@
 mod case;
 mod fault;
 mod line;
-mod playing;
+mod player;
 mod reader;
 mod spelling;
 mod words;
@@ -12,5 +12,5 @@ mod words;
 pub use case::{Case, read_cases};
 pub use fault::{BadLine, CaseFault};
 pub use line::{Line, MOST_TIMES};
-pub use playing::{Difference, Playing};
+pub use player::{Difference, Playing};
 pub use spelling::{push_spelled, spelled};

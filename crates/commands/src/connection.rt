@@ -6,17 +6,17 @@ ghost use Rattle.commands.specs.Arguments.{listed};
 ghost use Rattle.commands.specs.Servers.{IsPart, IsPlainName, IsGreeting, IsAsked, IsCountedServer, credentials, info_text};
 
 use crate::arguments::Arguments;
-use crate::fault::Fault;
+use crate::fault::CommandFault;
 use crate::name::Name;
 use crate::number::whole_number;
+use crate::request_text::Shown;
 use crate::server::{ClientInfo, Greeting, Login, ServerCommand};
 use crate::server_name::{Container, OfServer, Subcommand};
-use crate::shown::Shown;
 
 /// The protocol that is spoken, RESP2.
 const PROTOCOL: i64 = 2;
 
-pub(crate) fn auth<'a>(rest: Arguments<'a>) -> Result<ServerCommand<'a>, Fault<'a>>
+pub(crate) fn auth<'a>(rest: Arguments<'a>) -> Result<ServerCommand<'a>, CommandFault<'a>>
     ensures spelt { IfOk result (λ c. IsAsked of_server.Auth (listed rest.entry) c) }
     ensures counted { IsCountedServer of_server.Auth (listed rest.entry) → IsOk result }
 {
@@ -33,9 +33,9 @@ pub(crate) fn auth<'a>(rest: Arguments<'a>) -> Result<ServerCommand<'a>, Fault<'
         }));
     }
     if rest.is_empty() {
-        Err(Fault::Count(Name::Server(OfServer::Auth)))
+        Err(CommandFault::Count(Name::Server(OfServer::Auth)))
     } else {
-        Err(Fault::Syntax)
+        Err(CommandFault::Syntax)
     }
 }
 
@@ -64,7 +64,7 @@ fn with_option<'a>(
     said: Greeting<'a>,
     word: &'a [u8],
     behind: Arguments<'a>,
-) -> Result<(Greeting<'a>, Arguments<'a>), Fault<'a>>
+) -> Result<(Greeting<'a>, Arguments<'a>), CommandFault<'a>>
     ensures { IfOk result (λ r. (words before : List (List ℕ)) → words ≡ before ++ word.now ∷ listed behind.entry
         → IsGreeting words said.entry → IsGreeting words r.0 × ((front : List (List ℕ)) × (words ≡ front ++ listed r.1))) }
 {
@@ -77,17 +77,17 @@ fn with_option<'a>(
     if word.eq_ignore_ascii_case(b"setname") {
         if let Some((name, rest)) = behind.split_first() {
             if !is_plain(name) {
-                return Err(Fault::ClientName);
+                return Err(CommandFault::ClientName);
             }
             let name = Some(name);
             return Ok((Greeting { name, ..said }, rest));
         }
     }
-    Err(Fault::HelloOption(Shown(word)))
+    Err(CommandFault::HelloOption(Shown(word)))
 }
 
 /// What the options of HELLO say together.
-fn greeting_of<'a>(words: Arguments<'a>) -> Result<Greeting<'a>, Fault<'a>>
+fn greeting_of<'a>(words: Arguments<'a>) -> Result<Greeting<'a>, CommandFault<'a>>
     ensures { IfOk result (λ g. IsGreeting (listed words.entry) g) }
 {
     let mut said = Greeting {
@@ -111,7 +111,7 @@ fn greeting_of<'a>(words: Arguments<'a>) -> Result<Greeting<'a>, Fault<'a>>
     Ok(said)
 }
 
-pub(crate) fn hello<'a>(rest: Arguments<'a>) -> Result<ServerCommand<'a>, Fault<'a>>
+pub(crate) fn hello<'a>(rest: Arguments<'a>) -> Result<ServerCommand<'a>, CommandFault<'a>>
     ensures spelt { IfOk result (λ c. IsAsked of_server.Hello (listed rest.entry) c) }
     ensures counted { IsCountedServer of_server.Hello (listed rest.entry) → IsOk result }
 {
@@ -122,10 +122,10 @@ pub(crate) fn hello<'a>(rest: Arguments<'a>) -> Result<ServerCommand<'a>, Fault<
         }));
     };
     let Some(version) = whole_number(version) else {
-        return Err(Fault::ProtocolNumber);
+        return Err(CommandFault::ProtocolNumber);
     };
     if version != PROTOCOL {
-        return Err(Fault::Protocol);
+        return Err(CommandFault::Protocol);
     }
     match greeting_of(words) {
         Ok(greeting) => Ok(ServerCommand::Hello(greeting)),
@@ -133,32 +133,32 @@ pub(crate) fn hello<'a>(rest: Arguments<'a>) -> Result<ServerCommand<'a>, Fault<
     }
 }
 
-pub(crate) fn select<'a>(rest: Arguments<'a>) -> Result<ServerCommand<'a>, Fault<'a>>
+pub(crate) fn select<'a>(rest: Arguments<'a>) -> Result<ServerCommand<'a>, CommandFault<'a>>
     ensures spelt { IfOk result (λ c. IsAsked of_server.Select (listed rest.entry) c) }
 {
     let Some(index) = rest.one() else {
-        return Err(Fault::Count(Name::Server(OfServer::Select)));
+        return Err(CommandFault::Count(Name::Server(OfServer::Select)));
     };
     let Some(number) = whole_number(index) else {
-        return Err(Fault::Number);
+        return Err(CommandFault::Number);
     };
     if number == 0 {
         return Ok(ServerCommand::Select);
     }
     if i32::try_from(number).is_ok() {
-        Err(Fault::Database)
+        Err(CommandFault::Database)
     } else {
-        Err(Fault::WideNumber)
+        Err(CommandFault::WideNumber)
     }
 }
 
-fn set_name<'a>(rest: Arguments<'a>) -> Result<ServerCommand<'a>, Fault<'a>>
+fn set_name<'a>(rest: Arguments<'a>) -> Result<ServerCommand<'a>, CommandFault<'a>>
     ensures { IfOk result (λ c. (args : List (List ℕ)) → IsPart (codes "setname") (listed rest.entry) args → IsAsked of_server.Client args c) }
 {
     match rest.one() {
         Some(name) if is_plain(name) => Ok(ServerCommand::ClientSetName(name)),
-        Some(_) => Err(Fault::ClientName),
-        None => Err(Fault::SubcommandCount(Subcommand::ClientSetName)),
+        Some(_) => Err(CommandFault::ClientName),
+        None => Err(CommandFault::SubcommandCount(Subcommand::ClientSetName)),
     }
 }
 
@@ -174,31 +174,31 @@ fn info_of(word: &[u8]) -> Option<ClientInfo>
     }
 }
 
-fn set_info<'a>(rest: Arguments<'a>) -> Result<ServerCommand<'a>, Fault<'a>>
+fn set_info<'a>(rest: Arguments<'a>) -> Result<ServerCommand<'a>, CommandFault<'a>>
     ensures { IfOk result (λ c. (args : List (List ℕ)) → IsPart (codes "setinfo") (listed rest.entry) args → IsAsked of_server.Client args c) }
 {
     let Some((word, value)) = rest.two() else {
-        return Err(Fault::SubcommandCount(Subcommand::ClientSetInfo));
+        return Err(CommandFault::SubcommandCount(Subcommand::ClientSetInfo));
     };
     match info_of(word) {
         Some(info) if is_plain(value) => Ok(ServerCommand::ClientSetInfo(info, value)),
-        Some(_) => Err(Fault::ClientInfoValue(Shown(word))),
-        None => Err(Fault::ClientInfo(Shown(word))),
+        Some(_) => Err(CommandFault::ClientInfoValue(Shown(word))),
+        None => Err(CommandFault::ClientInfo(Shown(word))),
     }
 }
 
-fn no_evict<'a>(rest: Arguments<'a>) -> Result<ServerCommand<'a>, Fault<'a>>
+fn no_evict<'a>(rest: Arguments<'a>) -> Result<ServerCommand<'a>, CommandFault<'a>>
     ensures { IfOk result (λ c. (args : List (List ℕ)) → IsPart (codes "no-evict") (listed rest.entry) args → IsAsked of_server.Client args c) }
 {
     let Some(word) = rest.one() else {
-        return Err(Fault::SubcommandCount(Subcommand::ClientNoEvict));
+        return Err(CommandFault::SubcommandCount(Subcommand::ClientNoEvict));
     };
     if word.eq_ignore_ascii_case(b"off") {
         Ok(ServerCommand::ClientNoEvictOff)
     } else if word.eq_ignore_ascii_case(b"on") {
-        Err(Fault::Refused("client|no-evict on"))
+        Err(CommandFault::Refused("client|no-evict on"))
     } else {
-        Err(Fault::Syntax)
+        Err(CommandFault::Syntax)
     }
 }
 
@@ -207,21 +207,21 @@ pub(crate) fn alone<'a>(
     of: Subcommand,
     rest: Arguments<'a>,
     command: ServerCommand<'a>,
-) -> Result<ServerCommand<'a>, Fault<'a>>
+) -> Result<ServerCommand<'a>, CommandFault<'a>>
     ensures { IfOk result (λ c. (c ≡ command.entry) × (listed rest.entry ≡ [])) }
 {
     if rest.is_empty() {
         Ok(command)
     } else {
-        Err(Fault::SubcommandCount(of))
+        Err(CommandFault::SubcommandCount(of))
     }
 }
 
-pub(crate) fn client<'a>(rest: Arguments<'a>) -> Result<ServerCommand<'a>, Fault<'a>>
+pub(crate) fn client<'a>(rest: Arguments<'a>) -> Result<ServerCommand<'a>, CommandFault<'a>>
     ensures spelt { IfOk result (λ c. IsAsked of_server.Client (listed rest.entry) c) }
 {
     let Some((word, rest)) = rest.split_first() else {
-        return Err(Fault::Count(Name::Server(OfServer::Client)));
+        return Err(CommandFault::Count(Name::Server(OfServer::Client)));
     };
     if word.eq_ignore_ascii_case(b"id") {
         alone(Subcommand::ClientId, rest, ServerCommand::ClientId)
@@ -238,6 +238,6 @@ pub(crate) fn client<'a>(rest: Arguments<'a>) -> Result<ServerCommand<'a>, Fault
     } else if word.eq_ignore_ascii_case(b"no-evict") {
         no_evict(rest)
     } else {
-        Err(Fault::Subcommand(Container::Client, Shown(word).short()))
+        Err(CommandFault::Subcommand(Container::Client, Shown(word).short()))
     }
 }

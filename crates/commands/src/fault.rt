@@ -1,15 +1,15 @@
 //! Why a request asks for nothing that there is, in Redis's words.
 
 use crate::name::Name;
+use crate::request_text::{Request, Shown};
 use crate::server_name::{Container, Subcommand};
-use crate::shown::{Request, Shown};
 use std::alloc::AllocError;
 use std::fmt;
 use thiserror::Error;
 
 /// The error of a request. Its text is the one that Redis answers, without the mark and the end of the line.
 #[derive(Clone, Copy, Error)]
-pub enum Fault<'a> {
+pub enum CommandFault<'a> {
     /// No command has the name.
     #[error("ERR unknown command {0}")]
     Unknown(Request<'a>),
@@ -87,30 +87,34 @@ pub enum Fault<'a> {
     Cursor,
 }
 
-impl Fault<'_> {
+impl CommandFault<'_> {
     /// Puts the text, byte for byte, behind what is there. (As it is displayed, it has U+FFFD for each byte that is not ASCII.)
     pub fn push_text(self, out: &mut Vec<u8>) -> Result<(), AllocError> {
         match self {
-            Fault::Unknown(request) => {
+            CommandFault::Unknown(request) => {
                 out.extend_from_slice(b"ERR unknown command ")?;
                 request.push_text(out)
             }
-            Fault::Subcommand(of, word) => {
+            CommandFault::Subcommand(of, word) => {
                 word.push_between("ERR unknown subcommand '", "'. Try ", out)?;
                 out.extend_from_slice(of.text().as_bytes())?;
                 out.extend_from_slice(b" HELP.")
             }
-            Fault::SlowLogCount(word) => word.push_between(
+            CommandFault::SlowLogCount(word) => word.push_between(
                 "ERR unknown subcommand or wrong number of arguments for '",
                 "'. Try SLOWLOG HELP.",
                 out,
             ),
-            Fault::Option(word) => word.push_between("ERR Unsupported option ", "", out),
-            Fault::HelloOption(word) => {
+            CommandFault::Option(word) => word.push_between("ERR Unsupported option ", "", out),
+            CommandFault::HelloOption(word) => {
                 word.push_between("ERR Syntax error in HELLO option '", "'", out)
             }
-            Fault::ClientInfo(word) => word.push_between("ERR Unrecognized option '", "'", out),
-            Fault::ClientInfoValue(word) => word.push_between(
+            CommandFault::ClientInfo(word) => word.push_between(
+                "ERR Unrecognized option '",
+                "'",
+                out,
+            ),
+            CommandFault::ClientInfoValue(word) => word.push_between(
                 "ERR ",
                 " cannot contain spaces, newlines or special characters.",
                 out,
@@ -124,7 +128,7 @@ impl Fault<'_> {
 }
 
 /// The text.
-impl fmt::Debug for Fault<'_> {
+impl fmt::Debug for CommandFault<'_> {
     fn fmt<W: fmt::Write>(&self, f: &mut fmt::Formatter<W>) -> fmt::Result {
         fmt::Display::fmt(self, f)
     }

@@ -2,10 +2,10 @@
 
 use crate::arguments::Arguments;
 use crate::command::{Lifetime, Only, Where};
-use crate::fault::Fault;
+use crate::fault::CommandFault;
 use crate::name::Name;
 use crate::number::whole_number;
-use crate::shown::Shown;
+use crate::request_text::Shown;
 use crate::time::{Clock, Time};
 
 /// The command that has options.
@@ -129,14 +129,14 @@ pub(crate) fn deadline_of<'a>(
     clock: Clock,
     amount: &[u8],
     now: u64,
-) -> Result<u64, Fault<'a>> {
-    let amount = whole_number(amount).ok_or(Fault::Number)?;
+) -> Result<u64, CommandFault<'a>> {
+    let amount = whole_number(amount).ok_or(CommandFault::Number)?;
     if amount <= 0 {
-        return Err(Fault::Lifetime(name));
+        return Err(CommandFault::Lifetime(name));
     }
     Time { amount, clock }
         .deadline(now)
-        .ok_or(Fault::Lifetime(name))
+        .ok_or(CommandFault::Lifetime(name))
 }
 
 /// The lifetime that an option gave, or the one where none did.
@@ -145,7 +145,7 @@ pub(crate) fn lifetime_of<'a>(
     given: Option<Given<'a>>,
     other: Lifetime,
     now: u64,
-) -> Result<Lifetime, Fault<'a>> {
+) -> Result<Lifetime, CommandFault<'a>> {
     match given {
         None => Ok(other),
         Some(Given::Keep) => Ok(Lifetime::Keep),
@@ -157,7 +157,7 @@ pub(crate) fn lifetime_of<'a>(
 }
 
 /// What the options of EXPIRE say together.
-pub(crate) fn only_of<'a>(words: Arguments<'a>) -> Result<Only, Fault<'a>> {
+pub(crate) fn only_of<'a>(words: Arguments<'a>) -> Result<Only, CommandFault<'a>> {
     let mut only = Only {
         absent: false,
         present: false,
@@ -177,14 +177,14 @@ pub(crate) fn only_of<'a>(words: Arguments<'a>) -> Result<Only, Fault<'a>> {
         } else if word.eq_ignore_ascii_case(b"lt") {
             only.earlier = true;
         } else {
-            return Err(Fault::Option(Shown(word).trimmed()));
+            return Err(CommandFault::Option(Shown(word).trimmed()));
         }
     }
     if only.absent && (only.present || only.later || only.earlier) {
-        return Err(Fault::AbsentAndOther);
+        return Err(CommandFault::AbsentAndOther);
     }
     if only.later && only.earlier {
-        return Err(Fault::LaterAndEarlier);
+        return Err(CommandFault::LaterAndEarlier);
     }
     Ok(only)
 }

@@ -7,7 +7,7 @@ ghost use Rattle.commands.specs.Arguments.{listed};
 ghost use Rattle.commands.specs.Servers.{IsScan, IsAsked, IsCountedServer};
 
 use crate::arguments::Arguments;
-use crate::fault::Fault;
+use crate::fault::CommandFault;
 use crate::name::Name;
 use crate::number::whole_number;
 use crate::server::{Scan, ServerCommand};
@@ -27,18 +27,22 @@ fn cursor_of(bytes: &[u8]) -> Option<u64>
 }
 
 /// A number of keys, one or more.
-fn count_of<'a>(bytes: &[u8]) -> Result<u64, Fault<'a>>
+fn count_of<'a>(bytes: &[u8]) -> Result<u64, CommandFault<'a>>
     ensures { IfOk result (λ n. (bytes.now ≡ decimal n) × (0 < n)) }
 {
     match whole_number(bytes) {
         Some(count) if 0 < count => Ok(count.unsigned_abs()),
-        Some(_) => Err(Fault::Syntax),
-        None => Err(Fault::Number),
+        Some(_) => Err(CommandFault::Syntax),
+        None => Err(CommandFault::Number),
     }
 }
 
 /// An option with its value beside what was said.
-fn with_option<'a>(said: Scan<'a>, word: &[u8], value: &'a [u8]) -> Result<Scan<'a>, Fault<'a>>
+fn with_option<'a>(
+    said: Scan<'a>,
+    word: &[u8],
+    value: &'a [u8],
+) -> Result<Scan<'a>, CommandFault<'a>>
     ensures options { IfOk result (λ r. (words before after : List (List ℕ)) → words ≡ before ++ word.now ∷ value.now ∷ after
         → IsScan words said.entry → IsScan words r) }
     ensures cursor { IfOk result (λ r. r.cursor ≡ said.entry.cursor) }
@@ -55,12 +59,12 @@ fn with_option<'a>(said: Scan<'a>, word: &[u8], value: &'a [u8]) -> Result<Scan<
         let strings = value.eq_ignore_ascii_case(b"string");
         Ok(Scan { strings, ..said })
     } else {
-        Err(Fault::Syntax)
+        Err(CommandFault::Syntax)
     }
 }
 
 /// What the options say together.
-fn with_options<'a>(first: Scan<'a>, words: Arguments<'a>) -> Result<Scan<'a>, Fault<'a>>
+fn with_options<'a>(first: Scan<'a>, words: Arguments<'a>) -> Result<Scan<'a>, CommandFault<'a>>
     requires { IsScan (listed words) first }
     ensures options { IfOk result (λ r. IsScan (listed words.entry) r) }
     ensures cursor { IfOk result (λ r. r.cursor ≡ first.entry.cursor) }
@@ -73,7 +77,7 @@ fn with_options<'a>(first: Scan<'a>, words: Arguments<'a>) -> Result<Scan<'a>, F
             break;
         };
         let Some((value, behind)) = values.split_first() else {
-            return Err(Fault::Syntax);
+            return Err(CommandFault::Syntax);
         };
         match with_option(said, word, value) {
             Ok(now_said) => {
@@ -86,14 +90,14 @@ fn with_options<'a>(first: Scan<'a>, words: Arguments<'a>) -> Result<Scan<'a>, F
     Ok(said)
 }
 
-pub(crate) fn scan<'a>(rest: Arguments<'a>) -> Result<ServerCommand<'a>, Fault<'a>>
+pub(crate) fn scan<'a>(rest: Arguments<'a>) -> Result<ServerCommand<'a>, CommandFault<'a>>
     ensures spelt { IfOk result (λ c. IsAsked of_server.Scan (listed rest.entry) c) }
 {
     let Some((cursor, words)) = rest.split_first() else {
-        return Err(Fault::Count(Name::Server(OfServer::Scan)));
+        return Err(CommandFault::Count(Name::Server(OfServer::Scan)));
     };
     let Some(cursor) = cursor_of(cursor) else {
-        return Err(Fault::Cursor);
+        return Err(CommandFault::Cursor);
     };
     let first = Scan {
         cursor,
@@ -108,7 +112,7 @@ pub(crate) fn scan<'a>(rest: Arguments<'a>) -> Result<ServerCommand<'a>, Fault<'
 }
 
 /// FLUSHALL and FLUSHDB. SYNC and ASYNC are one here.
-pub(crate) fn flush<'a>(rest: Arguments<'a>) -> Result<ServerCommand<'a>, Fault<'a>>
+pub(crate) fn flush<'a>(rest: Arguments<'a>) -> Result<ServerCommand<'a>, CommandFault<'a>>
     ensures spelt { IfOk result (λ c. (of : server_name) → (of ≡ of_server.FlushAll) ⊎ (of ≡ of_server.FlushDb) → IsAsked of (listed rest.entry) c) }
     ensures counted { length (listed rest.entry) ≡ 0 → IsOk result }
 {
@@ -118,6 +122,6 @@ pub(crate) fn flush<'a>(rest: Arguments<'a>) -> Result<ServerCommand<'a>, Fault<
     match rest.one() {
         Some(word) if word.eq_ignore_ascii_case(b"sync") => Ok(ServerCommand::Flush),
         Some(word) if word.eq_ignore_ascii_case(b"async") => Ok(ServerCommand::Flush),
-        _ => Err(Fault::Syntax),
+        _ => Err(CommandFault::Syntax),
     }
 }

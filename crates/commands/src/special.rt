@@ -6,25 +6,25 @@ ghost use Rattle.commands.specs.Commands.{IsAdd, IsCountedSpecial, IsSpecial};
 
 use crate::arguments::Arguments;
 use crate::command::{Change, Command, Lifetime, Where};
-use crate::fault::Fault;
+use crate::fault::CommandFault;
 use crate::name::{Name, Special};
 use crate::number::whole_number;
 use crate::options::{Optioned, deadline_of, lifetime_of, only_of, options_of};
 use crate::time::{Clock, Time};
 
-fn number<'a>(bytes: &[u8]) -> Result<i64, Fault<'a>>
+fn number<'a>(bytes: &[u8]) -> Result<i64, CommandFault<'a>>
     ensures { IfOk result (λ z. bytes.now ≡ signed_decimal z) }
 {
-    whole_number(bytes).ok_or(Fault::Number)
+    whole_number(bytes).ok_or(CommandFault::Number)
 }
 
-fn set<'a>(rest: Arguments<'a>, now: u64) -> Result<Command<'a>, Fault<'a>>
+fn set<'a>(rest: Arguments<'a>, now: u64) -> Result<Command<'a>, CommandFault<'a>>
     ensures { IfOk result (λ c. IsSpecial Special.Set (listed rest.entry) c) }
 {
     let name = Name::Special(Special::Set);
-    let (key, rest) = rest.split_first().ok_or(Fault::Count(name))?;
-    let (value, words) = rest.split_first().ok_or(Fault::Count(name))?;
-    let said = options_of(Optioned::Set, words).ok_or(Fault::Syntax)?;
+    let (key, rest) = rest.split_first().ok_or(CommandFault::Count(name))?;
+    let (value, words) = rest.split_first().ok_or(CommandFault::Count(name))?;
+    let said = options_of(Optioned::Set, words).ok_or(CommandFault::Syntax)?;
     let lifetime = lifetime_of(name, said.lifetime, Lifetime::Forever, now)?;
     Ok(Command::Set {
         key,
@@ -37,12 +37,12 @@ fn set<'a>(rest: Arguments<'a>, now: u64) -> Result<Command<'a>, Fault<'a>>
     })
 }
 
-fn get_ex<'a>(rest: Arguments<'a>, now: u64) -> Result<Command<'a>, Fault<'a>>
+fn get_ex<'a>(rest: Arguments<'a>, now: u64) -> Result<Command<'a>, CommandFault<'a>>
     ensures { IfOk result (λ c. IsSpecial Special.GetEx (listed rest.entry) c) }
 {
     let name = Name::Special(Special::GetEx);
-    let (key, words) = rest.split_first().ok_or(Fault::Count(name))?;
-    let said = options_of(Optioned::GetEx, words).ok_or(Fault::Syntax)?;
+    let (key, words) = rest.split_first().ok_or(CommandFault::Count(name))?;
+    let said = options_of(Optioned::GetEx, words).ok_or(CommandFault::Syntax)?;
     let lifetime = lifetime_of(name, said.lifetime, Lifetime::Keep, now)?;
     Ok(Command::GetEx { key, lifetime })
 }
@@ -53,11 +53,11 @@ fn set_for<'a>(
     clock: Clock,
     rest: Arguments<'a>,
     now: u64,
-) -> Result<Command<'a>, Fault<'a>>
+) -> Result<Command<'a>, CommandFault<'a>>
     ensures { IfOk result (λ c. IsSpecial Special.SetEx (listed rest.entry) c) }
 {
     let name = Name::Special(of);
-    let (key, amount, value) = rest.three().ok_or(Fault::Count(name))?;
+    let (key, amount, value) = rest.three().ok_or(CommandFault::Count(name))?;
     let deadline = deadline_of(name, clock, amount, now)?;
     Ok(Command::Set {
         key,
@@ -70,11 +70,11 @@ fn set_for<'a>(
     })
 }
 
-fn get_range<'a>(rest: Arguments<'a>) -> Result<Command<'a>, Fault<'a>>
+fn get_range<'a>(rest: Arguments<'a>) -> Result<Command<'a>, CommandFault<'a>>
     ensures { IfOk result (λ c. IsSpecial Special.GetRange (listed rest.entry) c) }
 {
     let name = Name::Special(Special::GetRange);
-    let (key, first, last) = rest.three().ok_or(Fault::Count(name))?;
+    let (key, first, last) = rest.three().ok_or(CommandFault::Count(name))?;
     Ok(Command::GetRange {
         key,
         first: number(first)?,
@@ -82,14 +82,14 @@ fn get_range<'a>(rest: Arguments<'a>) -> Result<Command<'a>, Fault<'a>>
     })
 }
 
-fn set_range<'a>(rest: Arguments<'a>) -> Result<Command<'a>, Fault<'a>>
+fn set_range<'a>(rest: Arguments<'a>) -> Result<Command<'a>, CommandFault<'a>>
     ensures { IfOk result (λ c. IsSpecial Special.SetRange (listed rest.entry) c) }
 {
     let name = Name::Special(Special::SetRange);
-    let (key, offset, value) = rest.three().ok_or(Fault::Count(name))?;
+    let (key, offset, value) = rest.three().ok_or(CommandFault::Count(name))?;
     let offset = number(offset)?;
     if offset < 0 {
-        return Err(Fault::Offset);
+        return Err(CommandFault::Offset);
     }
     Ok(Command::SetRange {
         key,
@@ -99,52 +99,52 @@ fn set_range<'a>(rest: Arguments<'a>) -> Result<Command<'a>, Fault<'a>>
 }
 
 /// INCR and DECR.
-fn step<'a>(of: Special, by: i64, rest: Arguments<'a>) -> Result<Command<'a>, Fault<'a>>
+fn step<'a>(of: Special, by: i64, rest: Arguments<'a>) -> Result<Command<'a>, CommandFault<'a>>
     ensures spelt { IfOk result (λ c. IsAdd (λ key n. (listed rest.entry ≡ key.now ∷ []) × (n ≡ by)) c) }
     ensures counted { IsCountedSpecial Special.Incr (listed rest.entry) → IsOk result }
 {
-    let key = rest.one().ok_or(Fault::Count(Name::Special(of)))?;
+    let key = rest.one().ok_or(CommandFault::Count(Name::Special(of)))?;
     Ok(Command::Add { key, by })
 }
 
-fn increase<'a>(rest: Arguments<'a>) -> Result<Command<'a>, Fault<'a>>
+fn increase<'a>(rest: Arguments<'a>) -> Result<Command<'a>, CommandFault<'a>>
     ensures { IfOk result (λ c. IsSpecial Special.IncrBy (listed rest.entry) c) }
 {
     let (key, by) = rest
         .two()
-        .ok_or(Fault::Count(Name::Special(Special::IncrBy)))?;
+        .ok_or(CommandFault::Count(Name::Special(Special::IncrBy)))?;
     Ok(Command::Add {
         key,
         by: number(by)?,
     })
 }
 
-fn decrease<'a>(rest: Arguments<'a>) -> Result<Command<'a>, Fault<'a>>
+fn decrease<'a>(rest: Arguments<'a>) -> Result<Command<'a>, CommandFault<'a>>
     ensures { IfOk result (λ c. IsSpecial Special.DecrBy (listed rest.entry) c) }
 {
     let (key, by) = rest
         .two()
-        .ok_or(Fault::Count(Name::Special(Special::DecrBy)))?;
-    let by = number(by)?.checked_neg().ok_or(Fault::Decrement)?;
+        .ok_or(CommandFault::Count(Name::Special(Special::DecrBy)))?;
+    let by = number(by)?.checked_neg().ok_or(CommandFault::Decrement)?;
     Ok(Command::Add { key, by })
 }
 
-fn increase_by_float<'a>(rest: Arguments<'a>) -> Result<Command<'a>, Fault<'a>>
+fn increase_by_float<'a>(rest: Arguments<'a>) -> Result<Command<'a>, CommandFault<'a>>
     ensures spelt { IfOk result (λ c. IsSpecial Special.IncrByFloat (listed rest.entry) c) }
     ensures counted { IsCountedSpecial Special.IncrByFloat (listed rest.entry) → IsOk result }
 {
     let (key, by) = rest
         .two()
-        .ok_or(Fault::Count(Name::Special(Special::IncrByFloat)))?;
+        .ok_or(CommandFault::Count(Name::Special(Special::IncrByFloat)))?;
     Ok(Command::AddFloat { key, by })
 }
 
-fn set_many<'a>(rest: Arguments<'a>) -> Result<Command<'a>, Fault<'a>>
+fn set_many<'a>(rest: Arguments<'a>) -> Result<Command<'a>, CommandFault<'a>>
     ensures spelt { IfOk result (λ c. IsSpecial Special.MSet (listed rest.entry) c) }
     ensures counted { IsCountedSpecial Special.MSet (listed rest.entry) → IsOk result }
 {
     if rest.is_empty() || rest.len() % 2 != 0 {
-        return Err(Fault::Count(Name::Special(Special::MSet)));
+        return Err(CommandFault::Count(Name::Special(Special::MSet)));
     }
     Ok(Command::SetMany(rest))
 }
@@ -155,17 +155,17 @@ fn expire<'a>(
     clock: Clock,
     rest: Arguments<'a>,
     now: u64,
-) -> Result<Command<'a>, Fault<'a>>
+) -> Result<Command<'a>, CommandFault<'a>>
     ensures { IfOk result (λ c. IsSpecial Special.Expire (listed rest.entry) c) }
 {
     let name = Name::Special(of);
-    let (key, rest) = rest.split_first().ok_or(Fault::Count(name))?;
-    let (amount, words) = rest.split_first().ok_or(Fault::Count(name))?;
+    let (key, rest) = rest.split_first().ok_or(CommandFault::Count(name))?;
+    let (amount, words) = rest.split_first().ok_or(CommandFault::Count(name))?;
     let only = only_of(words)?;
     let amount = number(amount)?;
     let deadline = Time { amount, clock }
         .deadline(now)
-        .ok_or(Fault::Lifetime(name))?;
+        .ok_or(CommandFault::Lifetime(name))?;
     Ok(Command::Expire {
         key,
         deadline,
@@ -173,7 +173,7 @@ fn expire<'a>(
     })
 }
 
-fn ping<'a>(rest: Arguments<'a>) -> Result<Command<'a>, Fault<'a>>
+fn ping<'a>(rest: Arguments<'a>) -> Result<Command<'a>, CommandFault<'a>>
     ensures spelt { IfOk result (λ c. IsSpecial Special.Ping (listed rest.entry) c) }
     ensures counted { IsCountedSpecial Special.Ping (listed rest.entry) → IsOk result }
 {
@@ -182,17 +182,17 @@ fn ping<'a>(rest: Arguments<'a>) -> Result<Command<'a>, Fault<'a>>
     }
     let text = rest
         .one()
-        .ok_or(Fault::Count(Name::Special(Special::Ping)))?;
+        .ok_or(CommandFault::Count(Name::Special(Special::Ping)))?;
     Ok(Command::Ping(Some(text)))
 }
 
-fn echo<'a>(rest: Arguments<'a>) -> Result<Command<'a>, Fault<'a>>
+fn echo<'a>(rest: Arguments<'a>) -> Result<Command<'a>, CommandFault<'a>>
     ensures spelt { IfOk result (λ c. IsSpecial Special.Echo (listed rest.entry) c) }
     ensures counted { IsCountedSpecial Special.Echo (listed rest.entry) → IsOk result }
 {
     let text = rest
         .one()
-        .ok_or(Fault::Count(Name::Special(Special::Echo)))?;
+        .ok_or(CommandFault::Count(Name::Special(Special::Echo)))?;
     Ok(Command::Echo(text))
 }
 
@@ -201,7 +201,7 @@ pub(crate) fn read_special<'a>(
     of: Special,
     rest: Arguments<'a>,
     now: u64,
-) -> Result<Command<'a>, Fault<'a>>
+) -> Result<Command<'a>, CommandFault<'a>>
     ensures spelt { IfOk result (λ c. IsSpecial of (listed rest.entry) c) }
     ensures counted { IsCountedSpecial of (listed rest.entry) → IsOk result }
 {

@@ -6,18 +6,18 @@
 //! return wrong bytes or count calls, in a known way.
 #![tactic(auto)]
 
-mod canned;
+mod canned_device;
 mod device;
-mod fake;
+mod fake_device;
 mod fault;
-mod faulty;
-mod lying;
-mod watched;
+mod faulty_device;
+mod lying_device;
+mod watched_device;
 
-pub use canned::CannedDevice;
+pub use canned_device::CannedDevice;
 pub use device::Device;
-pub use fake::FakeDevice;
+pub use fake_device::FakeDevice;
 pub use fault::DeviceFault;
-pub use faulty::FaultyDevice;
-pub use lying::LyingDevice;
-pub use watched::WatchedDevice;
+pub use faulty_device::FaultyDevice;
+pub use lying_device::LyingDevice;
+pub use watched_device::WatchedDevice;

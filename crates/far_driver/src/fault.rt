@@ -3,7 +3,7 @@ ghost use Rattle.std.specs.Prelude.{◌≡◌};
 ghost use Rattle.far_driver.specs.Faults.{of_file, of_threads};
 
 use command_file::FileFault;
-use run_lines::Refusal;
+use run_lines::LineRefusal;
 use thiserror::Error;
 use threaded_run::ThreadedFault;
 
@@ -39,7 +39,7 @@ pub enum RunFault {
     Write,
     /// The contents can't be read. The lines before `contents` were written.
     #[error("contents: {0}")]
-    Contents(Refusal),
+    Contents(LineRefusal),
 }
 
 /// The fault of a run for that of its file.

@@ -7,7 +7,7 @@ ghost use Rattle.hash_table.specs.Openings.{WasOpened};
 ghost use Rattle.far_driver.specs.Runs.{told_field, RanOn, FitsFiles, WritesBefore};
 
 use crate::fault::{RunFault, of_threads};
-use crate::reading::read_files;
+use crate::input_files::read_files;
 use far_device::Device;
 use hash_table::Config;
 use std::io::{BufRead, Write};

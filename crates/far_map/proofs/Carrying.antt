@@ -6,8 +6,8 @@ use Rattle.std.proofs.lemmas.List.Sorted.{IsPermutation-refl, IsPermutation-tran
 use Rattle.table_core.specs.declared.limits.Limits.{Limits}
 use Rattle.table_core.specs.declared.operation.Operation.TheVariants as op
 use Rattle.version_words.specs.Views.{Goes, calls}
-use Rattle.handover.specs.Parts.{Takes, Loses}
-use Rattle.far_map.specs.declared.refusal.Refusal.{Refusal}
+use Rattle.migration.specs.Parts.{Takes, Loses}
+use Rattle.far_map.specs.declared.refusal.MapRefusal.{MapRefusal}
 use Rattle.far_map.specs.Answers.{IsRefused, IsDone}
 use Rattle.far_map.specs.Loads.{Comes, puts, summed, PutsEach, IsLoading, Loads}
 use Rattle.far_map.specs.Views.{View, Pairs, Call}
@@ -131,7 +131,7 @@ module _ {V : Type 0} (ev : V → List ℕ) (l : Limits) (limit : ℕ) where
   put_more pairs old mid new k v refused answer h done = put_one pairs old mid new k v refused h (done_number mid new (op.Put k v) answer done) (done_calls mid new (op.Put k v) answer done)
 
   -- one more pair, whose put was refused
-  pub refused_more : (pairs : Pairs V) (old mid new : View V) (k : List ℕ) (v : V) (refused more : ℕ) (why : Refusal) → PutsEach pairs old mid refused → IsRefused ev l limit mid new (op.Put k v) why → more ≡ summed refused 1 → PutsEach (pairs ++ (k, v) ∷ []) old new more
+  pub refused_more : (pairs : Pairs V) (old mid new : View V) (k : List ℕ) (v : V) (refused more : ℕ) (why : MapRefusal) → PutsEach pairs old mid refused → IsRefused ev l limit mid new (op.Put k v) why → more ≡ summed refused 1 → PutsEach (pairs ++ (k, v) ∷ []) old new more
   refused_more pairs old mid new k v refused more why h is counted = left_one pairs old mid new k v refused more h is.goes.number is.goes.calls_stay counted
 
 -- ---- part after part

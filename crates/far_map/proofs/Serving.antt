@@ -1,15 +1,15 @@
--- The workers of a run, whose work was each one's only stint.
+-- The workers of a run, whose work was each one's only term.
 use Rattle.std.proofs.Common.{◌≡◌, ℕ, ◌+◌, List, [], ◌∷◌, Option, Some, None, IsSome, length, map, refl, ap, sym, ◌∙◌, subst, arith}
 use Rattle.std.specs.Prelude.{IsSomeAnd}
 use Rattle.std.specs.List.{AllByRecursion}
 use Rattle.far_map.specs.Views.{View, Log, SessionView}
 use Rattle.far_map.specs.Runs.{Served, AreServed, Worked}
-use Rattle.far_map.specs.Generations.{AreStints}
+use Rattle.far_map.specs.Generations.{AreTerms}
 
 module _ {V Out : Type 0} (Done : ℕ → SessionView V → SessionView V → Out → Type 0) (limit : ℕ) (told : Log V) where
   -- from here on each worker kept what its work gave back
   abbrev AreKept : ℕ → List (View V) → List (Option Out) → List (Option Out) → Type 0
-  AreKept n passes befores afters = AreStints (λ worker begun ended before after. IsSomeAnd after (λ out. Done worker begun ended out)) limit told n passes befores afters
+  AreKept n passes befores afters = AreTerms (λ worker begun ended before after. IsSomeAnd after (λ out. Done worker begun ended out)) limit told n passes befores afters
 
   pub all_kept : (n : ℕ) (passes : List (View V)) (befores afters : List (Option Out)) → AreKept n passes befores afters → AllByRecursion IsSome afters
   all_kept n [] [] [] h = tt

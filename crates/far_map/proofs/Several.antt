@@ -3,7 +3,7 @@ use Rattle.std.proofs.Common.{◌≡◌, ℕ, List, [], ◌∷◌, ◌++◌, app
 use Rattle.table_core.specs.declared.limits.Limits.{Limits}
 use Rattle.table_core.specs.declared.operation.Operation.TheVariants as op
 use Rattle.version_words.specs.Views.{Goes}
-use Rattle.far_map.specs.declared.refusal.Refusal.{Refusal}
+use Rattle.far_map.specs.declared.refusal.MapRefusal.{MapRefusal}
 use Rattle.far_map.specs.declared.stats.Stats.{Stats}
 use Rattle.far_map.specs.Views.{Call, SessionView}
 use Rattle.far_map.specs.Answers.{AnswersBy}
@@ -18,7 +18,7 @@ next_done all done rest behind x is split = is ∙ (ap (λ (xs : List _). done +
 
 module _ {V : Type 0} (ev : V → List ℕ) (l : Limits) where
   -- a session that went on, and counted nothing, before a call made it before that too
-  pub called_from : (old mid new : SessionView V) (o : Call V) (r : Result (Option V) Refusal) → Goes old.pass mid.pass → mid.limit ≡ old.limit → mid.stats ≡ old.stats → Called ev l mid new o r → Called ev l old new o r
+  pub called_from : (old mid new : SessionView V) (o : Call V) (r : Result (Option V) MapRefusal) → Goes old.pass mid.pass → mid.limit ≡ old.limit → mid.stats ≡ old.stats → Called ev l mid new o r → Called ev l old new o r
   called_from old mid new o r goes limit stats called = record {
     answers = answers_from ev l old.limit old.pass mid.pass new.pass o r goes (subst (λ (n : ℕ). AnswersBy ev l n mid.pass new.pass o r) limit called.answers);
     counts = record {

@@ -15,8 +15,8 @@ use Rattle.hash_table.specs.Refusals.{OfGet, OfFetch}
 use Rattle.hash_table.specs.Scopes.{ScopeView, shown}
 use Rattle.hash_table.specs.Steps.{IsInstalledLater}
 use Rattle.hash_table.proofs.Fronts.{goes_self, goes_trans, finished_from}
-use Rattle.far_map.specs.declared.refusal.Refusal.{Refusal}
-use Rattle.far_map.specs.declared.refusal.Refusal.TheVariants as refusal
+use Rattle.far_map.specs.declared.refusal.MapRefusal.{MapRefusal}
+use Rattle.far_map.specs.declared.refusal.MapRefusal.TheVariants as refusal
 use Rattle.far_map.specs.declared.refusal.Lack.TheVariants as lack
 use Rattle.far_map.specs.Refusals.{said, IsOfRoom, IsUnread}
 use Rattle.far_map.specs.Views.{View, Call}
@@ -24,7 +24,7 @@ use Rattle.far_map.specs.Answers.{MayRefuse, IsRefused, IsMade, IsDone, AnswersB
 
 module _ {V : Type 0} (ev : V → List ℕ) (l : Limits) (limit : ℕ) where
   -- a refusal of which this is so at the new front
-  here : (old new : View V) (o : Call V) (why : Refusal) → MayRefuse ev l limit o why new.front → Goes old new → IsRefused ev l limit old new o why
+  here : (old new : View V) (o : Call V) (why : MapRefusal) → MayRefuse ev l limit o why new.front → Goes old new → IsRefused ev l limit old new o why
   here old new o why may goes = record { goes = goes; seen = λ _. (new.front, goes.grows, prefix_self new.front, may) }
 
   abbrev at : Call V → ℕ
@@ -95,7 +95,7 @@ module _ {V : Type 0} (ev : V → List ℕ) (l : Limits) (limit : ℕ) where
 
   -- ---- tries that were refused before
 
-  pub refused_from : (old mid new : View V) (o : Call V) (why : Refusal) → Goes old mid → IsRefused ev l limit mid new o why → IsRefused ev l limit old new o why
+  pub refused_from : (old mid new : View V) (o : Call V) (why : MapRefusal) → Goes old mid → IsRefused ev l limit mid new o why → IsRefused ev l limit old new o why
   refused_from old mid new o why goes h = record {
     goes = goes_trans goes h.goes;
     seen = λ honest. let s = h.seen honest in (s.0, prefix_trans old.front mid.front s.0 goes.grows s.1, s.2, s.3);
@@ -113,7 +113,7 @@ module _ {V : Type 0} (ev : V → List ℕ) (l : Limits) (limit : ℕ) where
   done_later : (old mid new : View V) (o : Call V) (answer : Option V) → Goes old mid → IsDone ev l limit mid new o answer → IsDone ev l limit old new o answer
   done_later old mid new o answer goes h = record { front = h.front; made = made_from old mid h.front o answer goes h.made; goes = h.goes }
 
-  pub answers_from : (old mid new : View V) (o : Call V) (r : Result (Option V) Refusal) → Goes old mid → AnswersBy ev l limit mid new o r → AnswersBy ev l limit old new o r
+  pub answers_from : (old mid new : View V) (o : Call V) (r : Result (Option V) MapRefusal) → Goes old mid → AnswersBy ev l limit mid new o r → AnswersBy ev l limit old new o r
   answers_from old mid new o (Ok answer) goes h = done_later old mid new o answer goes h
   answers_from old mid new o (Err why) goes h = refused_from old mid new o why goes h
 
@@ -130,13 +130,13 @@ module _ {V : Type 0} (ev : V → List ℕ) (l : Limits) (limit : ℕ) where
   read_some old mid new k Makes answer value made is goes h makes =
       (value, done_later old mid new (op.Get k) (Some value) goes (subst (λ (a : Option V). IsDone ev l limit mid new (op.Get k) a) is h), makes)
 
-  pub gone_on : (old mid new : View V) (o : Call V) (why : Refusal) → IsRefused ev l limit old mid o why → Goes mid new → IsRefused ev l limit old new o why
+  pub gone_on : (old mid new : View V) (o : Call V) (why : MapRefusal) → IsRefused ev l limit old mid o why → Goes mid new → IsRefused ev l limit old new o why
   gone_on old mid new o why h goes = record {
     goes = goes_trans h.goes goes;
     seen = λ honest. let s = h.seen honest in (s.0, s.1, prefix_trans s.0 mid.front new.front s.2 goes.grows, s.3);
   }
 
-  of_room : (old new : View V) (o : Call V) (why : Refusal) → Goes old new → IsOfRoom l new.front why → IsRefused ev l limit old new o why
+  of_room : (old new : View V) (o : Call V) (why : MapRefusal) → Goes old new → IsOfRoom l new.front why → IsRefused ev l limit old new o why
   of_room old new o refusal.Memory goes t = here old new o refusal.Memory tt goes
   of_room old new o refusal.TooLong goes t = absurd t
   of_room old new o (refusal.Full what) goes t = absurd t
@@ -145,8 +145,8 @@ module _ {V : Type 0} (ev : V → List ℕ) (l : Limits) (limit : ℕ) where
   of_room old new o refusal.Damaged goes t = absurd t
 
   -- what no room helps is the refusal, and so is what was refused to what makes room, behind which the pass has gone on
-  pub replied_why : (old mid new later : View V) (o : Call V) (e : TableRefusal) (why : Refusal) → Goes old mid → IsRefused ev l limit mid new o (said e) → Goes new later → (why ≡ said e) ⊎ IsOfRoom l later.front why → IsRefused ev l limit old later o why
-  replied_why old mid new later o e why goes h on (inl is) = gone_on old new later o why (refused_from old mid new o why goes (subst (λ (w : Refusal). IsRefused ev l limit mid new o w) (sym is) h)) on
+  pub replied_why : (old mid new later : View V) (o : Call V) (e : TableRefusal) (why : MapRefusal) → Goes old mid → IsRefused ev l limit mid new o (said e) → Goes new later → (why ≡ said e) ⊎ IsOfRoom l later.front why → IsRefused ev l limit old later o why
+  replied_why old mid new later o e why goes h on (inl is) = gone_on old new later o why (refused_from old mid new o why goes (subst (λ (w : MapRefusal). IsRefused ev l limit mid new o w) (sym is) h)) on
   replied_why old mid new later o e why goes h on (inr t) = of_room old later o why (goes_trans goes (goes_trans h.goes on)) t
 
   -- ---- a pass that goes on behind a call
@@ -154,11 +154,11 @@ module _ {V : Type 0} (ev : V → List ℕ) (l : Limits) (limit : ℕ) where
   done_on : (old mid new : View V) (o : Call V) (answer : Option V) → IsDone ev l limit old mid o answer → Goes mid new → IsDone ev l limit old new o answer
   done_on old mid new o answer h goes = record { front = h.front; made = h.made; goes = goes_trans h.goes goes }
 
-  pub answers_on : (old mid new : View V) (o : Call V) (r : Result (Option V) Refusal) → AnswersBy ev l limit old mid o r → Goes mid new → AnswersBy ev l limit old new o r
+  pub answers_on : (old mid new : View V) (o : Call V) (r : Result (Option V) MapRefusal) → AnswersBy ev l limit old mid o r → Goes mid new → AnswersBy ev l limit old new o r
   answers_on old mid new o (Ok answer) h goes = done_on old mid new o answer h goes
   answers_on old mid new o (Err why) h goes = gone_on old mid new o why h goes
 
-  pub read_on : {T : Type 0} (old mid new : View V) (k : List ℕ) (Makes : V → T → Type 0) (r : Result (Option T) Refusal) → IsReadBy ev l limit old mid k Makes r → Goes mid new → IsReadBy ev l limit old new k Makes r
+  pub read_on : {T : Type 0} (old mid new : View V) (k : List ℕ) (Makes : V → T → Type 0) (r : Result (Option T) MapRefusal) → IsReadBy ev l limit old mid k Makes r → Goes mid new → IsReadBy ev l limit old new k Makes r
   read_on old mid new k Makes (Ok None) h goes = done_on old mid new (op.Get k) None h goes
   read_on old mid new k Makes (Ok (Some made)) h goes = (h.0, done_on old mid new (op.Get k) (Some h.0) h.1 goes, h.2)
   read_on old mid new k Makes (Err why) h goes = gone_on old mid new (op.Get k) why h goes
@@ -172,7 +172,7 @@ module _ {V : Type 0} (ev : V → List ℕ) (l : Limits) (limit : ℕ) where
 
   pub held_answers : (old mid new : View V) (k : List ℕ) (held : Option (ScopeView V)) → Goes old mid
       → Tries ev l limit mid new (op.Get k) (held_in {H = ScopeView V} {E = TableRefusal} (λ s. s.value) (Ok held))
-      → AnswersBy ev l limit old new (op.Get k) (held_in {H = ScopeView V} {E = Refusal} (λ s. s.value) (Ok held))
+      → AnswersBy ev l limit old new (op.Get k) (held_in {H = ScopeView V} {E = MapRefusal} (λ s. s.value) (Ok held))
   held_answers old mid new k None goes h = done_from old mid new (op.Get k) None goes h
   held_answers old mid new k (Some s) goes h = done_from old mid new (op.Get k) s.value goes h
 

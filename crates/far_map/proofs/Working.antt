@@ -13,11 +13,11 @@ use Rattle.version_words.specs.Views.{IsWhole, AreNone, AreApart, calls, calls_o
 use Rattle.hash_table.specs.declared.caller.Caller.{Caller}
 use Rattle.hash_table.specs.Closes.{IsClosed, ClosesSorted, ClosesInOrder, Hands}
 use Rattle.far_map.specs.Views.{View, Log, Pairs, SessionView}
-use Rattle.far_map.specs.declared.ending.End.{End}
-use Rattle.far_map.specs.declared.ending.Given.{Given}
-use Rattle.far_map.specs.declared.fault.RunFault.{RunFault}
+use Rattle.far_map.specs.declared.run_end.End.{End}
+use Rattle.far_map.specs.declared.run_end.Given.{Given}
+use Rattle.far_map.specs.declared.fault.MapFault.{MapFault}
 use Rattle.far_map.specs.Ends.{IsClosedBy, IsBundledBy, IsHandedBy}
-use Rattle.far_map.specs.declared.fault.RunFault.TheVariants as run
+use Rattle.far_map.specs.declared.fault.MapFault.TheVariants as run
 use Rattle.far_map.specs.declared.settings.Setting.{Setting}
 use Rattle.hash_table.specs.declared.refusal.OpenFault.{OpenFault}
 use Rattle.hash_table.specs.declared.refusal.OpenFault.TheVariants as opened
@@ -176,7 +176,7 @@ module _ {V Out : Type 0} (ev : V → List ℕ) (Done : ℕ → Limits → Sessi
   ran_badly limit limit' count count' passes outs same alike w = record { passes = passes; worked = as_limit limit limit' count count' passes outs same alike w }
 
 -- the same limits by another name
-pub run_as : {V Out S R E : Type 0} (ev : V → List ℕ) (r : Result R E) (outs_of : R → List Out) (given_of : R → Result (Given V) RunFault) (Done : ℕ → Limits → SessionView V → SessionView V → Out → Type 0) (Takes : S → Pairs V → S → Type 0) (Stops : S → S → Type 0)
+pub run_as : {V Out S R E : Type 0} (ev : V → List ℕ) (r : Result R E) (outs_of : R → List Out) (given_of : R → Result (Given V) MapFault) (Done : ℕ → Limits → SessionView V → SessionView V → Out → Type 0) (Takes : S → Pairs V → S → Type 0) (Stops : S → S → Type 0)
     (old new : S) (l l' : Limits) (limit limit' count : ℕ) (end : End)
     → l' ≡ l → limit' ≡ limit → IfOk r (λ x. EndsSo ev Done l' limit' count (outs_of x) Takes Stops old new end (given_of x)) → IfOk r (λ x. EndsSo ev Done l limit count (outs_of x) Takes Stops old new end (given_of x))
 run_as ev r outs_of given_of Done Takes Stops old new l l' limit limit' count end same_l same_limit h =
@@ -184,16 +184,16 @@ run_as ev r outs_of given_of Done Takes Stops old new l l' limit limit' count en
     (subst (λ (n : ℕ). IfOk r (λ x. EndsSo ev Done l' n count (outs_of x) Takes Stops old new end (given_of x))) same_limit h)
 
 module _ {V Out S : Type 0} (ev : V → List ℕ) (Done : ℕ → Limits → SessionView V → SessionView V → Out → Type 0) (l : Limits) (limit count : ℕ) (outs : List Out) (Takes : S → Pairs V → S → Type 0) (Stops : S → S → Type 0) (old new : S) where
-  abbrev Ends : End → Result (Given V) RunFault → Type 0
+  abbrev Ends : End → Result (Given V) MapFault → Type 0
   Ends end given = EndsSo ev Done l limit count outs Takes Stops old new end given
 
   -- what is so of the end that was asked for
-  pub as_asked : (end known : End) (given : Result (Given V) RunFault) → end ≡ known → Ends known given → Ends end given
+  pub as_asked : (end known : End) (given : Result (Given V) MapFault) → end ≡ known → Ends known given → Ends end given
   as_asked end known given is h = subst (λ (e : End). Ends e given) (sym is) h
 
 module _ {V S : Type 0} (Takes : S → Pairs V → S → Type 0) (Stops : S → S → Type 0) where
   -- a table that was not closed, behind pairs that were taken
-  pub handing_fault : (is_honest : Bool) (old new : S) (fault : RunFault) → IsLater is_honest fault → Hands Takes (λ _. ⊤) old new → IsHandingFault Takes Stops is_honest old new fault
+  pub handing_fault : (is_honest : Bool) (old new : S) (fault : MapFault) → IsLater is_honest fault → Hands Takes (λ _. ⊤) old new → IsHandingFault Takes Stops is_honest old new fault
   handing_fault is_honest old new (run.BadSetting s) h took = absurd h
   handing_fault is_honest old new run.PassesSpent h took = (h, took)
   handing_fault is_honest old new run.Memory h took = (h, took)
@@ -203,7 +203,7 @@ module _ {V S : Type 0} (Takes : S → Pairs V → S → Type 0) (Stops : S → 
   handing_fault is_honest old new run.Stopped h took = absurd h
 
 -- a fault at the end, where no setting is bad
-pub late_fault : (is_honest : Bool) (first : Option Setting) (fault : RunFault) → first ≡ None → IsLater is_honest fault → IsRunFault is_honest first fault
+pub late_fault : (is_honest : Bool) (first : Option Setting) (fault : MapFault) → first ≡ None → IsLater is_honest fault → IsRunFault is_honest first fault
 late_fault is_honest first (run.BadSetting s) none h = absurd h
 late_fault is_honest first run.PassesSpent none h = none
 late_fault is_honest first run.Memory none h = none
@@ -213,7 +213,7 @@ late_fault is_honest first run.Missed none h = none
 late_fault is_honest first run.Stopped none h = absurd h
 
 -- a fault before it
-pub early_fault : (is_honest : Bool) (first : Option Setting) (fault : RunFault) → IsEarlyFault first fault → IsRunFault is_honest first fault
+pub early_fault : (is_honest : Bool) (first : Option Setting) (fault : MapFault) → IsEarlyFault first fault → IsRunFault is_honest first fault
 early_fault is_honest first (run.BadSetting s) h = h
 early_fault is_honest first run.PassesSpent h = h
 early_fault is_honest first run.Memory h = h
@@ -223,7 +223,7 @@ early_fault is_honest first run.Missed h = absurd h
 early_fault is_honest first run.Stopped h = absurd h
 
 -- a fault as sessions enter, which may come later too
-pub entering_fault : (is_honest : Bool) (fault : RunFault) → IsOfEntering fault → IsLater is_honest fault
+pub entering_fault : (is_honest : Bool) (fault : MapFault) → IsOfEntering fault → IsLater is_honest fault
 entering_fault is_honest (run.BadSetting s) h = absurd h
 entering_fault is_honest run.PassesSpent h = tt
 entering_fault is_honest run.Memory h = tt
@@ -233,7 +233,7 @@ entering_fault is_honest run.Missed h = absurd h
 entering_fault is_honest run.Stopped h = absurd h
 
 -- a later fault of what was asked for where no setting is bad
-pub later_faults : {R : Type 0} (result : Result R RunFault) (is_honest honest : Bool) → is_honest ≡ honest → IfErr result (IsLater is_honest) → IfErr result (IsRunFault honest None)
+pub later_faults : {R : Type 0} (result : Result R MapFault) (is_honest honest : Bool) → is_honest ≡ honest → IfErr result (IsLater is_honest) → IfErr result (IsRunFault honest None)
 later_faults (Ok r) is_honest honest same h = tt
 later_faults (Err fault) is_honest honest same h = late_fault honest None fault refl (subst (λ (b : Bool). IsLater b fault) same h)
 

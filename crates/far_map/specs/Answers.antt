@@ -11,8 +11,8 @@ use Rattle.version_words.specs.Views.{Goes}
 use Rattle.hash_table.specs.declared.refusal.Refusal.{Refusal as TableRefusal}
 use Rattle.hash_table.specs.Calls.{SeenInCall, IsFinished, IsTooLong}
 use Rattle.hash_table.specs.Changes.{Sets}
-use Rattle.far_map.specs.declared.refusal.Refusal.{Refusal}
-use Rattle.far_map.specs.declared.refusal.Refusal.TheVariants as refusal
+use Rattle.far_map.specs.declared.refusal.MapRefusal.{MapRefusal}
+use Rattle.far_map.specs.declared.refusal.MapRefusal.TheVariants as refusal
 use Rattle.far_map.specs.Refusals.{said}
 use Rattle.far_map.specs.Views.{View, Log, Call, SessionView}
 
@@ -28,14 +28,14 @@ module _ {V : Type 0} (ev : V → List ℕ) (l : Limits) (limit : ℕ) where
   IsLong o log = IsTooLong enc_text ev l limit (bucket enc_text l.buckets (key_of o)) o log
 
   -- for which reason a call may be refused at a log: its object would be too long there, or the last name is drawn there; what is damaged comes over no honest device; of the others nothing is said
-  abbrev pub MayRefuse : Call V → Refusal → Log V → Type 0
+  abbrev pub MayRefuse : Call V → MapRefusal → Log V → Type 0
   MayRefuse o refusal.TooLong log = Sets o × IsLong o log
   MayRefuse o refusal.NamesSpent log = names_of log ≡ l.names
   MayRefuse o refusal.Damaged log = ⊥
   MayRefuse o _ log = ⊤
 
   -- the pass made no call, and at a log that was seen meanwhile the call may be refused so
-  pub record IsRefused (old new : View V) (o : Call V) (why : Refusal) : Type 0 where
+  pub record IsRefused (old new : View V) (o : Call V) (why : MapRefusal) : Type 0 where
     pub goes : Goes old new
     pub seen : IsTrue l.honest → SeenInCall old new (MayRefuse o why)
 
@@ -55,7 +55,7 @@ module _ {V : Type 0} (ev : V → List ℕ) (l : Limits) (limit : ℕ) where
     pub goes : Goes front new
 
   -- the pass made the call and was answered, or was refused and made none
-  abbrev pub AnswersBy : View V → View V → Call V → Result (Option V) Refusal → Type 0
+  abbrev pub AnswersBy : View V → View V → Call V → Result (Option V) MapRefusal → Type 0
   AnswersBy old new o (Ok answer) = IsDone old new o answer
   AnswersBy old new o (Err why) = IsRefused old new o why
 
@@ -65,22 +65,22 @@ module _ {V : Type 0} (ev : V → List ℕ) (l : Limits) (limit : ℕ) where
   Tries old new o (Err e) = IsRefused old new o (said e)
 
   -- a get whose value a reader was given, which made this of it
-  abbrev pub IsReadBy : {T : Type 0} → View V → View V → List ℕ → (V → T → Type 0) → Result (Option T) Refusal → Type 0
+  abbrev pub IsReadBy : {T : Type 0} → View V → View V → List ℕ → (V → T → Type 0) → Result (Option T) MapRefusal → Type 0
   IsReadBy old new k Makes (Ok None) = IsDone old new (op.Get k) None
   IsReadBy old new k Makes (Ok (Some made)) = (value : V) × IsDone old new (op.Get k) (Some value) × Makes value made
   IsReadBy old new k Makes (Err why) = IsRefused old new (op.Get k) why
 
 module _ {V : Type 0} (ev : V → List ℕ) (l : Limits) where
   -- a session made the call and was answered, or was refused and made none
-  abbrev pub Answers : SessionView V → SessionView V → Call V → Result (Option V) Refusal → Type 0
+  abbrev pub Answers : SessionView V → SessionView V → Call V → Result (Option V) MapRefusal → Type 0
   Answers old new o result = AnswersBy ev l old.limit old.pass new.pass o result
 
   -- a session's get whose value a reader was given
-  abbrev pub IsRead : {T : Type 0} → SessionView V → SessionView V → List ℕ → (V → T → Type 0) → Result (Option T) Refusal → Type 0
+  abbrev pub IsRead : {T : Type 0} → SessionView V → SessionView V → List ℕ → (V → T → Type 0) → Result (Option T) MapRefusal → Type 0
   IsRead old new k Makes result = IsReadBy ev l old.limit old.pass new.pass k Makes result
 
   -- a session's get, of which is told whether there is a value
-  abbrev pub IsFound : SessionView V → SessionView V → List ℕ → Result Bool Refusal → Type 0
+  abbrev pub IsFound : SessionView V → SessionView V → List ℕ → Result Bool MapRefusal → Type 0
   IsFound old new k (Ok true) = (value : V) × IsDone ev l old.limit old.pass new.pass (op.Get k) (Some value)
   IsFound old new k (Ok false) = IsDone ev l old.limit old.pass new.pass (op.Get k) None
   IsFound old new k (Err why) = IsRefused ev l old.limit old.pass new.pass (op.Get k) why

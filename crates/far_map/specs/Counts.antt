@@ -1,8 +1,8 @@
 -- What a session counts.
 use Rattle.std.specs.Prelude.{◌≡◌, ℕ, ◌+◌, ◌-◌, ◌^◌, min, List, Result, Ok, Err}
 use Rattle.table_core.specs.declared.operation.Operation.TheVariants as op
-use Rattle.far_map.specs.declared.refusal.Refusal.{Refusal}
-use Rattle.far_map.specs.declared.refusal.Refusal.TheVariants as refusal
+use Rattle.far_map.specs.declared.refusal.MapRefusal.{MapRefusal}
+use Rattle.far_map.specs.declared.refusal.MapRefusal.TheVariants as refusal
 use Rattle.far_map.specs.declared.stats.Stats.{Stats}
 use Rattle.far_map.specs.Views.{Call, SessionView}
 
@@ -22,7 +22,7 @@ finished_more (op.Remove k) s = record s { removes = more s.removes }
 finished_more (op.PutIf k expected v) s = record s { put_ifs = more s.put_ifs }
 
 -- one more was refused for this reason
-abbrev pub refused_more : Refusal → Stats → Stats
+abbrev pub refused_more : MapRefusal → Stats → Stats
 refused_more refusal.TooLong s = record s { too_long = more s.too_long }
 refused_more (refusal.Full what) s = record s { full = more s.full }
 refused_more refusal.NamesSpent s = record s { names_spent = more s.names_spent }
@@ -31,15 +31,15 @@ refused_more refusal.Damaged s = record s { damaged = more s.damaged }
 refused_more refusal.Memory s = record s { memory = more s.memory }
 
 -- a finished call counts for its kind, and a refused one for its reason
-abbrev pub counted : {V T : Type 0} → Call V → Result T Refusal → Stats → Stats
+abbrev pub counted : {V T : Type 0} → Call V → Result T MapRefusal → Stats → Stats
 counted o (Ok answer) s = finished_more o s
 counted o (Err why) s = refused_more why s
 
 -- the same of a get of values of this type
-abbrev pub counted_get : {T : Type 0} → (V : Type 0) → List ℕ → Result T Refusal → Stats → Stats
+abbrev pub counted_get : {T : Type 0} → (V : Type 0) → List ℕ → Result T MapRefusal → Stats → Stats
 counted_get V k result s = counted {V = V} (op.Get k) result s
 
 -- a session counted just this call, and its limit stands
-pub record Counts {V T : Type 0} (old new : SessionView V) (o : Call V) (result : Result T Refusal) : Type 0 where
+pub record Counts {V T : Type 0} (old new : SessionView V) (o : Call V) (result : Result T MapRefusal) : Type 0 where
   pub stats : new.stats ≡ counted o result old.stats
   pub limit : new.limit ≡ old.limit

@@ -11,7 +11,7 @@ use Rattle.version_words.specs.Views.{calls, calls_of, IsWhole, AreApart, AreNon
 use Rattle.hash_table.specs.declared.caller.Caller.{Caller}
 use Rattle.hash_table.specs.Closes.{IsFrontOf}
 use Rattle.hash_table.specs.Drains.{Drains}
-use Rattle.hash_table.specs.declared.draining.Drained.{Drained}
+use Rattle.hash_table.specs.declared.drain.Drained.{Drained}
 use Rattle.far_map.specs.Runs.{IsNew}
 use Rattle.far_map.specs.Loads.{Comes, puts, summed}
 use Rattle.far_map.specs.Views.{View, Log, Pairs, Call, SessionView}
@@ -20,8 +20,8 @@ use Rattle.far_map.specs.Views.{View, Log, Pairs, Call, SessionView}
 abbrev pub calls_by : {V : Type 0} → ℕ → List (Call V) → List (ℕ × Call V)
 calls_by pass made = map (λ o. (pass, o)) made
 
--- a worker did a stint, from what it had kept before to what it keeps after, by a new session that had seen all of this log, and that ended with this pass
-pub record IsStint {V T : Type 0} (Done : SessionView V → SessionView V → T → T → Type 0) (limit : ℕ) (told : Log V) (pass : View V) (before after : T) : Type 0 where
+-- a worker did a term, from what it had kept before to what it keeps after, by a new session that had seen all of this log, and that ended with this pass
+pub record IsTerm {V T : Type 0} (Done : SessionView V → SessionView V → T → T → Type 0) (limit : ℕ) (told : Log V) (pass : View V) (before after : T) : Type 0 where
   pub begun : SessionView V
   pub ended : SessionView V
   pub new : IsNew limit begun
@@ -31,11 +31,11 @@ pub record IsStint {V T : Type 0} (Done : SessionView V → SessionView V → T 
   pub pass_is : ended.pass ≡ pass
 
 module _ {V T : Type 0} (Done : ℕ → SessionView V → SessionView V → T → T → Type 0) (limit : ℕ) (told : Log V) where
-  -- each worker did a stint: these are their passes at the end, what they had kept before, and what they keep after; they are counted from here on
-  abbrev pub AreStints : ℕ → List (View V) → List T → List T → Type 0
-  AreStints n [] [] [] = ⊤
-  AreStints n (pass ∷ passes) (before ∷ befores) (after ∷ afters) = IsStint (Done n) limit told pass before after × AreStints (n + 1) passes befores afters
-  AreStints n _ _ _ = ⊥
+  -- each worker did a term: these are their passes at the end, what they had kept before, and what they keep after; they are counted from here on
+  abbrev pub AreTerms : ℕ → List (View V) → List T → List T → Type 0
+  AreTerms n [] [] [] = ⊤
+  AreTerms n (pass ∷ passes) (before ∷ befores) (after ∷ afters) = IsTerm (Done n) limit told pass before after × AreTerms (n + 1) passes befores afters
+  AreTerms n _ _ _ = ⊥
 
 -- the log has the calls of these callers, and of one of the map's own that made none, and no others
 pub record IsFrontBy {V J : Type 0} (ev : V → List ℕ) (l : Limits) (callers : List (Caller (List ℕ) V J)) (log : Log V) : Type 0 where
@@ -55,7 +55,7 @@ Waits ev l log waiting None = ⊤
 Waits ev l log waiting (Some left) = IsTrue l.honest → Comes (map_of enc_text ev (history log)) waiting left.lost
 
 module _ {V T : Type 0} (ev : V → List ℕ) (Done : ℕ → Limits → SessionView V → SessionView V → T → T → Type 0) (l : Limits) (limit : ℕ) where
-  -- A generation of a map: what came of these pairs was put by one pass, before any worker's session began; the workers did their stints;
+  -- A generation of a map: what came of these pairs was put by one pass, before any worker's session began; the workers did their terms;
   -- and the log has their calls and no others.
   pub record IsGeneration (left : Pairs V) (lost : ℕ) (states kept : List T) (log : Log V) : Type 0 where
     pub loader : View V
@@ -64,7 +64,7 @@ module _ {V T : Type 0} (ev : V → List ℕ) (Done : ℕ → Limits → Session
     -- what the loader has seen has puts of what was loaded, one behind the other, and no other call of anybody
     pub begins : history loader.front ≡ calls_by loader.number (puts loaded)
     pub passes : List (View V)
-    pub worked : AreStints (λ worker begun ended before after. Done worker l begun ended before after) limit loader.front 0 passes states kept
+    pub worked : AreTerms (λ worker begun ended before after. Done worker l begun ended before after) limit loader.front 0 passes states kept
     pub lawful : IsLawful enc_text ev l log
     pub all : passes_of log ≡ length passes + 2
     pub apart : AreApart (passes ++ loader ∷ [])

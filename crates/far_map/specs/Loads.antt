@@ -3,7 +3,7 @@ use Rattle.std.specs.Prelude.{◌≡◌, ℕ, ◌+◌, ◌-◌, ◌^◌, min, Bo
 use Rattle.std.specs.List.Sorted.{IsPermutation}
 use Rattle.table_core.specs.declared.operation.Operation.TheVariants as op
 use Rattle.version_words.specs.Views.{calls}
-use Rattle.far_map.specs.declared.stints.Carried.{Carried}
+use Rattle.far_map.specs.declared.renewable_work.LoadReport.{LoadReport}
 use Rattle.far_map.specs.Views.{View, Pairs, Call}
 
 -- the sum, as far as 64 bits can tell
@@ -11,8 +11,8 @@ abbrev pub summed : ℕ → ℕ → ℕ
 summed a b = min (a + b) (2 ^ 64 - 1)
 
 -- how much was lost on the way into a generation
-abbrev pub lost_of : Carried → ℕ
-lost_of carried = summed carried.lost_pairs carried.lost_buckets
+abbrev pub lost_of : LoadReport → ℕ
+lost_of load_report = summed load_report.lost_pairs load_report.lost_buckets
 
 -- some of these, in any order; the others are left out
 pub record IsPart {A : Type 0} (some all : List A) : Type 0 where

@@ -3,8 +3,8 @@ use Rattle.std.specs.Prelude.{◌≡◌, ◌⊎◌, ℕ, List, [], ◌∷◌, �
 use Rattle.std.specs.Global.{Vec}
 use Rattle.table_core.specs.declared.limits.Limits.{Limits}
 use Rattle.table_core.specs.declared.operation.Operation.TheVariants as op
-use Rattle.far_map.specs.declared.refusal.Refusal.{Refusal}
-use Rattle.far_map.specs.declared.refusal.Refusal.TheVariants as refusal
+use Rattle.far_map.specs.declared.refusal.MapRefusal.{MapRefusal}
+use Rattle.far_map.specs.declared.refusal.MapRefusal.TheVariants as refusal
 use Rattle.far_map.specs.Views.{SessionView}
 use Rattle.far_map.specs.Updates.{Called}
 
@@ -15,7 +15,7 @@ module _ {V : Type 0} (ev : V → List ℕ) (l : Limits) where
   AreGot (k ∷ ks) answers old new = (mid : SessionView V) × (answer : Option V) × (rest : List (Option V)) × Called ev l old mid (op.Get k) (Ok answer) × AreGot ks rest mid new × (answers ≡ answer ∷ rest)
 
   -- some of these keys were got, and then the get of the next one was refused
-  pub record IsGotUntil (ks : List (List ℕ)) (old new : SessionView V) (why : Refusal) : Type 0 where
+  pub record IsGotUntil (ks : List (List ℕ)) (old new : SessionView V) (why : MapRefusal) : Type 0 where
     pub before : List (List ℕ)
     pub key : List ℕ
     pub behind : List (List ℕ)
@@ -26,6 +26,6 @@ module _ {V : Type 0} (ev : V → List ℕ) (l : Limits) where
     pub refused : Called ev l mid new (op.Get key) (Err why)
 
   -- all were got; or some, and then one was refused; or none, since the list of the answers was refused its memory
-  abbrev pub IsGotEach : List (List ℕ) → SessionView V → SessionView V → Result (Vec (Option V)) Refusal → Type 0
+  abbrev pub IsGotEach : List (List ℕ) → SessionView V → SessionView V → Result (Vec (Option V)) MapRefusal → Type 0
   IsGotEach ks old new (Ok answers) = AreGot ks answers.items old new
   IsGotEach ks old new (Err why) = ((why ≡ refusal.Memory) × (new ≡ old)) ⊎ IsGotUntil ks old new why

@@ -1,7 +1,7 @@
 -- What a removal on a condition tells.
 use Rattle.std.specs.Prelude.{◌≡◌, ◌≢◌, ℕ, List, Option, Some, Result, Ok, Err, MatchBool}
 use Rattle.table_core.specs.declared.operation.Operation.TheVariants as op
-use Rattle.hash_table.specs.declared.removing.Removal.{Removal}
+use Rattle.hash_table.specs.declared.removal.Removal.{Removal}
 use Rattle.hash_table.specs.Changes.{removal_of}
 use Rattle.far_map.specs.Views.{Call}
 

@@ -11,11 +11,11 @@ use Rattle.table_core.specs.Maps.{map_of}
 use Rattle.table_core.specs.Logs.{history, passes_of}
 use Rattle.table_core.specs.Lawful.{IsLawful}
 use Rattle.version_words.specs.Views.{calls, calls_of, IsWhole, AreApart, AreNone}
-use Rattle.far_map.specs.declared.ending.End.{End}
-use Rattle.far_map.specs.declared.ending.End.TheVariants as asked
-use Rattle.far_map.specs.declared.ending.Given.{Given}
-use Rattle.far_map.specs.declared.ending.Given.TheVariants as given
-use Rattle.far_map.specs.declared.fault.RunFault.{RunFault}
+use Rattle.far_map.specs.declared.run_end.End.{End}
+use Rattle.far_map.specs.declared.run_end.End.TheVariants as asked
+use Rattle.far_map.specs.declared.run_end.Given.{Given}
+use Rattle.far_map.specs.declared.run_end.Given.TheVariants as given
+use Rattle.far_map.specs.declared.fault.MapFault.{MapFault}
 use Rattle.hash_table.specs.Closes.{Hands, pairs_from}
 use Rattle.far_map.specs.Faults.{IsLater, IsHandingFault}
 use Rattle.far_map.specs.Counts.{no_calls}
@@ -99,7 +99,7 @@ module _ {V Out : Type 0} (ev : V → List ℕ) (Done : ℕ → Limits → Sessi
     pub left : IsLeft ev l passes
 
   -- what a run answers whose pairs come as they are written; the workers did their work also where the end failed
-  abbrev pub EndsBundled : Result (Vec (Pairs V)) RunFault → Type 0
+  abbrev pub EndsBundled : Result (Vec (Pairs V)) MapFault → Type 0
   EndsBundled (Ok bundles) = IsRunBundled (all_of bundles.items)
   EndsBundled (Err fault) = IsWorked × IsLater l.honest fault
 
@@ -111,12 +111,12 @@ module _ {V Out : Type 0} (ev : V → List ℕ) (Done : ℕ → Limits → Sessi
       pub handed : Hands Takes (IsEndInOrder ev l passes) old new
 
     -- what a run answers that hands its pairs over
-    abbrev pub EndsThrough : Result (Unit {0}) RunFault → Type 0
+    abbrev pub EndsThrough : Result (Unit {0}) MapFault → Type 0
     EndsThrough (Ok _) = IsRunThrough
     EndsThrough (Err fault) = IsWorked × IsHandingFault Takes Stops l.honest old new fault
 
     -- what a run gives beside what its workers gave back, by the end that was asked for
-    abbrev pub EndsSo : End → Result (Given V) RunFault → Type 0
+    abbrev pub EndsSo : End → Result (Given V) MapFault → Type 0
     EndsSo asked.Pairs (Ok (given.Pairs pairs)) = IsRun pairs.items
     EndsSo asked.Bundles (Ok (given.Bundles bundles)) = IsRunBundled (all_of bundles.items)
     EndsSo asked.Buckets (Ok given.Nothing) = IsRunThrough

@@ -5,7 +5,7 @@ use Rattle.table_core.specs.declared.limits.Limits.{Limits}
 use Rattle.table_core.specs.Maps.{at_bucket, map_of}
 use Rattle.table_core.specs.Logs.{history}
 use Rattle.version_words.specs.Views.{Goes}
-use Rattle.far_map.specs.declared.refusal.Refusal.{Refusal}
+use Rattle.far_map.specs.declared.refusal.MapRefusal.{MapRefusal}
 use Rattle.far_map.specs.Refusals.{IsUnread}
 use Rattle.far_map.specs.Views.{View, Pairs}
 
@@ -20,11 +20,11 @@ module _ {V : Type 0} (ev : V → List ℕ) (l : Limits) where
   AreRead (suc b) old new pairs = (mid : View V) × (before here : Pairs V) × AreRead b old mid before × Goes mid new × AreOfBucket b new here × (pairs ≡ before ++ here)
 
   -- the pairs of all buckets were handed over, or those of the buckets before one that was not read
-  abbrev pub IsVisit : (Pairs V → Type 0) → View V → View V → Result (Unit {0}) Refusal → Type 0
+  abbrev pub IsVisit : (Pairs V → Type 0) → View V → View V → Result (Unit {0}) MapRefusal → Type 0
   IsVisit AreHanded old new (Ok _) = (pairs : Pairs V) × AreRead l.buckets old new pairs × AreHanded pairs
   IsVisit AreHanded old new (Err why) = (b : ℕ) × (mid : View V) × (pairs : Pairs V) × (b < l.buckets) × AreRead b old mid pairs × Goes mid new × AreHanded pairs × IsUnread l.honest why
 
   -- the pairs of this bucket were handed over, or none where it was not read
-  abbrev pub IsBucketVisit : ℕ → (Pairs V → Type 0) → View V → Result (Unit {0}) Refusal → Type 0
+  abbrev pub IsBucketVisit : ℕ → (Pairs V → Type 0) → View V → Result (Unit {0}) MapRefusal → Type 0
   IsBucketVisit b AreHanded new (Ok _) = (pairs : Pairs V) × AreOfBucket b new pairs × AreHanded pairs
   IsBucketVisit b AreHanded new (Err why) = AreHanded [] × IsUnread l.honest why

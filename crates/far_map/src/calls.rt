@@ -18,11 +18,11 @@ ghost use Rattle.far_map.specs.Removals.{call_of, found_in, IsMet};
 ghost use Rattle.far_map.specs.Updates.{IsUpdated};
 ghost use Rattle.far_map.specs.Visits.{AreOfBucket, IsBucketVisit, IsVisit};
 
-use crate::asked::Asked;
-use crate::refusal::Refusal;
+use crate::change_request::ChangeRequest;
+use crate::refusal::MapRefusal;
 use crate::session::Session;
 use crate::stats::Stats;
-use crate::updating::Updated;
+use crate::update::Updated;
 use crate::values::Value;
 use far_device::Device;
 use far_object::Text;
@@ -48,9 +48,9 @@ use version_words::Naming;
 /// | `TooLong` | `put`, `put_if`, `update` | the bucket's pairs would be longer than `Settings::limit` |
 /// | `Full` | changes, `hold`, `evict` | 1,000 further tries found no room; `Lack` states which kind |
 /// | `NamesSpent` | changes, `hold`, `evict` | the last version number was drawn, and the call needs one |
-/// | `Device` | each that returns a `Refusal` | a device failed in this call |
+/// | `Device` | each that returns a `MapRefusal` | a device failed in this call |
 /// | `Damaged` | the same except `evict` | bytes from a device are no object of this bucket and version |
-/// | `Memory` | each that returns a `Refusal` | an allocation failed |
+/// | `Memory` | each that returns a `MapRefusal` | an allocation failed |
 ///
 /// Changes are `put`, `remove`, `remove_if`, `put_if` and `update`. Each needs room for one more old version.
 /// One that changes its bucket also draws a version number, and needs a free frame if pairs are left there.
@@ -100,7 +100,7 @@ pub trait Calls<V: Value> {
     /// If the object is in a frame, a get makes two compare-and-swaps and one fetch-and-subtract if nobody
     /// interferes, and allocates only the copy. If the object is on a device, a get reads it from there. It
     /// also brings it into a frame if there is room for it.
-    fn get<R: Wait>(&mut self, rt: &R, key: &Text) -> Result<Option<V>, Refusal>
+    fn get<R: Wait>(&mut self, rt: &R, key: &Text) -> Result<Option<V>, MapRefusal>
         ensures answers { Answers V.enc limits (shown self.old) (shown self.new) (op.Get key.now) result }
         ensures unread { IfErr result (IsUnread limits.honest) }
         ensures counts { Counts (shown self.old) (shown self.new) (op.Get key.now) result };
@@ -114,7 +114,7 @@ pub trait Calls<V: Value> {
     /// Errors: those of `get`. The first get that fails ends the call, and no value is returned. The gets
     /// before it were made and are counted. If there is no memory for the list of results, `Memory` is
     /// returned before the first get.
-    fn get_many<R: Wait>(&mut self, rt: &R, keys: &[Text]) -> Result<Vec<Option<V>>, Refusal>
+    fn get_many<R: Wait>(&mut self, rt: &R, keys: &[Text]) -> Result<Vec<Option<V>>, MapRefusal>
         ensures got { IsGotEach V.enc limits keys.now (shown self.old) (shown self.new) result }
         ensures unread { IfErr result (IsUnread limits.honest) };
 
@@ -133,7 +133,7 @@ pub trait Calls<V: Value> {
         rt: &R,
         key: &Text,
         read: F,
-    ) -> Result<Option<T>, Refusal>
+    ) -> Result<Option<T>, MapRefusal>
         requires { F.IsAlwaysCallable read }
         ensures read { IsRead V.enc limits (shown self.old) (shown self.new) key.now (λ v. FnOnceReturnsAt F.FnOnce read (V.shows v)) result }
         ensures unread { IfErr result (IsUnread limits.honest) }
@@ -146,11 +146,11 @@ pub trait Calls<V: Value> {
     /// is called, also if the key is changed meanwhile: the held value stays as it is. So hold few values. If
     /// all frames are held, each call that needs a frame is refused with `Full`.
     ///
-    /// Errors: all of `Refusal` except `TooLong`. Only an object on a device has to be brought into a frame,
+    /// Errors: all of `MapRefusal` except `TooLong`. Only an object on a device has to be brought into a frame,
     /// so only then can there be no room and no version number.
     ///
     /// If the object is in a frame, nothing is copied or allocated.
-    fn hold<R: Wait>(&mut self, rt: &R, key: &Text) -> Result<Option<Self::Held>, Refusal>
+    fn hold<R: Wait>(&mut self, rt: &R, key: &Text) -> Result<Option<Self::Held>, MapRefusal>
         ensures answers { Answers V.enc limits (shown self.old) (shown self.new) (op.Get key.now) (held_in held result) }
         ensures counts { Counts (shown self.old) (shown self.new) (op.Get key.now) result };
 
@@ -165,26 +165,26 @@ pub trait Calls<V: Value> {
     /// Returns whether the key has a value. It is a get, and is counted as one.
     ///
     /// Errors and cost are those of `with`.
-    fn contains<R: Wait>(&mut self, rt: &R, key: &Text) -> Result<bool, Refusal>
+    fn contains<R: Wait>(&mut self, rt: &R, key: &Text) -> Result<bool, MapRefusal>
         ensures found { IsFound V.enc limits (shown self.old) (shown self.new) key.now result }
         ensures unread { IfErr result (IsUnread limits.honest) }
         ensures counts { Counts (shown self.old) (shown self.new) (op.Get key.now) result };
 
     /// Sets the key to the value, and returns the value before, or `None` if there was none.
     ///
-    /// Errors: all of `Refusal`.
+    /// Errors: all of `MapRefusal`.
     ///
     /// It copies the pairs of the bucket into a new object, and draws a version number.
-    fn put<R: Wait>(&mut self, rt: &R, key: &Text, value: &V) -> Result<Option<V>, Refusal>
+    fn put<R: Wait>(&mut self, rt: &R, key: &Text, value: &V) -> Result<Option<V>, MapRefusal>
         ensures answers { Answers V.enc limits (shown self.old) (shown self.new) (op.Put key.now value.now) result }
         ensures counts { Counts (shown self.old) (shown self.new) (op.Put key.now value.now) result };
 
     /// Removes the key, and returns the value that it had, or `None` if it had none.
     ///
-    /// Errors: all of `Refusal` except `TooLong`.
+    /// Errors: all of `MapRefusal` except `TooLong`.
     ///
     /// It costs as much as a put. If the key has no value, no object is made and no version number is drawn.
-    fn remove<R: Wait>(&mut self, rt: &R, key: &Text) -> Result<Option<V>, Refusal>
+    fn remove<R: Wait>(&mut self, rt: &R, key: &Text) -> Result<Option<V>, MapRefusal>
         ensures answers { Answers V.enc limits (shown self.old) (shown self.new) (op.Remove key.now) result }
         ensures counts { Counts (shown self.old) (shown self.new) (op.Remove key.now) result };
 
@@ -199,7 +199,7 @@ pub trait Calls<V: Value> {
         rt: &R,
         key: &Text,
         expected: &V,
-    ) -> Result<Removal<V>, Refusal>
+    ) -> Result<Removal<V>, MapRefusal>
         ensures answers { Answers V.enc limits (shown self.old) (shown self.new) (call_of key.now result) (found_in result) }
         ensures met { IfOk result (IsMet expected.now) }
         ensures counts { Counts (shown self.old) (shown self.new) (call_of key.now result) result };
@@ -210,7 +210,7 @@ pub trait Calls<V: Value> {
     /// It returns the value before, whether or not it set the key. So the caller compares it with the
     /// expected one.
     ///
-    /// Errors: all of `Refusal`. If another value is found, no object is made. So `TooLong`, `NamesSpent` and
+    /// Errors: all of `MapRefusal`. If another value is found, no object is made. So `TooLong`, `NamesSpent` and
     /// `Full` with `Lack::Frame` are not returned then.
     ///
     /// It costs as much as a put if it sets the key, and otherwise as much as a get.
@@ -220,7 +220,7 @@ pub trait Calls<V: Value> {
         key: &Text,
         expected: Option<&V>,
         value: &V,
-    ) -> Result<Option<V>, Refusal>
+    ) -> Result<Option<V>, MapRefusal>
         ensures answers { Answers V.enc limits (shown self.old) (shown self.new) (op.PutIf key.now (lent_value expected.entry) value.now) result }
         ensures counts { Counts (shown self.old) (shown self.new) (op.PutIf key.now (lent_value expected.entry) value.now) result };
 
@@ -241,7 +241,7 @@ pub trait Calls<V: Value> {
         rt: &R,
         key: &Text,
         make: F,
-    ) -> Result<Updated<V>, Refusal>
+    ) -> Result<Updated<V>, MapRefusal>
         requires { F.IsAlwaysCallable make }
         ensures { IsUpdated V.enc limits key.now (λ found made. (lent : _) × (lent_value lent ≡ found) × F.post make lent made) (shown self.old) (shown self.new) result };
 
@@ -256,7 +256,11 @@ pub trait Calls<V: Value> {
     ///
     /// It copies the pairs of one bucket at a time. Objects on a device are read there, and not brought into
     /// frames.
-    fn for_each<F: FnMut(Text, V), R: Wait>(&mut self, rt: &R, visit: &mut F) -> Result<(), Refusal>
+    fn for_each<F: FnMut(Text, V), R: Wait>(
+        &mut self,
+        rt: &R,
+        visit: &mut F,
+    ) -> Result<(), MapRefusal>
         requires { F.IsAlwaysCallable visit.old }
         ensures visits { IsVisit V.enc limits (λ pairs. FoldsTo (λ f pair g. F.step f pair.0 pair.1 tt g) visit.old pairs visit.new) (shown self.old).pass (shown self.new).pass result }
         ensures goes { Goes (shown self.old).pass (shown self.new).pass }
@@ -280,7 +284,7 @@ pub trait Calls<V: Value> {
         rt: &R,
         bucket: u32,
         visit: &mut F,
-    ) -> Result<(), Refusal>
+    ) -> Result<(), MapRefusal>
         requires bucket { bucket < limits.buckets }
         requires callable { F.IsAlwaysCallable visit.old }
         ensures visits { IsBucketVisit V.enc limits bucket (λ pairs. FoldsTo (λ f pair g. F.step f pair.0 pair.1 tt g) visit.old pairs visit.new) (shown self.new).pass result }
@@ -328,7 +332,7 @@ pub trait Calls<V: Value> {
     /// still wait after 1,000 tries.
     ///
     /// It waits for the evictor's lock, and writes one object to its device.
-    fn evict<R: Wait>(&mut self, rt: &R) -> Result<bool, Refusal>
+    fn evict<R: Wait>(&mut self, rt: &R) -> Result<bool, MapRefusal>
         ensures goes { Goes (shown self.old).pass (shown self.new).pass }
         ensures same { ((shown self.new).limit ≡ (shown self.old).limit) × ((shown self.new).stats ≡ (shown self.old).stats) };
 
@@ -373,11 +377,11 @@ impl<'m, V: Value, J: Naming, B: QueueNaming, D: Device> Calls<V> for Session<'m
 
     ghost held = { λ s. s.value };
 
-    fn get<R: Wait>(&mut self, rt: &R, key: &Text) -> Result<Option<V>, Refusal> {
+    fn get<R: Wait>(&mut self, rt: &R, key: &Text) -> Result<Option<V>, MapRefusal> {
         self.copy(rt, key)
     }
 
-    fn get_many<R: Wait>(&mut self, rt: &R, keys: &[Text]) -> Result<Vec<Option<V>>, Refusal> {
+    fn get_many<R: Wait>(&mut self, rt: &R, keys: &[Text]) -> Result<Vec<Option<V>>, MapRefusal> {
         self.copy_many(rt, keys)
     }
 
@@ -386,11 +390,11 @@ impl<'m, V: Value, J: Naming, B: QueueNaming, D: Device> Calls<V> for Session<'m
         rt: &R,
         key: &Text,
         read: F,
-    ) -> Result<Option<T>, Refusal> {
+    ) -> Result<Option<T>, MapRefusal> {
         self.read(rt, key, read)
     }
 
-    fn hold<R: Wait>(&mut self, rt: &R, key: &Text) -> Result<Option<Self::Held>, Refusal> {
+    fn hold<R: Wait>(&mut self, rt: &R, key: &Text) -> Result<Option<Self::Held>, MapRefusal> {
         self.take_hold(rt, key)
     }
 
@@ -402,16 +406,16 @@ impl<'m, V: Value, J: Naming, B: QueueNaming, D: Device> Calls<V> for Session<'m
         value.close();
     }
 
-    fn contains<R: Wait>(&mut self, rt: &R, key: &Text) -> Result<bool, Refusal> {
+    fn contains<R: Wait>(&mut self, rt: &R, key: &Text) -> Result<bool, MapRefusal> {
         self.find(rt, key)
     }
 
-    fn put<R: Wait>(&mut self, rt: &R, key: &Text, value: &V) -> Result<Option<V>, Refusal> {
-        self.ask(rt, &Asked::Put(key, value))
+    fn put<R: Wait>(&mut self, rt: &R, key: &Text, value: &V) -> Result<Option<V>, MapRefusal> {
+        self.ask(rt, &ChangeRequest::Put(key, value))
     }
 
-    fn remove<R: Wait>(&mut self, rt: &R, key: &Text) -> Result<Option<V>, Refusal> {
-        self.ask(rt, &Asked::Remove(key))
+    fn remove<R: Wait>(&mut self, rt: &R, key: &Text) -> Result<Option<V>, MapRefusal> {
+        self.ask(rt, &ChangeRequest::Remove(key))
     }
 
     fn remove_if<R: Wait>(
@@ -419,7 +423,7 @@ impl<'m, V: Value, J: Naming, B: QueueNaming, D: Device> Calls<V> for Session<'m
         rt: &R,
         key: &Text,
         expected: &V,
-    ) -> Result<Removal<V>, Refusal> {
+    ) -> Result<Removal<V>, MapRefusal> {
         self.take_out(rt, key, expected)
     }
 
@@ -429,8 +433,8 @@ impl<'m, V: Value, J: Naming, B: QueueNaming, D: Device> Calls<V> for Session<'m
         key: &Text,
         expected: Option<&V>,
         value: &V,
-    ) -> Result<Option<V>, Refusal> {
-        self.ask(rt, &Asked::PutIf(key, expected, value))
+    ) -> Result<Option<V>, MapRefusal> {
+        self.ask(rt, &ChangeRequest::PutIf(key, expected, value))
     }
 
     fn update<F: Fn(Option<&V>) -> Option<V> + Drop, R: Wait>(
@@ -438,7 +442,7 @@ impl<'m, V: Value, J: Naming, B: QueueNaming, D: Device> Calls<V> for Session<'m
         rt: &R,
         key: &Text,
         make: F,
-    ) -> Result<Updated<V>, Refusal> {
+    ) -> Result<Updated<V>, MapRefusal> {
         self.make_anew(rt, key, make)
     }
 
@@ -446,7 +450,7 @@ impl<'m, V: Value, J: Naming, B: QueueNaming, D: Device> Calls<V> for Session<'m
         &mut self,
         rt: &R,
         visit: &mut F,
-    ) -> Result<(), Refusal> {
+    ) -> Result<(), MapRefusal> {
         self.visit_all(rt, visit)
     }
 
@@ -463,7 +467,7 @@ impl<'m, V: Value, J: Naming, B: QueueNaming, D: Device> Calls<V> for Session<'m
         rt: &R,
         bucket: u32,
         visit: &mut F,
-    ) -> Result<(), Refusal> {
+    ) -> Result<(), MapRefusal> {
         self.visit_one(rt, bucket, visit)
     }
 
@@ -479,7 +483,7 @@ impl<'m, V: Value, J: Naming, B: QueueNaming, D: Device> Calls<V> for Session<'m
         self.place(key)
     }
 
-    fn evict<R: Wait>(&mut self, rt: &R) -> Result<bool, Refusal> {
+    fn evict<R: Wait>(&mut self, rt: &R) -> Result<bool, MapRefusal> {
         self.empty_one(rt)
     }
 
@@ -492,7 +496,7 @@ impl<'m, V: Value, J: Naming, B: QueueNaming, D: Device> Calls<V> for Session<'m
     }
 
     fn traffic(&self) -> Traffic {
-        self.seated.caller.traffic()
+        self.session_state.caller.traffic()
     }
 
     fn bytes_in_frames(&self) -> u64 {

@@ -16,7 +16,7 @@ use version_words::Naming;
 /// `run_bundled` and `run_through` return a fault at the end together with what the workers returned. After
 /// each other fault that is gone too.
 #[derive(Clone, Copy, Debug, PartialEq, Eq, Error)]
-pub enum RunFault {
+pub enum MapFault {
     /// This setting is the first one outside its limits. Nothing was done yet.
     #[error("bad setting: {0}")]
     BadSetting(Setting),
@@ -43,35 +43,35 @@ pub enum RunFault {
     Stopped,
 }
 
-pub(crate) fn of_opening(fault: OpenFault) -> RunFault
+pub(crate) fn of_opening(fault: OpenFault) -> MapFault
     ensures { result ≡ of_opening fault }
 {
     match fault {
-        OpenFault::BadConfig(number) => RunFault::BadSetting(setting_of(number)),
-        OpenFault::Memory => RunFault::Memory,
-        OpenFault::Device => RunFault::Device,
+        OpenFault::BadConfig(number) => MapFault::BadSetting(setting_of(number)),
+        OpenFault::Memory => MapFault::Memory,
+        OpenFault::Device => MapFault::Device,
     }
 }
 
-pub(crate) fn of_closing<V: Value, J: Naming>(fault: CloseFault<Text, V, J>) -> RunFault
+pub(crate) fn of_closing<V: Value, J: Naming>(fault: CloseFault<Text, V, J>) -> MapFault
     ensures { (n : ℕ) → IsCloseFault enc_text V.enc J.limits n fault → IsLater J.limits.honest result }
 {
     match fault {
-        CloseFault::PassMissing(_) => RunFault::PassesSpent,
-        CloseFault::Memory => RunFault::Memory,
-        CloseFault::Device => RunFault::Device,
-        CloseFault::Damaged => RunFault::Damaged,
-        CloseFault::Missed => RunFault::Missed,
+        CloseFault::PassMissing(_) => MapFault::PassesSpent,
+        CloseFault::Memory => MapFault::Memory,
+        CloseFault::Device => MapFault::Device,
+        CloseFault::Damaged => MapFault::Damaged,
+        CloseFault::Missed => MapFault::Missed,
     }
 }
 
 pub(crate) fn of_handing<V: Value, J: Naming, T: TakesPairs<Text, V>>(
     fault: HandFault<Text, V, J>,
-) -> RunFault
+) -> MapFault
     ensures { (n : ℕ) (old new : T) → IsHandFault enc_text V.enc J.limits T.takes T.stops old new n fault → IsHandingFault T.takes T.stops J.limits.honest old new result }
 {
     match fault {
-        HandFault::Stopped => RunFault::Stopped,
+        HandFault::Stopped => MapFault::Stopped,
         HandFault::Close(fault) => of_closing(fault),
     }
 }

@@ -15,71 +15,71 @@
 //! `run_bundled`, `run_through` and `run_apart` do the same, and differ in what they return at the end.
 //! `run_renewed` goes on in a fresh map before version numbers run out.
 //!
-//! A call of a session fails with `Refusal`, and a run with `RunFault`.
+//! A call of a session fails with `MapRefusal`, and a run with `MapFault`.
 //!
 //! # One put, from here to the table
 //!
-//! 1. `run` (`running.rt`) opens the table, the queue of retired words and the evictor, and picks their names
+//! 1. `run` (`run.rt`) opens the table, the queue of retired words and the evictor, and picks their names
 //!    in types.
-//! 2. Each worker works (`single.rt`) on its own thread (`sharing.rt`), next to the evictor's thread
-//!    (`evicting.rt`).
+//! 2. Each worker works (`single_term.rt`) on its own thread (`workers.rt`), next to the evictor's thread
+//!    (`evictor.rt`).
 //! 3. The worker calls `put` of `Calls` (`calls.rt`). Its session (`session.rt`) makes one call of the table
-//!    (`asked.rt`).
-//! 4. If that needs room, room is made and the call is tried again (`answering.rt`, `room.rt`).
-//! 5. After the call, the retired word that it left is reclaimed (`keeping.rt`), and the call is counted
+//!    (`change_request.rt`).
+//! 4. If that needs room, room is made and the call is tried again (`changes.rt`, `room.rt`).
+//! 5. After the call, the retired word that it left is reclaimed (`upkeep.rt`), and the call is counted
 //!    (`stats.rt`).
-//! 6. When all workers have returned, `run` closes the map (`closing.rt`).
+//! 6. When all workers have returned, `run` closes the map (`close.rt`).
 //!
-//! `with` and `contains` read a value in its frame (`reading.rt`).
+//! `with` and `contains` read a value in its frame (`reads.rt`).
 #![tactic(auto)]
 
-mod answering;
-mod asked;
+mod all_pairs;
 mod bytes;
 mod calls;
-mod closing;
-mod ending;
-mod entering;
-mod evicting;
+mod change_request;
+mod changes;
+mod close;
+mod evictor;
 mod fault;
-mod holding;
-mod keeping;
-mod loading;
-mod many;
+mod held_value;
+mod load;
 mod map;
 mod opening;
-mod placing;
-mod reading;
+mod pending_session;
+mod placement;
+mod reads;
 mod refusal;
-mod removing;
-mod renewing;
+mod removal;
+mod renewable_work;
+mod renewal;
 mod room;
-mod running;
+mod run;
+mod run_end;
 mod session;
 mod settings;
-mod sharing;
-mod single;
+mod several_keys;
+mod single_term;
 mod stats;
-mod stints;
 mod texts;
-mod updating;
+mod update;
+mod upkeep;
 mod values;
-mod visiting;
 mod work;
+mod workers;
 
 pub use calls::Calls;
 pub use far_blob::Blob;
 pub use far_object::Text;
-pub use fault::RunFault;
+pub use fault::MapFault;
 pub use hash_table::{BucketState, Removal, Stopped, TakesPairs, Traffic};
-pub use refusal::{Lack, Refusal};
-pub use renewing::{Renewals, run_renewed};
-pub use running::{run, run_apart, run_bundled, run_through};
+pub use refusal::{Lack, MapRefusal};
+pub use renewable_work::{After, LoadReport, RenewableWork};
+pub use renewal::{Renewals, run_renewed};
+pub use run::{run, run_apart, run_bundled, run_through};
 pub use session::Session;
 pub use settings::{Setting, Settings};
 pub use stats::Stats;
-pub use stints::{After, Carried, Stints};
 pub use texts::text;
-pub use updating::Updated;
+pub use update::Updated;
 pub use values::Value;
 pub use work::Work;

@@ -3,9 +3,9 @@ ghost use Rattle.std.specs.Prelude.{◌≡◌, ◌<◌, ◌^◌, IfOk, IfErr, ve
 ghost use Rattle.far_map.specs.Faults.{IsOfEntering};
 
 use crate::bytes::FrameBytes;
-use crate::entering::{Newcomer, enter, enter_all};
-use crate::fault::RunFault;
+use crate::fault::MapFault;
 use crate::map::FarMap;
+use crate::pending_session::{PendingSession, enter, enter_all};
 use crate::values::Value;
 use far_device::Device;
 use far_object::Text;
@@ -34,7 +34,7 @@ pub(crate) fn map_over<V: Value, J: Naming, B: QueueNaming, D: Device, R: Wait>(
     table: FarTable<Text, V, J, D>,
     queue: QueueOpening<Text, V, J>,
     workers: u32,
-) -> Result<(FarMap<V, J, B, D>, Vec<Newcomer<V, J, B>>), RunFault>
+) -> Result<(FarMap<V, J, B, D>, Vec<PendingSession<V, J, B>>), MapFault>
     requires queue { queue.table ≡ B.table }
     requires buckets { config.buckets ≡ J.limits.buckets }
     requires frames { 0 < config.frames }
@@ -45,17 +45,17 @@ pub(crate) fn map_over<V: Value, J: Naming, B: QueueNaming, D: Device, R: Wait>(
 {
     let (queue, taker, seats) = match queue.named::<B>(alloc, workers) {
         Ok(named) => named,
-        Err(_) => return Err(RunFault::Memory),
+        Err(_) => return Err(MapFault::Memory),
     };
     let Ok(bytes) = FrameBytes::open(alloc, bytes, workers) else {
-        return Err(RunFault::Memory);
+        return Err(MapFault::Memory);
     };
     let recycles = config.frames / FRAMES_TO_OWN >= workers;
-    let newcomers = enter_all(rt, alloc, &table, config.frames, recycles, seats)?;
+    let all_pending = enter_all(rt, alloc, &table, config.frames, recycles, seats)?;
     let own = enter(rt, &table)?;
     let evictor = match Evictor::open(alloc, own, taker, config.frames, config.spares) {
         Ok(evictor) => evictor,
-        Err(_) => return Err(RunFault::Memory),
+        Err(_) => return Err(MapFault::Memory),
     };
     let map = FarMap {
         table,
@@ -69,5 +69,5 @@ pub(crate) fn map_over<V: Value, J: Naming, B: QueueNaming, D: Device, R: Wait>(
         bed: Parker::new(),
         ended: AtomicBool::new(false),
     };
-    Ok((map, newcomers))
+    Ok((map, all_pending))
 }

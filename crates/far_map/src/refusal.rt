@@ -10,7 +10,7 @@ use thiserror::Error;
 /// It is final: if another try or more room may help, the call has tried that itself. `Calls` lists which
 /// call returns which of these.
 #[derive(Clone, Copy, Debug, PartialEq, Eq, Error)]
-pub enum Refusal {
+pub enum MapRefusal {
     /// The pairs of the key's bucket would take more bytes than `Settings::limit`. `text` and
     /// `Value::from_bytes` return it for more bytes than a value of the type may have.
     #[error("too long")]
@@ -35,7 +35,7 @@ pub enum Refusal {
     Memory,
 }
 
-/// What a call that was refused with `Refusal::Full` found no room for.
+/// What a call that was refused with `MapRefusal::Full` found no room for.
 #[derive(Clone, Copy, Debug, PartialEq, Eq)]
 pub enum Lack {
     /// A frame for its object. None was free, and none could be emptied, for example because all are held.
@@ -47,16 +47,16 @@ pub enum Lack {
 
 /// What a call returns for a refusal of the table that is final. `Full` is returned for those that another
 /// try might not meet.
-pub(crate) fn said(refusal: TableRefusal) -> Refusal
+pub(crate) fn said(refusal: TableRefusal) -> MapRefusal
     ensures { result ≡ said refusal }
 {
     match refusal {
-        TableRefusal::Memory => Refusal::Memory,
-        TableRefusal::TooLong => Refusal::TooLong,
-        TableRefusal::NamesSpent => Refusal::NamesSpent,
-        TableRefusal::Device => Refusal::Device,
-        TableRefusal::Damaged => Refusal::Damaged,
-        TableRefusal::LimboFull => Refusal::Full(Lack::Spare),
-        _ => Refusal::Full(Lack::Frame),
+        TableRefusal::Memory => MapRefusal::Memory,
+        TableRefusal::TooLong => MapRefusal::TooLong,
+        TableRefusal::NamesSpent => MapRefusal::NamesSpent,
+        TableRefusal::Device => MapRefusal::Device,
+        TableRefusal::Damaged => MapRefusal::Damaged,
+        TableRefusal::LimboFull => MapRefusal::Full(Lack::Spare),
+        _ => MapRefusal::Full(Lack::Frame),
     }
 }

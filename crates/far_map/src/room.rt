@@ -11,9 +11,9 @@ ghost use Rattle.far_map.specs.Refusals.{said, IsOfRoom};
 ghost use Rattle.far_map.specs.Spares.{LosesNone};
 ghost use Rattle.version_words.specs.Views.{Goes};
 
-use crate::keeping::Seated;
 use crate::map::FarMap;
-use crate::refusal::{Refusal, said};
+use crate::refusal::{MapRefusal, said};
+use crate::upkeep::SessionState;
 use crate::values::Value;
 use far_device::Device;
 use hash_table::Refusal as TableRefusal;
@@ -31,19 +31,19 @@ pub(crate) const MOST_TRIES: u32 = 1_000;
 fn free_spares<V: Value, J: Naming, B: QueueNaming, D: Device, R: Wait>(
     rt: &R,
     map: &FarMap<V, J, B, D>,
-    seated: &mut Seated<V, J, B>,
-) -> Result<(), Refusal>
-    ensures pass { Goes seated.old.caller.pass seated.new.caller.pass }
-    ensures none_lost { LosesNone seated.old.caller.limbo seated.old.seat seated.new.caller.limbo seated.new.seat }
-    ensures why { IfErr result (IsOfRoom J.limits seated.new.caller.pass.front) }
+    session_state: &mut SessionState<V, J, B>,
+) -> Result<(), MapRefusal>
+    ensures pass { Goes session_state.old.caller.pass session_state.new.caller.pass }
+    ensures none_lost { LosesNone session_state.old.caller.limbo session_state.old.seat session_state.new.caller.limbo session_state.new.seat }
+    ensures why { IfErr result (IsOfRoom J.limits session_state.new.caller.pass.front) }
 {
-    map.settle(rt, seated);
+    map.settle(rt, session_state);
     let collected = map.collect(rt);
     if collected.reclaimed > 0 {
         return Ok(());
     }
     if collected.failed {
-        return Err(Refusal::Device);
+        return Err(MapRefusal::Device);
     }
     yield_now();
     Ok(())
@@ -53,19 +53,19 @@ fn free_spares<V: Value, J: Naming, B: QueueNaming, D: Device, R: Wait>(
 fn empty_frame<V: Value, J: Naming, B: QueueNaming, D: Device, R: Wait>(
     rt: &R,
     map: &FarMap<V, J, B, D>,
-    seated: &mut Seated<V, J, B>,
-) -> Result<bool, Refusal>
-    ensures pass { Goes seated.old.caller.pass seated.new.caller.pass }
-    ensures none_lost { LosesNone seated.old.caller.limbo seated.old.seat seated.new.caller.limbo seated.new.seat }
-    ensures why { IfErr result (IsOfRoom J.limits seated.new.caller.pass.front) }
+    session_state: &mut SessionState<V, J, B>,
+) -> Result<bool, MapRefusal>
+    ensures pass { Goes session_state.old.caller.pass session_state.new.caller.pass }
+    ensures none_lost { LosesNone session_state.old.caller.limbo session_state.old.seat session_state.new.caller.limbo session_state.new.seat }
+    ensures why { IfErr result (IsOfRoom J.limits session_state.new.caller.pass.front) }
 {
-    match map.empty_frames(rt, seated) {
-        Err(TableRefusal::Memory) => Err(Refusal::Memory),
-        Err(TableRefusal::Device) => Err(Refusal::Device),
-        Err(TableRefusal::NamesSpent) => Err(Refusal::NamesSpent),
+    match map.empty_frames(rt, session_state) {
+        Err(TableRefusal::Memory) => Err(MapRefusal::Memory),
+        Err(TableRefusal::Device) => Err(MapRefusal::Device),
+        Err(TableRefusal::NamesSpent) => Err(MapRefusal::NamesSpent),
         Ok(true) => Ok(true),
         // Frames may wait for retired words, and these for a removal that fails.
-        _ => match free_spares(rt, map, seated) {
+        _ => match free_spares(rt, map, session_state) {
             Ok(()) => Ok(false),
             Err(why) => Err(why),
         },
@@ -78,21 +78,21 @@ fn empty_frame<V: Value, J: Naming, B: QueueNaming, D: Device, R: Wait>(
 fn wait_for_frame<V: Value, J: Naming, B: QueueNaming, D: Device, R: Wait>(
     rt: &R,
     map: &FarMap<V, J, B, D>,
-    seated: &mut Seated<V, J, B>,
+    session_state: &mut SessionState<V, J, B>,
     tries: &mut u32,
-) -> Result<(), Refusal>
-    ensures pass { Goes seated.old.caller.pass seated.new.caller.pass }
-    ensures none_lost { LosesNone seated.old.caller.limbo seated.old.seat seated.new.caller.limbo seated.new.seat }
-    ensures why { IfErr result (λ why. (why ≡ said TableRefusal.NoFrame) ⊎ IsOfRoom J.limits seated.new.caller.pass.front why) }
+) -> Result<(), MapRefusal>
+    ensures pass { Goes session_state.old.caller.pass session_state.new.caller.pass }
+    ensures none_lost { LosesNone session_state.old.caller.limbo session_state.old.seat session_state.new.caller.limbo session_state.new.seat }
+    ensures why { IfErr result (λ why. (why ≡ said TableRefusal.NoFrame) ⊎ IsOfRoom J.limits session_state.new.caller.pass.front why) }
 {
     for _ in 0..*tries {
         *tries = tries.saturating_sub(1);
-        match empty_frame(rt, map, seated) {
+        match empty_frame(rt, map, session_state) {
             Ok(true) => return Ok(()),
             Ok(false) => {}
             Err(why) => return Err(why),
         }
-        if map.table.has_free() || seated.caller.owns_frame() {
+        if map.table.has_free() || session_state.caller.owns_frame() {
             return Ok(());
         }
     }
@@ -104,19 +104,19 @@ fn wait_for_frame<V: Value, J: Naming, B: QueueNaming, D: Device, R: Wait>(
 pub(crate) fn make_room<V: Value, J: Naming, B: QueueNaming, D: Device, R: Wait>(
     rt: &R,
     map: &FarMap<V, J, B, D>,
-    seated: &mut Seated<V, J, B>,
+    session_state: &mut SessionState<V, J, B>,
     refusal: TableRefusal,
     tries: &mut u32,
-) -> Result<(), Refusal>
-    ensures pass { Goes seated.old.caller.pass seated.new.caller.pass }
-    ensures none_lost { LosesNone seated.old.caller.limbo seated.old.seat seated.new.caller.limbo seated.new.seat }
-    ensures why { IfErr result (λ why. (why ≡ said refusal) ⊎ IsOfRoom J.limits seated.new.caller.pass.front why) }
+) -> Result<(), MapRefusal>
+    ensures pass { Goes session_state.old.caller.pass session_state.new.caller.pass }
+    ensures none_lost { LosesNone session_state.old.caller.limbo session_state.old.seat session_state.new.caller.limbo session_state.new.seat }
+    ensures why { IfErr result (λ why. (why ≡ said refusal) ⊎ IsOfRoom J.limits session_state.new.caller.pass.front why) }
 {
     match refusal {
-        TableRefusal::NoFrame => wait_for_frame(rt, map, seated, tries),
+        TableRefusal::NoFrame => wait_for_frame(rt, map, session_state, tries),
         TableRefusal::LimboFull => {
             *tries = tries.saturating_sub(1);
-            match free_spares(rt, map, seated) {
+            match free_spares(rt, map, session_state) {
                 Ok(()) => Ok(()),
                 Err(why) => Err(why),
             }

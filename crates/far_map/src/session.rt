@@ -4,12 +4,12 @@ ghost use Rattle.far_map.specs.Asks.{asked};
 ghost use Rattle.far_map.specs.Answers.{Answers};
 ghost use Rattle.far_map.specs.Counts.{Counts};
 
-use crate::answering::answer_and_keep;
-use crate::asked::Asked;
-use crate::keeping::Seated;
+use crate::change_request::ChangeRequest;
+use crate::changes::answer_and_keep;
 use crate::map::FarMap;
-use crate::refusal::Refusal;
+use crate::refusal::MapRefusal;
 use crate::stats::Stats;
+use crate::upkeep::SessionState;
 use crate::values::Value;
 use far_device::Device;
 use far_object::Text;
@@ -28,7 +28,7 @@ use version_words::Naming;
 pub struct Session<'m, V: Value, J: Naming, B: QueueNaming, D: Device> {
     pub(crate) map: &'m FarMap<V, J, B, D>,
     pub(crate) alloc: Global,
-    pub(crate) seated: Seated<V, J, B>,
+    pub(crate) session_state: SessionState<V, J, B>,
     pub(crate) stats: Stats,
 }
 
@@ -37,16 +37,20 @@ impl<'m, V: Value, J: Naming, B: QueueNaming, D: Device> Model for Session<'m, V
 
     ghost Value = { SessionView V };
 
-    ghost view = { λ s. record { pass = s.seated.caller.pass; limit = s.map.now.table.limit; stats = s.stats } };
+    ghost view = { λ s. record { pass = s.session_state.caller.pass; limit = s.map.now.table.limit; stats = s.stats } };
 }
 
 impl<'m, V: Value, J: Naming, B: QueueNaming, D: Device> Session<'m, V, J, B, D> {
     /// Makes one change.
-    pub(crate) fn ask<R: Wait>(&mut self, rt: &R, ask: &Asked<'_, V>) -> Result<Option<V>, Refusal>
+    pub(crate) fn ask<R: Wait>(
+        &mut self,
+        rt: &R,
+        ask: &ChangeRequest<'_, V>,
+    ) -> Result<Option<V>, MapRefusal>
         ensures answers { Answers V.enc J.limits self.old self.new (asked ask.now) result }
         ensures counts { Counts self.old self.new (asked ask.now) result }
     {
-        let answered = answer_and_keep(rt, self.alloc, self.map, &mut self.seated, ask);
+        let answered = answer_and_keep(rt, self.alloc, self.map, &mut self.session_state, ask);
         self.stats.count_change(ask, &answered);
         answered
     }
@@ -59,16 +63,16 @@ impl<'m, V: Value, J: Naming, B: QueueNaming, D: Device> Session<'m, V, J, B, D>
         let Session {
             map,
             alloc: _,
-            seated,
+            session_state,
             stats: _,
         } = self;
-        let Seated {
+        let SessionState {
             mut caller,
             seat: _,
             room: _,
             number: _,
             told: _,
-        } = seated;
+        } = session_state;
         map.table.stop_recycling(&mut caller);
         caller
     }

@@ -8,7 +8,7 @@ use std::fmt::{Display, Formatter};
 
 /// The settings of a map. It has a lane for each device that it is opened over, 1 to 64.
 ///
-/// A run looks at them first. It returns `RunFault::BadSetting` with the first one that is outside its
+/// A run looks at them first. It returns `MapFault::BadSetting` with the first one that is outside its
 /// limits.
 #[derive(Clone, Copy, Debug, PartialEq, Eq)]
 pub struct Settings {
@@ -22,7 +22,7 @@ pub struct Settings {
     /// its key and 2 bytes, and its value and 2 bytes, or 4 if that is a `Blob`.
     pub limit: u32,
     /// How many version numbers can be drawn, 1 to 2^40 - 1. Each change of a bucket draws one, and so does
-    /// each move of an object. Once all are drawn, changes return `Refusal::NamesSpent`.
+    /// each move of an object. Once all are drawn, changes return `MapRefusal::NamesSpent`.
     pub names: u64,
     /// How many passes can be drawn, 1 to 65,535. A run needs one for each worker and one more, and
     /// `run_renewed` two more.
@@ -38,7 +38,7 @@ pub struct Settings {
     pub format: u32,
 }
 
-/// One of the settings, as `RunFault::BadSetting` names it. Each value of `Settings::bytes` is allowed, so it
+/// One of the settings, as `MapFault::BadSetting` names it. Each value of `Settings::bytes` is allowed, so it
 /// is not among these.
 #[derive(Clone, Copy, Debug, PartialEq, Eq)]
 pub enum Setting {

@@ -4,8 +4,8 @@ ghost use Rattle.far_map.specs.Asks.{asked};
 ghost use Rattle.far_map.specs.Counts.{no_calls, refused_more, counted, counted_get};
 ghost use Rattle.far_map.specs.Removals.{call_of};
 
-use crate::asked::Asked;
-use crate::refusal::Refusal;
+use crate::change_request::ChangeRequest;
+use crate::refusal::MapRefusal;
 use crate::values::Value;
 use hash_table::Removal;
 
@@ -22,17 +22,17 @@ pub struct Stats {
     pub removes: u64,
     /// `put_if` calls that were finished, also if they found another value, and those of an `update`.
     pub put_ifs: u64,
-    /// Calls that were refused with `Refusal::TooLong`.
+    /// Calls that were refused with `MapRefusal::TooLong`.
     pub too_long: u64,
-    /// Calls that were refused with `Refusal::Full`.
+    /// Calls that were refused with `MapRefusal::Full`.
     pub full: u64,
-    /// Calls that were refused with `Refusal::NamesSpent`.
+    /// Calls that were refused with `MapRefusal::NamesSpent`.
     pub names_spent: u64,
-    /// Calls that were refused with `Refusal::Device`.
+    /// Calls that were refused with `MapRefusal::Device`.
     pub device: u64,
-    /// Calls that were refused with `Refusal::Damaged`.
+    /// Calls that were refused with `MapRefusal::Damaged`.
     pub damaged: u64,
-    /// Calls that were refused with `Refusal::Memory`.
+    /// Calls that were refused with `MapRefusal::Memory`.
     pub memory: u64,
 }
 
@@ -60,21 +60,21 @@ impl Stats {
         }
     }
 
-    fn refuse(&mut self, refusal: Refusal)
+    fn refuse(&mut self, refusal: MapRefusal)
         ensures { self.new ≡ refused_more refusal self.old }
     {
         match refusal {
-            Refusal::TooLong => self.too_long = more(self.too_long),
-            Refusal::Full(_) => self.full = more(self.full),
-            Refusal::NamesSpent => self.names_spent = more(self.names_spent),
-            Refusal::Device => self.device = more(self.device),
-            Refusal::Damaged => self.damaged = more(self.damaged),
-            Refusal::Memory => self.memory = more(self.memory),
+            MapRefusal::TooLong => self.too_long = more(self.too_long),
+            MapRefusal::Full(_) => self.full = more(self.full),
+            MapRefusal::NamesSpent => self.names_spent = more(self.names_spent),
+            MapRefusal::Device => self.device = more(self.device),
+            MapRefusal::Damaged => self.damaged = more(self.damaged),
+            MapRefusal::Memory => self.memory = more(self.memory),
         }
     }
 
     /// Counts a get with this result.
-    pub(crate) fn count_get<V: Value, T>(&mut self, answered: &Result<T, Refusal>)
+    pub(crate) fn count_get<V: Value, T>(&mut self, answered: &Result<T, MapRefusal>)
         ensures { (k : List ℕ) → self.new ≡ counted_get V k answered.now self.old }
     {
         match answered {
@@ -86,8 +86,8 @@ impl Stats {
     /// Counts a change with this result.
     pub(crate) fn count_change<V: Value>(
         &mut self,
-        ask: &Asked<'_, V>,
-        answered: &Result<Option<V>, Refusal>,
+        ask: &ChangeRequest<'_, V>,
+        answered: &Result<Option<V>, MapRefusal>,
     )
         ensures { self.new ≡ counted (asked ask.now) answered.now self.old }
     {
@@ -96,14 +96,14 @@ impl Stats {
             return;
         }
         match ask {
-            Asked::Put(_, _) => self.puts = more(self.puts),
-            Asked::Remove(_) => self.removes = more(self.removes),
-            Asked::PutIf(_, _, _) => self.put_ifs = more(self.put_ifs),
+            ChangeRequest::Put(_, _) => self.puts = more(self.puts),
+            ChangeRequest::Remove(_) => self.removes = more(self.removes),
+            ChangeRequest::PutIf(_, _, _) => self.put_ifs = more(self.put_ifs),
         }
     }
 
     /// Counts a conditional removal with this result. One that removed nothing was a get.
-    pub(crate) fn count_removal<V: Value>(&mut self, answered: &Result<Removal<V>, Refusal>)
+    pub(crate) fn count_removal<V: Value>(&mut self, answered: &Result<Removal<V>, MapRefusal>)
         ensures { (k : List ℕ) → self.new ≡ counted (call_of k answered.now) answered.now self.old }
     {
         match answered {

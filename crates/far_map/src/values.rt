@@ -1,7 +1,7 @@
 //! What a map can hold: values of any type that is read as bytes.
 ghost use Rattle.std.specs.Prelude.{◌≡◌, IfOk};
 
-use crate::refusal::Refusal;
+use crate::refusal::MapRefusal;
 use crate::texts::text;
 use far_blob::{Blob, BlobFault};
 use far_object::{FarObject, Text};
@@ -22,7 +22,7 @@ pub trait Value: FarObject {
     ///
     /// Errors: `TooLong` if a value of the type can't have that many bytes, before any memory is asked for.
     /// `Memory` if the allocation of the copy failed.
-    fn from_bytes(alloc: Global, bytes: &[u8]) -> Result<Self, Refusal>
+    fn from_bytes(alloc: Global, bytes: &[u8]) -> Result<Self, MapRefusal>
         ensures { IfOk result (λ value. shows value ≡ bytes.now) };
 
     /// Returns its bytes.
@@ -39,7 +39,7 @@ pub trait Value: FarObject {
 impl Value for Text {
     ghost shows = { λ text. text };
 
-    fn from_bytes(alloc: Global, bytes: &[u8]) -> Result<Text, Refusal> {
+    fn from_bytes(alloc: Global, bytes: &[u8]) -> Result<Text, MapRefusal> {
         text(alloc, bytes)
     }
 
@@ -55,11 +55,11 @@ impl Value for Text {
 impl Value for Blob {
     ghost shows = { λ blob. blob };
 
-    fn from_bytes(alloc: Global, bytes: &[u8]) -> Result<Blob, Refusal> {
+    fn from_bytes(alloc: Global, bytes: &[u8]) -> Result<Blob, MapRefusal> {
         match Blob::new(alloc, bytes) {
             Ok(blob) => Ok(blob),
-            Err(BlobFault::TooLong) => Err(Refusal::TooLong),
-            Err(BlobFault::Memory) => Err(Refusal::Memory),
+            Err(BlobFault::TooLong) => Err(MapRefusal::TooLong),
+            Err(BlobFault::Memory) => Err(MapRefusal::Memory),
         }
     }
 

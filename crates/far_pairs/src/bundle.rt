@@ -4,7 +4,7 @@ ghost use Rattle.std.specs.List.Sorted.{IsPermutation};
 ghost use Rattle.far_object.specs.Decoded.{BeginsWith};
 ghost use Rattle.far_pairs.specs.Bundles.{written, Rises};
 
-use crate::lent::LentPair;
+use crate::lent_pair::LentPair;
 use far_object::{FarObject, Memory, Object};
 use std::alloc::Global;
 use std::marker::{Model, PhantomData};

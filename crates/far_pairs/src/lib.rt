@@ -10,11 +10,11 @@
 
 mod bundle;
 mod head;
-mod lent;
+mod lent_pair;
 mod order;
 mod ranges;
 mod run;
 
 pub use bundle::Bundle;
-pub use lent::LentPair;
+pub use lent_pair::LentPair;
 pub use order::in_key_order;

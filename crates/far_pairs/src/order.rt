@@ -4,7 +4,7 @@ ghost use Rattle.std.specs.List.Sorted.{IsPermutation};
 ghost use Rattle.far_pairs.specs.Bundles.{all_of, written, AreInOrder};
 
 use crate::bundle::Bundle;
-use crate::lent::LentPair;
+use crate::lent_pair::LentPair;
 use crate::ranges::in_ranges;
 use crate::run::Run;
 use far_object::{FarObject, Memory};

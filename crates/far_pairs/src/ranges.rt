@@ -10,7 +10,7 @@ ghost use Rattle.std.specs.Thread.{IsSync};
 ghost use Rattle.far_pairs.specs.Bundles.{all_of};
 ghost use Rattle.far_pairs.specs.Ranges.{AreCut, AreMerged};
 
-use crate::lent::LentPair;
+use crate::lent_pair::LentPair;
 use crate::run::Run;
 use far_object::Memory;
 use std::alloc::Global;

@@ -2,7 +2,7 @@
 ghost use Rattle.std.specs.Prelude.{◌≡◌, ◌<◌, ◌++◌, OnOk};
 ghost use Rattle.far_pairs.specs.Ranges.{is_before, AreCut, AreRising};
 
-use crate::lent::LentPair;
+use crate::lent_pair::LentPair;
 use far_object::{Memory, compare_bytes};
 use std::marker::Model;
 

@@ -9,4 +9,4 @@ mod Placing
 mod Executing
 mod Passing
 mod Stepping
-mod Stints
+mod Terms

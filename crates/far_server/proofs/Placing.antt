@@ -4,5 +4,5 @@ use Rattle.far_server.specs.declared.connection.Connection.{Connection}
 use Rattle.far_server.specs.declared.queue.Queue.{Queue}
 use Rattle.far_server.specs.Answers.{known, new_known, waits_in}
 
-pub is_new : (c : Connection) (passed : Bool) → c.passed ≡ passed → c.queue ≡ None → known c ≡ new_known passed
-is_new c passed may none = ap (λ (p : Bool). record { passed = p; waits = waits_in c.queue }) may ∙ ap (λ (q : Option Queue). record { passed = passed; waits = waits_in q }) none
+pub is_new : (c : Connection) (is_authenticated : Bool) → c.is_authenticated ≡ is_authenticated → c.queue ≡ None → known c ≡ new_known is_authenticated
+is_new c is_authenticated may none = ap (λ (p : Bool). record { is_authenticated = p; waits = waits_in c.queue }) may ∙ ap (λ (q : Option Queue). record { is_authenticated = is_authenticated; waits = waits_in q }) none

@@ -3,7 +3,7 @@ use Rattle.std.proofs.Common.{◌≡◌, ◌≤◌, ◌+◌, ◌-◌, ℕ, Bool,
 use Rattle.std.specs.List.{flat_map}
 use Rattle.table_core.specs.declared.limits.Limits.{Limits}
 use Rattle.resp.specs.Replies.{Token, token}
-use Rattle.key_commands.specs.declared.asked.KeyCommand.{KeyCommand}
+use Rattle.key_commands.specs.declared.key_command.KeyCommand.{KeyCommand}
 use Rattle.far_server.specs.Sessions.{Session}
 use Rattle.far_server.specs.Bounds.{longest}
 use Rattle.stored_keys.specs.declared.DigestKeys.{DigestKeys}

@@ -1,6 +1,6 @@
--- What the steps of a lane leave.
+-- What the steps of a worker leave.
 use Rattle.std.proofs.Common.{◌≡◌, List, [], ◌∷◌, sym, ap, ◌∙◌}
-use Rattle.lanes.specs.Calls.{Call, Step, Took, Ended, Woke, Began, Heard, Answered, Passed, Does, Run}
+use Rattle.request_loop.specs.Calls.{Call, Step, Took, Ended, Woke, Began, Heard, Answered, Passed, Does, Run}
 
 module _ {X : Type 0} {does : X → Call → X → Type 0} where
   -- what each call keeps is kept by all

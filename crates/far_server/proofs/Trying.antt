@@ -4,10 +4,10 @@ use Rattle.table_core.specs.declared.limits.Limits.{Limits}
 use Rattle.table_core.specs.declared.operation.Operation.TheVariants as op
 use Rattle.version_words.specs.Views.{Goes}
 use Rattle.resp.specs.Replies.{Token, token}
-use Rattle.key_commands.specs.declared.asked.KeyCommand.{KeyCommand}
-use Rattle.key_commands.specs.declared.asked.Effect.{Effect}
+use Rattle.key_commands.specs.declared.key_command.KeyCommand.{KeyCommand}
+use Rattle.key_commands.specs.declared.key_command.Effect.{Effect}
 use Rattle.key_commands.specs.Doing.{Does}
-use Rattle.far_map.specs.declared.refusal.Refusal.{Refusal}
+use Rattle.far_map.specs.declared.refusal.MapRefusal.{MapRefusal}
 use Rattle.far_server.specs.Sessions.{Session, Called}
 use Rattle.far_server.specs.Keyed.{IsIdle, Idles, IsSettled, IsTried, IsOnStored, IsKeyed}
 use Rattle.far_server.proofs.Going.{one_more, one_step, both}
@@ -30,7 +30,7 @@ module _ (l : Limits) (k : List ℕ) where
   stored_after command now most a b c r goes done = (done.0, both (IsIdle l k) a b done.0 (went a b goes) done.1, done.2)
 
   -- a value was got, and the change of it settled
-  pub tried : (command : KeyCommand) (now most : ℕ) (a b c : Session) (found : Option (List ℕ)) (effect : Effect) (bytes : List ℕ) (r : Token) (result : Result Bool Refusal)
+  pub tried : (command : KeyCommand) (now most : ℕ) (a b c : Session) (found : Option (List ℕ)) (effect : Effect) (bytes : List ℕ) (r : Token) (result : Result Bool MapRefusal)
       → Called l a b (op.Get k) (Ok found) → Does command now most found r effect bytes → IsSettled l k found effect bytes b c result → IsTried l k command now most a c (token r) result
   tried command now most a b c found effect bytes r (Ok true) called does settled =
       (r, refl, record { found = found; effect = effect; bytes = bytes; does = does; makes = inl (b, called, settled) })

@@ -6,15 +6,15 @@ use Rattle.std.specs.BTreeMap.{is_at}
 use Rattle.std.specs.List.{flat_map}
 use Rattle.table_core.specs.declared.limits.Limits.{Limits}
 use Rattle.resp.specs.Replies.{Token, Simple, Count, Failure, token}
-use Rattle.lanes.specs.declared.service.Next.{Next}
-use Rattle.lanes.specs.declared.service.Next.TheVariants as behind
+use Rattle.request_loop.specs.declared.service.Next.{Next}
+use Rattle.request_loop.specs.declared.service.Next.TheVariants as behind
 use Rattle.far_server.specs.declared.connection.Connection.{Connection}
 use Rattle.far_server.specs.declared.queue.Queue.{Queue}
 use Rattle.far_server.specs.declared.settings.Bounds.{Bounds}
 use Rattle.far_server.specs.Sessions.{Session}
 use Rattle.far_server.specs.Queues.{waiting}
 use Rattle.far_server.specs.Logins.{HasLogin, Exceeds}
-use Rattle.far_map.specs.declared.refusal.Refusal.TheVariants as refusal
+use Rattle.far_map.specs.declared.refusal.MapRefusal.TheVariants as refusal
 use Rattle.far_server.specs.Bounds.{longest, too_large}
 use Rattle.far_server.specs.Refusing.{text_of}
 use Rattle.far_server.specs.Runs.{IsRequest}
@@ -22,7 +22,7 @@ use Rattle.stored_keys.specs.declared.DigestKeys.{DigestKeys}
 
 -- what is known of a connection: whether it may ask, and what waits for EXEC, behind a MULTI
 pub record Known : Type 0 where
-  pub passed : Bool
+  pub is_authenticated : Bool
   pub waits : Option (List (List (List ℕ)))
 
 abbrev pub waits_in : Option Queue → Option (List (List (List ℕ)))
@@ -30,9 +30,9 @@ waits_in None = None
 waits_in (Some queue) = Some (waiting queue)
 
 abbrev pub known : Connection → Known
-known c = record { passed = c.passed; waits = waits_in c.queue }
+known c = record { is_authenticated = c.is_authenticated; waits = waits_in c.queue }
 
--- What a lane is told of a connection that might ask, or not, and may now, or not: who is let in may ask, and who may no more is let out,
+-- What a worker is told of a connection that might ask, or not, and may now, or not: who is let in may ask, and who may no more is let out,
 -- or the connection ends.
 abbrev pub IsAdmission : Bool → Bool → Next → Type 0
 IsAdmission might may next = (next ≡ behind.LetIn → may ≡ true) × (might ≡ true → may ≡ false → (next ≡ behind.LetOut) ⊎ (next ≡ behind.End))
@@ -43,7 +43,7 @@ is_free None = true
 is_free (Some digest) = false
 
 abbrev pub new_known : Bool → Known
-new_known passed = record { passed = passed; waits = None }
+new_known is_authenticated = record { is_authenticated = is_authenticated; waits = None }
 
 -- what is known of the connection of this number, where these have a place, and otherwise e
 abbrev pub known_at : List (ℕ × Connection) → ℕ → Known → Known
@@ -128,13 +128,13 @@ module _ (l : Limits) (digest : DigestKeys) (b : Bounds) (before after : Known) 
 
 -- A request of a connection that has to log in first: who may ask behind it said the password, and what is too large is refused.
 pub record IsRefusedOr (password : Option (List ℕ)) (before after : Known) (arguments : List (List ℕ)) (rs : List Token) : Type 0 where
-  pub login : after.passed ≡ true → (before.passed ≡ true) ⊎ HasLogin password arguments
+  pub login : after.is_authenticated ≡ true → (before.is_authenticated ≡ true) ⊎ HasLogin password arguments
   pub waits : MovesOn before.waits after.waits
   pub excess : (text : List ℕ) → Exceeds arguments text → (rs ≡ Failure text ∷ []) × (after ≡ before)
 
 -- Who may ask behind it might before, or need not say a password, or said it; who may not has made no call, and is refused what is too large.
 pub record IsAnswered (l : Limits) (digest : DigestKeys) (password : Option (List ℕ)) (b : Bounds) (before after : Known) (arguments : List (List ℕ)) (old new : Session) (rs : List Token) : Type 0 where
-  pub login : after.passed ≡ true → (before.passed ≡ true) ⊎ HasLogin password arguments
-  pub gate : before.passed ≡ false → old ≡ new
-  pub excess : before.passed ≡ false → (text : List ℕ) → Exceeds arguments text → (rs ≡ Failure text ∷ []) × (after ≡ before)
+  pub login : after.is_authenticated ≡ true → (before.is_authenticated ≡ true) ⊎ HasLogin password arguments
+  pub gate : before.is_authenticated ≡ false → old ≡ new
+  pub excess : before.is_authenticated ≡ false → (text : List ℕ) → Exceeds arguments text → (rs ≡ Failure text ∷ []) × (after ≡ before)
   pub did : Did l digest b before after arguments old new rs

@@ -5,11 +5,11 @@ use Rattle.table_core.specs.declared.operation.Operation.TheVariants as op
 use Rattle.table_core.specs.Maps.{key_of}
 use Rattle.version_words.specs.Views.{Goes}
 use Rattle.resp.specs.Replies.{Token, Failure, token}
-use Rattle.key_commands.specs.declared.asked.KeyCommand.{KeyCommand}
-use Rattle.key_commands.specs.declared.asked.Effect.{Effect}
-use Rattle.key_commands.specs.declared.asked.Effect.TheVariants as effects
+use Rattle.key_commands.specs.declared.key_command.KeyCommand.{KeyCommand}
+use Rattle.key_commands.specs.declared.key_command.Effect.{Effect}
+use Rattle.key_commands.specs.declared.key_command.Effect.TheVariants as effects
 use Rattle.key_commands.specs.Doing.{Does}
-use Rattle.far_map.specs.declared.refusal.Refusal.{Refusal}
+use Rattle.far_map.specs.declared.refusal.MapRefusal.{MapRefusal}
 use Rattle.far_server.specs.Sessions.{Session, Call, Called}
 use Rattle.far_server.specs.Steps.{Steps}
 use Rattle.far_server.specs.Refusing.{IsTold, text_of, overtaken, no_room, key_too_long}
@@ -17,7 +17,7 @@ use Rattle.stored_keys.specs.declared.DigestKeys.{DigestKeys}
 use Rattle.stored_keys.specs.StoredKeys.{stored_key, longest_key}
 
 -- a call on this key that was answered so leaves the map as it was
-abbrev pub IsIdleCall : List ℕ → Call → Result (Option (List ℕ)) Refusal → Type 0
+abbrev pub IsIdleCall : List ℕ → Call → Result (Option (List ℕ)) MapRefusal → Type 0
 IsIdleCall k (op.Get j) (Ok found) = j ≡ k
 IsIdleCall k (op.PutIf j expected value) (Ok found) = (j ≡ k) × (found ≢ expected)
 IsIdleCall k o (Ok found) = ⊥
@@ -27,7 +27,7 @@ module _ (l : Limits) (k : List ℕ) where
   -- the session made one call, which left the map as it was
   pub record MakesIdleCall (old new : Session) : Type 0 where
     pub call : Call
-    pub answer : Result (Option (List ℕ)) Refusal
+    pub answer : Result (Option (List ℕ)) MapRefusal
     pub called : Called l old new call answer
     pub idle : IsIdleCall k call answer
 
@@ -47,11 +47,11 @@ module _ (l : Limits) (k : List ℕ) where
   Changes effects.Removes (Some value) bytes old new = Called l old new (op.Remove k) (Ok (Some value))
 
   -- a call was refused, or bytes could not be copied, before any call
-  abbrev pub IsStopped : Refusal → Session → Session → Type 0
+  abbrev pub IsStopped : MapRefusal → Session → Session → Type 0
   IsStopped why old new = ((call : Call) × (key_of call ≡ k) × Called l old new call (Err why)) ⊎ (old ≡ new)
 
   -- the change was made; somebody else was faster; or it was refused
-  abbrev pub IsSettled : Option (List ℕ) → Effect → List ℕ → Session → Session → Result Bool Refusal → Type 0
+  abbrev pub IsSettled : Option (List ℕ) → Effect → List ℕ → Session → Session → Result Bool MapRefusal → Type 0
   IsSettled found effect bytes old new (Ok true) = Changes effect found bytes old new
   IsSettled found effect bytes old new (Ok false) = IsIdle old new
   IsSettled found effect bytes old new (Err why) = IsStopped why old new
@@ -71,13 +71,13 @@ module _ (l : Limits) (k : List ℕ) where
       pub makes : Makes effect found bytes old new
 
     -- one try, which pushed these bytes
-    abbrev pub IsTried : Session → Session → List ℕ → Result Bool Refusal → Type 0
+    abbrev pub IsTried : Session → Session → List ℕ → Result Bool MapRefusal → Type 0
     IsTried old new pushed (Ok true) = (r : Token) × (pushed ≡ token r) × Carries old new r
     IsTried old new pushed (Ok false) = Idles old new
     IsTried old new pushed (Err why) = (mid : Session) × Idles old mid × IsStopped why mid new
 
     -- tries, of which the last pushed these bytes; where none was done others were faster each time
-    abbrev pub IsEnded : Session → Session → List ℕ → Result Bool Refusal → Type 0
+    abbrev pub IsEnded : Session → Session → List ℕ → Result Bool MapRefusal → Type 0
     IsEnded old new pushed (Ok true) = (mid : Session) × Idles old mid × ((r : Token) × (pushed ≡ token r) × Carries mid new r)
     IsEnded old new pushed (Ok false) = Idles old new
     IsEnded old new pushed (Err why) = (mid : Session) × Idles old mid × IsStopped why mid new
@@ -87,7 +87,7 @@ module _ (l : Limits) (k : List ℕ) where
     abbrev pub IsOnStored : Session → Session → Token → Type 0
     IsOnStored old new reply = (mid : Session) × Idles old mid × (
         Carries mid new reply
-        ⊎ (((why : Refusal) × (told : Refusal) × IsStopped why mid new × IsTold why told × (reply ≡ Failure (text_of told)))
+        ⊎ (((why : MapRefusal) × (told : MapRefusal) × IsStopped why mid new × IsTold why told × (reply ≡ Failure (text_of told)))
         ⊎ ((mid ≡ new) × ((reply ≡ Failure overtaken) ⊎ (reply ≡ Failure no_room)))))
 
 -- A command on a client's key is one on its stored key, under these digest keys. Of a key that is too long for one this is told, and no call was made.

@@ -1,20 +1,20 @@
--- Where a lane of a server stands between two maps.
+-- Where a worker of a server stands between two maps.
 use Rattle.std.specs.Prelude.{ℕ, List, Option}
-use Rattle.lanes.specs.declared.over.Wire.{Wire}
-use Rattle.lanes.specs.Marks.{Mark}
-use Rattle.lanes.specs.Calls.{Exchange}
-use Rattle.lanes.specs.Slots.{Views}
-use Rattle.lanes.specs.Frames.{WireTells}
-use Rattle.lanes.specs.Standing.{Standing}
+use Rattle.request_loop.specs.declared.wire.Wire.{Wire}
+use Rattle.request_loop.specs.Marks.{Mark}
+use Rattle.request_loop.specs.Calls.{Exchange}
+use Rattle.request_loop.specs.Slots.{Views}
+use Rattle.request_loop.specs.Packets.{WireTells}
+use Rattle.request_loop.specs.Standing.{Standing}
 use Rattle.far_server.specs.declared.connection.Connection.{Connection}
 
--- a lane that left a map: its frames, what it holds of their connections, and what it knows of these
+-- a worker that left a map: its packets, what it holds of their connections, and what it knows of these
 pub record LeftView (In Out : Type 0) : Type 0 where
   pub wire : Wire In Out
   pub views : Views
   pub connections : List (ℕ × Connection)
 
--- some frames came, whenever they began, and all were dealt with
+-- some packets came, whenever they began, and all were dealt with
 abbrev pub HasStood : {In Out : Type 0} → (In → Option (List ℕ)) → (Out → Option (List ℕ)) → Wire In Out → Views → Type 0
 HasStood {In} {Out} remaining contents wire views =
     (start : Wire In Out) × (past : List (Mark Exchange)) × Standing (WireTells remaining contents) wire.limits start wire views past

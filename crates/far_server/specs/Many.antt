@@ -5,11 +5,11 @@ use Rattle.table_core.specs.declared.limits.Limits.{Limits}
 use Rattle.std.specs.List.{flat_map}
 use Rattle.resp.specs.Replies.{Token, Simple, Number, Count, Failure, token}
 use Rattle.commands.specs.declared.command.Change.{Change}
-use Rattle.key_commands.specs.declared.asked.KeyCommand.{KeyCommand}
-use Rattle.key_commands.specs.declared.asked.KeyCommand.TheVariants as ask
+use Rattle.key_commands.specs.declared.key_command.KeyCommand.{KeyCommand}
+use Rattle.key_commands.specs.declared.key_command.KeyCommand.TheVariants as ask
 use Rattle.far_server.specs.Sessions.{Session}
 use Rattle.far_server.specs.Keyed.{IsKeyed}
-use Rattle.far_map.specs.declared.refusal.Refusal.TheVariants as refusal
+use Rattle.far_map.specs.declared.refusal.MapRefusal.TheVariants as refusal
 use Rattle.far_server.specs.Bounds.{longest, too_large}
 use Rattle.far_server.specs.Refusing.{text_of}
 use Rattle.stored_keys.specs.declared.DigestKeys.{DigestKeys}

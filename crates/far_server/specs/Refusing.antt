@@ -1,9 +1,9 @@
 -- What is replied for a call that the map refuses.
 use Rattle.std.specs.Prelude.{◌≡◌, ◌⊎◌, ℕ, List, codes}
-use Rattle.far_map.specs.declared.refusal.Refusal.{Refusal}
-use Rattle.far_map.specs.declared.refusal.Refusal.TheVariants as refusal
+use Rattle.far_map.specs.declared.refusal.MapRefusal.{MapRefusal}
+use Rattle.far_map.specs.declared.refusal.MapRefusal.TheVariants as refusal
 
-abbrev pub text_of : Refusal → List ℕ
+abbrev pub text_of : MapRefusal → List ℕ
 text_of refusal.TooLong = codes "ERR bucket is full"
 text_of (refusal.Full what) = codes "OOM command not allowed: no frame can be emptied"
 text_of refusal.NamesSpent = codes "ERR far map has no names left"
@@ -12,7 +12,7 @@ text_of refusal.Damaged = codes "ERR far device gave back damaged bytes"
 text_of refusal.Memory = codes "OOM command not allowed: out of memory"
 
 -- A refusal is told as it is, or as want of memory: so is one of a device where none keeps anything.
-abbrev pub IsTold : Refusal → Refusal → Type 0
+abbrev pub IsTold : MapRefusal → MapRefusal → Type 0
 IsTold why told = (told ≡ why) ⊎ ((why ≡ refusal.Device) × (told ≡ refusal.Memory))
 
 -- where memory is full, and nothing can be swapped out

@@ -10,7 +10,7 @@ use Rattle.commands.specs.declared.command.Command.TheVariants as command
 use Rattle.commands.specs.declared.name.OfKeys.{OfKeys}
 use Rattle.commands.specs.declared.name.OfKeys.TheVariants as keys
 use Rattle.commands.specs.declared.server.ServerCommand.TheVariants as server
-use Rattle.key_commands.specs.declared.asked.KeyCommand.TheVariants as ask
+use Rattle.key_commands.specs.declared.key_command.KeyCommand.TheVariants as ask
 use Rattle.key_commands.specs.Asked.{of_one_key}
 use Rattle.far_server.specs.Sessions.{Session}
 use Rattle.far_server.specs.Keyed.{IsKeyed}

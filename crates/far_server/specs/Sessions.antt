@@ -2,7 +2,7 @@
 use Rattle.std.specs.Prelude.{ℕ, List, Option, Result}
 use Rattle.far_blob.specs.Encodings.{enc_blob}
 use Rattle.table_core.specs.declared.limits.Limits.{Limits}
-use Rattle.far_map.specs.declared.refusal.Refusal.{Refusal}
+use Rattle.far_map.specs.declared.refusal.MapRefusal.{MapRefusal}
 use Rattle.far_map.specs.Views.{Call as CallOn, SessionView}
 use Rattle.far_map.specs.Updates.{Called as CalledOn}
 
@@ -13,5 +13,5 @@ abbrev pub Call : Type 0
 Call = CallOn (List ℕ)
 
 -- the session made this call, was answered so, and counted it
-abbrev pub Called : Limits → Session → Session → Call → Result (Option (List ℕ)) Refusal → Type 0
+abbrev pub Called : Limits → Session → Session → Call → Result (Option (List ℕ)) MapRefusal → Type 0
 Called l old new call answer = CalledOn enc_blob l old new call answer

@@ -3,8 +3,8 @@ use Rattle.std.specs.Prelude.{◌≡◌, ◌≢◌, ◌⊎◌, ℕ, ◌≤◌, B
 use Rattle.table_core.specs.declared.limits.Limits.{Limits}
 use Rattle.version_words.specs.Views.{Goes}
 use Rattle.commands.specs.Stored.{stored}
-use Rattle.hash_table.specs.declared.removing.Removal.{Removal}
-use Rattle.far_map.specs.declared.refusal.Refusal.{Refusal}
+use Rattle.hash_table.specs.declared.removal.Removal.{Removal}
+use Rattle.far_map.specs.declared.refusal.MapRefusal.{MapRefusal}
 use Rattle.far_map.specs.Removals.{call_of, found_in, IsMet}
 use Rattle.far_server.specs.Sessions.{Session, Called}
 use Rattle.far_server.specs.Steps.{Steps}
@@ -25,7 +25,7 @@ module _ (l : Limits) where
     pub key : List ℕ
     pub expired : List ℕ
     pub is_over : IsOver expired
-    pub result : Result (Removal (List ℕ)) Refusal
+    pub result : Result (Removal (List ℕ)) MapRefusal
     pub called : Called l old new (call_of key result) (found_in result)
     pub met : IfOk result (IsMet expired)
 

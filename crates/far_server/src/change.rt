@@ -3,30 +3,30 @@
 //! It is made only while that value is still there. So a command that others overtook has changed nothing,
 //! and tries again.
 ghost use Rattle.std.specs.Prelude.{◌≡◌, ◌≢◌, MatchBool, Some};
-ghost use Rattle.key_commands.specs.declared.asked.Effect.TheVariants as effects;
+ghost use Rattle.key_commands.specs.declared.key_command.Effect.TheVariants as effects;
 ghost use Rattle.table_core.specs.Lent.{lent_value};
 ghost use Rattle.far_server.specs.Keyed.{IsSettled};
 
-use crate::around::Desk;
+use crate::context::Workspace;
 use far_blob::Blob;
-use far_map::{Calls, Refusal, Value};
+use far_map::{Calls, MapRefusal, Value};
 use far_object::Text;
 use key_commands::Effect;
 use std::alloc::Global;
 use std::sync::Wait;
 
-/// Puts `desk.stored` over the value that was found, if that is still there. Returns whether it was.
+/// Puts `workspace.stored` over the value that was found, if that is still there. Returns whether it was.
 fn put_over<S: Calls<Blob>, R: Wait>(
     rt: &R,
     alloc: Global,
     me: &mut S,
     key: &Text,
     found: Option<&Blob>,
-    desk: &mut Desk,
-) -> Result<bool, Refusal>
-    ensures { IsSettled S.limits key.now (lent_value found.entry) effects.Sets desk.old.stored.items (S.shown me.old) (S.shown me.new) result }
+    workspace: &mut Workspace,
+) -> Result<bool, MapRefusal>
+    ensures { IsSettled S.limits key.now (lent_value found.entry) effects.Sets workspace.old.stored.items (S.shown me.old) (S.shown me.new) result }
 {
-    let value = match Blob::from_bytes(alloc, desk.stored.as_slice()) {
+    let value = match Blob::from_bytes(alloc, workspace.stored.as_slice()) {
         Ok(value) => value,
         Err(why) => return Err(why),
     };
@@ -34,7 +34,7 @@ fn put_over<S: Calls<Blob>, R: Wait>(
         Ok(before) => {
             let is_done = are_same(before.as_ref(), found);
             if is_done {
-                desk.count_set(found.is_none());
+                workspace.count_set(found.is_none());
             }
             Ok(is_done)
         }
@@ -48,13 +48,13 @@ fn take_out<S: Calls<Blob>, R: Wait>(
     me: &mut S,
     key: &Text,
     found: &Blob,
-    desk: &mut Desk,
-) -> Result<bool, Refusal>
-    ensures { IsSettled S.limits key.now (Some found.now) effects.Removes desk.old.stored.items (S.shown me.old) (S.shown me.new) result }
+    workspace: &mut Workspace,
+) -> Result<bool, MapRefusal>
+    ensures { IsSettled S.limits key.now (Some found.now) effects.Removes workspace.old.stored.items (S.shown me.old) (S.shown me.new) result }
 {
     match me.remove_if(rt, key, found) {
         Ok(removal) => {
-            desk.tally.count_removal(removal.removed);
+            workspace.statistics.count_removal(removal.removed);
             Ok(removal.removed)
         }
         Err(why) => Err(why),
@@ -70,13 +70,13 @@ fn change<S: Calls<Blob>, R: Wait>(
     key: &Text,
     found: Option<&Blob>,
     effect: Effect,
-    desk: &mut Desk,
-) -> Result<bool, Refusal>
-    ensures { IsSettled S.limits key.now (lent_value found.entry) effect desk.old.stored.items (S.shown me.old) (S.shown me.new) result }
+    workspace: &mut Workspace,
+) -> Result<bool, MapRefusal>
+    ensures { IsSettled S.limits key.now (lent_value found.entry) effect workspace.old.stored.items (S.shown me.old) (S.shown me.new) result }
 {
     match (effect, found) {
-        (Effect::Sets, _) => put_over(rt, alloc, me, key, found, desk),
-        (Effect::Removes, Some(found)) => take_out(rt, me, key, found, desk),
+        (Effect::Sets, _) => put_over(rt, alloc, me, key, found, workspace),
+        (Effect::Removes, Some(found)) => take_out(rt, me, key, found, workspace),
         _ => Ok(true),
     }
 }
@@ -90,12 +90,13 @@ pub(crate) fn settle<S: Calls<Blob>, R: Wait>(
     found: Option<&Blob>,
     is_expired: bool,
     effect: Effect,
-    desk: &mut Desk,
-) -> Result<bool, Refusal>
-    ensures { IsSettled S.limits key.now (lent_value found.entry) effect desk.old.stored.items (S.shown me.old) (S.shown me.new) result }
+    workspace: &mut Workspace,
+) -> Result<bool, MapRefusal>
+    ensures { IsSettled S.limits key.now (lent_value found.entry) effect workspace.old.stored.items (S.shown me.old) (S.shown me.new) result }
 {
-    let settled = change(rt, alloc, me, key, found, effect, desk);
-    desk.tally
+    let settled = change(rt, alloc, me, key, found, effect, workspace);
+    workspace
+        .statistics
         .count_expired(is_expired && matches!(settled, Ok(true)));
     settled
 }

@@ -13,7 +13,7 @@ pub(crate) struct Connection {
     /// CLIENT ID: its number among all connections of the server.
     pub(crate) id: u64,
     /// Whether it is authenticated: it has logged in, or no password is set.
-    pub(crate) passed: bool,
+    pub(crate) is_authenticated: bool,
     /// CLIENT GETNAME; empty if it has no name.
     pub(crate) name: Vec<u8>,
     /// What waits for EXEC, after a MULTI. None if there was no MULTI.
@@ -22,13 +22,13 @@ pub(crate) struct Connection {
 
 impl Connection {
     /// A new connection.
-    pub(crate) fn new(alloc: Global, id: u64, passed: bool) -> Connection
-        ensures passed { result.passed ≡ passed }
+    pub(crate) fn new(alloc: Global, id: u64, is_authenticated: bool) -> Connection
+        ensures is_authenticated { result.is_authenticated ≡ is_authenticated }
         ensures queue { result.queue ≡ None }
     {
         Connection {
             id,
-            passed,
+            is_authenticated,
             name: Vec::new(alloc),
             queue: None,
         }
@@ -48,7 +48,7 @@ impl Connection {
     pub(crate) fn set_name(&mut self, name: &[u8]) -> Result<bool, AllocError>
         ensures named { IfOk result (λ named. MatchBool named ((length name.now ≤ 1024) × (self.new.name.items ≡ name.now)) ((1024 < length name.now) × (self.new.name ≡ self.old.name))) }
         ensures kept { OnErr result (self.new.name ≡ self.old.name) }
-        ensures passed { self.new.passed ≡ self.old.passed }
+        ensures is_authenticated { self.new.is_authenticated ≡ self.old.is_authenticated }
         ensures queue { self.new.queue ≡ self.old.queue }
     {
         if name.len() > LONGEST_NAME {

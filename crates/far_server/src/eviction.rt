@@ -22,10 +22,10 @@ ghost use Rattle.std.specs.Prelude.{◌<◌, true, IfSome};
 ghost use Rattle.version_words.specs.Views.{Goes};
 ghost use Rattle.far_server.specs.Sweeps.{Sweeps};
 
-use crate::around::{Around, Desk};
-use crate::visiting::{empty_bucket, keys_in};
+use crate::all_keys::{empty_bucket, keys_in};
+use crate::context::{ServerContext, Workspace};
 use far_blob::Blob;
-use far_map::{Calls, Refusal};
+use far_map::{Calls, MapRefusal};
 use hash_table::BucketState;
 use std::alloc::Global;
 use std::rt::Clock;
@@ -166,7 +166,7 @@ fn is_on_device<S: Calls<Blob>, R: Wait>(
     alloc: Global,
     me: &mut S,
     bucket: u32,
-) -> Result<bool, Refusal>
+) -> Result<bool, MapRefusal>
     requires { bucket < S.limits.buckets }
     ensures { Goes (S.shown me.old).pass (S.shown me.new).pass }
 {
@@ -213,20 +213,20 @@ fn evict_keys<S: Calls<Blob>, R: Wait>(
     alloc: Global,
     me: &mut S,
     bucket: u32,
-    desk: &mut Desk,
+    workspace: &mut Workspace,
 ) -> bool
     requires { bucket < S.limits.buckets }
     ensures { Sweeps S.limits true (S.shown me.old) (S.shown me.new) }
 {
-    let before = desk.tally.lost;
-    let is_empty = empty_bucket(rt, alloc, me, bucket, desk).is_ok();
-    desk.tally.count_evictions(before);
+    let before = workspace.statistics.keys_removed;
+    let is_empty = empty_bucket(rt, alloc, me, bucket, workspace).is_ok();
+    workspace.statistics.count_evictions(before);
     is_empty
 }
 
 /// The next bucket that may go, in memory or on a device, whichever is due.
 fn find_victim<S: Calls<Blob>, C: Clock, R: Wait>(
-    around: &Around<'_, C, R>,
+    context: &ServerContext<'_, C, R>,
     me: &mut S,
     victims: &mut Victims,
 ) -> Option<u32>
@@ -234,28 +234,28 @@ fn find_victim<S: Calls<Blob>, C: Clock, R: Wait>(
     ensures bucket { IfSome result (λ bucket. bucket < S.limits.buckets) }
 {
     if victims.wants_far {
-        find_far(around.rt, around.alloc, me, victims)
+        find_far(context.rt, context.alloc, me, victims)
     } else {
-        find_near(me, victims, around.settings.map.frames)
+        find_near(me, victims, context.settings.map.frames)
     }
 }
 
 /// Removes all keys of the next victim, in memory and on a device by turns. Returns whether that was done, or
 /// there are more buckets to look at.
 fn evict_bucket<S: Calls<Blob>, C: Clock, R: Wait>(
-    around: &Around<'_, C, R>,
+    context: &ServerContext<'_, C, R>,
     me: &mut S,
     victims: &mut Victims,
-    desk: &mut Desk,
+    workspace: &mut Workspace,
 ) -> bool
     ensures { Sweeps S.limits true (S.shown me.old) (S.shown me.new) }
 {
-    match find_victim(around, me, victims) {
+    match find_victim(context, me, victims) {
         Some(bucket) => {
-            victims.turn_over(desk.is_far);
-            evict_keys(around.rt, around.alloc, me, bucket, desk)
+            victims.turn_over(workspace.is_far);
+            evict_keys(context.rt, context.alloc, me, bucket, workspace)
         }
-        None => victims.look_elsewhere(around.settings.map.frames, desk.is_far),
+        None => victims.look_elsewhere(context.settings.map.frames, workspace.is_far),
     }
 }
 
@@ -272,7 +272,7 @@ enum Room {
 
 /// Checks whether more bytes are in frames than may be, and has an object swapped out if there is a device.
 fn look_for_room<S: Calls<Blob>, C: Clock, R: Wait>(
-    around: &Around<'_, C, R>,
+    context: &ServerContext<'_, C, R>,
     me: &mut S,
     most: u64,
 ) -> Room
@@ -281,10 +281,10 @@ fn look_for_room<S: Calls<Blob>, C: Clock, R: Wait>(
     if me.bytes_in_frames() <= most {
         return Room::Enough;
     }
-    if !around.settings.is_far {
+    if !context.settings.is_far {
         return Room::Wanting;
     }
-    match me.evict(around.rt) {
+    match me.evict(context.rt) {
         Ok(true) => Room::Made,
         Ok(false) => Room::Enough,
         Err(_) => Room::Wanting,
@@ -294,16 +294,16 @@ fn look_for_room<S: Calls<Blob>, C: Clock, R: Wait>(
 /// Makes room if more bytes are in frames than may be. Returns whether there is more to do. Keys go only if
 /// no device takes an object.
 pub(crate) fn make_room<S: Calls<Blob>, C: Clock, R: Wait>(
-    around: &Around<'_, C, R>,
+    context: &ServerContext<'_, C, R>,
     me: &mut S,
     victims: &mut Victims,
-    desk: &mut Desk,
+    workspace: &mut Workspace,
 ) -> bool
     ensures { Sweeps S.limits true (S.shown me.old) (S.shown me.new) }
 {
-    match look_for_room(around, me, desk.most_in_frames) {
+    match look_for_room(context, me, workspace.most_in_frames) {
         Room::Enough => false,
         Room::Made => true,
-        Room::Wanting => evict_bucket(around, me, victims, desk),
+        Room::Wanting => evict_bucket(context, me, victims, workspace),
     }
 }

@@ -6,11 +6,11 @@ ghost use Rattle.commands.specs.Arguments.{listed};
 ghost use Rattle.far_server.specs.Logins.{IsLogin, IsRight, AreShort, HasLong, IsModest, Exceeds};
 
 use crate::connection::Connection;
-use crate::refusing::text_of;
+use crate::one_reply::{push_one_failure, push_one_simple};
+use crate::refusal::text_of;
 use crate::settings::ServerSettings;
-use crate::single::{push_one_failure, push_one_simple};
 use commands::{Arguments, Greeting, Login};
-use far_map::Refusal;
+use far_map::MapRefusal;
 use sha2::{Digest, Sha256};
 use std::alloc::AllocError;
 
@@ -100,7 +100,7 @@ pub(crate) fn answer_auth(
 ) -> Result<(), AllocError>
     ensures said { OnOk result ((rs : List Token) × (reply.new.items ≡ reply.old.items ++ flat_map token rs)) }
     ensures kept { OnErr result (reply.new.items ≡ reply.old.items) }
-    ensures login { connection.new.passed ≡ true → (connection.old.passed ≡ true) ⊎ IsLogin settings.now.password login.entry.password.now }
+    ensures login { connection.new.is_authenticated ≡ true → (connection.old.is_authenticated ≡ true) ⊎ IsLogin settings.now.password login.entry.password.now }
     ensures queue { connection.new.queue ≡ connection.old.queue }
 {
     if settings.password.is_none() && login.user.is_none() {
@@ -109,7 +109,7 @@ pub(crate) fn answer_auth(
     if !is_right(&settings.password, login) {
         return push_one_failure(reply, WRONG_LOGIN);
     }
-    connection.passed = true;
+    connection.is_authenticated = true;
     push_one_simple(reply, b"OK")
 }
 
@@ -123,23 +123,23 @@ pub(crate) fn answer_hello(
 ) -> Result<(), AllocError>
     ensures said { OnOk result ((rs : List Token) × (reply.new.items ≡ reply.old.items ++ flat_map token rs)) }
     ensures kept { OnErr result (reply.new.items ≡ reply.old.items) }
-    ensures login { connection.new.passed ≡ true → (connection.old.passed ≡ true) ⊎ IsRight settings.now.password greeting.entry.login }
+    ensures login { connection.new.is_authenticated ≡ true → (connection.old.is_authenticated ≡ true) ⊎ IsRight settings.now.password greeting.entry.login }
     ensures queue { connection.new.queue ≡ connection.old.queue }
 {
     if let Some(login) = greeting.login {
         if !is_right(&settings.password, login) {
             return push_one_failure(reply, WRONG_LOGIN);
         }
-        connection.passed = true;
+        connection.is_authenticated = true;
     }
-    if !connection.passed {
+    if !connection.is_authenticated {
         return push_one_failure(reply, NO_LOGIN_OF_HELLO);
     }
     if let Some(name) = greeting.name {
         match connection.set_name(name) {
             Ok(true) => {}
             Ok(false) => return push_one_failure(reply, LONG_NAME),
-            Err(_) => return push_one_failure(reply, text_of(Refusal::Memory)),
+            Err(_) => return push_one_failure(reply, text_of(MapRefusal::Memory)),
         }
     }
     server_commands::hello(connection.id, reply)
@@ -154,12 +154,12 @@ pub(crate) fn answer_set_name(
 ) -> Result<(), AllocError>
     ensures said { OnOk result ((rs : List Token) × (reply.new.items ≡ reply.old.items ++ flat_map token rs)) }
     ensures kept { OnErr result (reply.new.items ≡ reply.old.items) }
-    ensures passed { connection.new.passed ≡ connection.old.passed }
+    ensures is_authenticated { connection.new.is_authenticated ≡ connection.old.is_authenticated }
     ensures queue { connection.new.queue ≡ connection.old.queue }
 {
     match connection.set_name(name) {
         Ok(true) => push_one_simple(reply, b"OK"),
         Ok(false) => push_one_failure(reply, LONG_NAME),
-        Err(_) => push_one_failure(reply, text_of(Refusal::Memory)),
+        Err(_) => push_one_failure(reply, text_of(MapRefusal::Memory)),
     }
 }

@@ -1,6 +1,6 @@
 //! Notes of the gateway: texts that belong to no connection.
 
-use crate::tally::Tallies;
+use crate::statistics::SharedStatistics;
 use std::alloc::AllocError;
 use std::sync::atomic::Ordering;
 
@@ -29,7 +29,7 @@ fn number_in(text: &[u8]) -> Option<u64> {
 
 /// Takes a note, and pushes the answer if it asks for one. A text that is not known is ignored.
 pub(crate) fn take_note(
-    tallies: &Tallies,
+    shared_statistics: &SharedStatistics,
     text: &[u8],
     answer: &mut Vec<u8>,
 ) -> Result<(), AllocError> {
@@ -40,7 +40,7 @@ pub(crate) fn take_note(
         }
         return Ok(());
     }
-    let told = &tallies.gateway;
+    let told = &shared_statistics.gateway;
     for (word, place) in [
         (REJECTED, &told.rejected),
         (EVICTED, &told.evicted),

@@ -8,7 +8,7 @@ use thiserror::Error;
 
 /// Why the pipes of a worker can't be opened.
 #[derive(Clone, Copy, Debug, PartialEq, Eq, Error)]
-pub enum OpenFault {
+pub enum PipesFault {
     /// The system could not open one of them.
     #[error("the pipes of a lane cannot be opened")]
     Io,
@@ -22,7 +22,7 @@ pub enum OpenFault {
 pub trait Pipes {
     ghost use Rattle.std.specs.Prelude.{ℕ, List};
 
-    /// Where requests come from: packets as `lanes` reads them.
+    /// Where requests come from: packets as `workers` reads them.
     type Input: BufRead + Drop;
 
     /// Where replies go to.
@@ -31,11 +31,11 @@ pub trait Pipes {
     /// Whether the worker of this number may be given this reader and this writer.
     ghost opens: { Self → ℕ → Self.Input → Self.Output → Type 0 };
 
-    /// Opens the reader and the writer of the worker of number `lane`, counted from 0. Each is opened once,
+    /// Opens the reader and the writer of the worker of number `worker`, counted from 0. Each is opened once,
     /// by the worker's own thread, which may wait here for the other side.
     ///
     /// Returns `Io` if the system can't open one of them, and `Memory` if an allocation fails. The worker
     /// ends then, with this fault, and the others go on.
-    fn open(&self, alloc: Global, lane: u32) -> Result<(Self::Input, Self::Output), OpenFault>
-        ensures { IfOk result (λ both. opens self.now lane both.0 both.1) };
+    fn open(&self, alloc: Global, worker: u32) -> Result<(Self::Input, Self::Output), PipesFault>
+        ensures { IfOk result (λ both. opens self.now worker both.0 both.1) };
 }

@@ -11,12 +11,12 @@ ghost use Rattle.resp.specs.Replies.{Token, token};
 ghost use Rattle.version_words.specs.Views.{Goes};
 ghost use Rattle.far_server.specs.Lists.{IsToldOne};
 
-use crate::around::{Around, Desk};
-use crate::refusing::text_of;
-use crate::single::{push_one_failure, push_one_nothing};
-use crate::visiting::{keys_in, push_key};
+use crate::all_keys::{keys_in, push_key};
+use crate::context::{ServerContext, Workspace};
+use crate::one_reply::{push_one_failure, push_one_nothing};
+use crate::refusal::text_of;
 use far_blob::Blob;
-use far_map::{Calls, Refusal};
+use far_map::{Calls, MapRefusal};
 use far_object::Text;
 use rand::rngs::SmallRng;
 use rand::seq::IndexedRandom;
@@ -49,7 +49,7 @@ fn keys_between<S: Calls<Blob>, R: Wait>(
     from: u32,
     to: u32,
     now: u64,
-) -> Result<Vec<Text>, Refusal>
+) -> Result<Vec<Text>, MapRefusal>
     requires { to ≤ S.limits.buckets }
     ensures { Goes (S.shown me.old).pass (S.shown me.new).pass }
 {
@@ -76,7 +76,7 @@ fn keys_from<S: Calls<Blob>, R: Wait>(
     me: &mut S,
     first: u32,
     now: u64,
-) -> Result<Vec<Text>, Refusal>
+) -> Result<Vec<Text>, MapRefusal>
     ensures { Goes (S.shown me.old).pass (S.shown me.new).pass }
 {
     let buckets = me.buckets();
@@ -100,7 +100,7 @@ fn drawn_keys<S: Calls<Blob>, R: Wait>(
     me: &mut S,
     draws: &mut SmallRng,
     now: u64,
-) -> Result<Vec<Text>, Refusal>
+) -> Result<Vec<Text>, MapRefusal>
     ensures { Goes (S.shown me.old).pass (S.shown me.new).pass }
 {
     let buckets = me.buckets();
@@ -135,9 +135,9 @@ fn push_drawn(draws: &mut SmallRng, keys: &[Text], reply: &mut Vec<u8>) -> Resul
 
 /// Answers RANDOMKEY. If memory is refused for the reply, `reply` is as before.
 pub(crate) fn answer_random_key<S: Calls<Blob>, C, R: Wait>(
-    around: &Around<'_, C, R>,
+    context: &ServerContext<'_, C, R>,
     me: &mut S,
-    desk: &mut Desk,
+    workspace: &mut Workspace,
     now: u64,
     reply: &mut Vec<u8>,
 ) -> Result<(), AllocError>
@@ -145,15 +145,15 @@ pub(crate) fn answer_random_key<S: Calls<Blob>, C, R: Wait>(
     ensures said { OnOk result ((rs : List Token) × (reply.new.items ≡ reply.old.items ++ flat_map token rs)) }
     ensures kept { OnErr result (reply.new.items ≡ reply.old.items) }
 {
-    let mut draws = match desk.draws.take() {
+    let mut draws = match workspace.draws.take() {
         Some(draws) => draws,
-        None => draws_of(around.settings.seed, around.lane),
+        None => draws_of(context.settings.seed, context.worker),
     };
-    let found = drawn_keys(around.rt, around.alloc, me, &mut draws, now);
+    let found = drawn_keys(context.rt, context.alloc, me, &mut draws, now);
     let said = match found {
         Ok(keys) => push_drawn(&mut draws, keys.as_slice(), reply),
         Err(why) => push_one_failure(reply, text_of(why)),
     };
-    desk.draws = Some(draws);
+    workspace.draws = Some(draws);
     said
 }

@@ -14,7 +14,7 @@
 //! wake of an earlier map.
 
 use crate::settings::ServerSettings;
-use far_map::Carried;
+use far_map::LoadReport;
 use std::rt::Clock;
 use std::sync::atomic::{AtomicU32, AtomicU64, Ordering};
 
@@ -70,12 +70,12 @@ impl Renewal {
     /// For a server that has served nothing.
     pub(crate) fn new(settings: &ServerSettings) -> Renewal {
         let names = settings.map.names;
-        let lanes = u64::from(settings.lanes);
+        let workers = u64::from(settings.workers);
         let most_drawn = u64::from(settings.map.buckets)
             .saturating_mul(4)
-            .saturating_add(lanes.saturating_mul(BEHIND));
+            .saturating_add(workers.saturating_mul(BEHIND));
         let least = (names / 100).max(most_drawn).min(names / 4);
-        let drawn = lanes.saturating_add(1).saturating_mul(DRAWN);
+        let drawn = workers.saturating_add(1).saturating_mul(DRAWN);
         Renewal {
             least,
             every: (least / drawn.max(1)).clamp(1, LOOKS) as u32,
@@ -134,14 +134,14 @@ impl Renewal {
     }
 
     /// The next map has what the last one left, and no worker has begun.
-    pub(crate) fn begin(&self, carried: Carried) {
+    pub(crate) fn begin(&self, load_report: LoadReport) {
         if self.stage.swap(ENOUGH, Ordering::SeqCst) == LEAVING {
             self.count.fetch_add(1, Ordering::SeqCst);
         }
         self.lost_pairs
-            .fetch_add(carried.lost_pairs, Ordering::SeqCst);
+            .fetch_add(load_report.lost_pairs, Ordering::SeqCst);
         self.lost_buckets
-            .fetch_add(carried.lost_buckets, Ordering::SeqCst);
+            .fetch_add(load_report.lost_buckets, Ordering::SeqCst);
     }
 
     /// A worker begins to serve. After a renewal this sets how long the pause was.

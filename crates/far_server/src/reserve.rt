@@ -2,16 +2,16 @@
 //!
 //! A change whose reply can't be written must not be made. This holds because there is room for the reply
 //! first:
-//! - The request loop (`lanes`) makes room for a short reply before it hands a request over.
+//! - The request loop (`workers`) makes room for a short reply before it hands a request over.
 //! - A long reply takes more room as it is written, which is before the change. If memory is refused for it,
 //!   there is no change. An error takes its place, in the room for a short one.
 //! - MGET and EXEC reply several times, so they make such room for each part. What EXEC has for the errors of
-//!   the requests after the one that it runs stays free (`Desk::beside`).
+//!   the requests after the one that it runs stays free (`Workspace::beside`).
 ghost use Rattle.std.specs.Prelude.{◌≡◌, ◌++◌, ℕ, List, replicate, OnOk};
 ghost use Rattle.std.specs.List.{flat_map};
 ghost use Rattle.resp.specs.Replies.{Failure, token};
 
-use crate::single::push_one_failure;
+use crate::one_reply::push_one_failure;
 use std::alloc::AllocError;
 
 /// How many bytes of room a short reply gets: a number, a status, an error, or the head of an array.

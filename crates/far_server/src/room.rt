@@ -11,7 +11,7 @@
 //! A worker evicts no keys itself: its calls are those of its commands.
 ghost use Rattle.version_words.specs.Views.{Goes};
 
-use crate::around::Desk;
+use crate::context::Workspace;
 use far_blob::Blob;
 use far_map::Calls;
 use key_commands::KeyCommand;
@@ -69,14 +69,14 @@ fn swaps_out<S: Calls<Blob>, R: Wait>(rt: &R, me: &mut S, most: u64) -> bool
 
 /// Waits for the sweep while the frames have more than `most` bytes. Returns whether they have no more than
 /// that at the end. The wait goes on as long as the sweep removes keys.
-fn waits<S: Calls<Blob>, R: Wait>(rt: &R, me: &S, most: u64, desk: &Desk) -> bool {
+fn waits<S: Calls<Blob>, R: Wait>(rt: &R, me: &S, most: u64, workspace: &Workspace) -> bool {
     let mut last = me.bytes_in_frames();
     let mut idle = 0u32;
     for _ in 0..MOST_NAPS {
         if last <= most || idle >= IDLE_NAPS {
             break;
         }
-        desk.bed.park_timeout(rt, Duration::from_micros(NAP));
+        workspace.bed.park_timeout(rt, Duration::from_micros(NAP));
         let now = me.bytes_in_frames();
         idle = if now == last {
             idle.saturating_add(1)
@@ -89,16 +89,16 @@ fn waits<S: Calls<Blob>, R: Wait>(rt: &R, me: &S, most: u64, desk: &Desk) -> boo
 }
 
 /// Whether the bytes in frames are within their bound and an eighth, after all was tried that can make room.
-pub(crate) fn has_room<S: Calls<Blob>, R: Wait>(rt: &R, me: &mut S, desk: &Desk) -> bool
+pub(crate) fn has_room<S: Calls<Blob>, R: Wait>(rt: &R, me: &mut S, workspace: &Workspace) -> bool
     ensures { Goes (S.shown me.old).pass (S.shown me.new).pass }
 {
-    let most = desk.most_in_frames;
+    let most = workspace.most_in_frames;
     let most = most.saturating_add(most / 8);
     if me.bytes_in_frames() <= most {
         return true;
     }
-    if desk.is_far && swaps_out(rt, me, most) {
+    if workspace.is_far && swaps_out(rt, me, most) {
         return true;
     }
-    desk.is_swept && waits(rt, me, most, desk)
+    workspace.is_swept && waits(rt, me, most, workspace)
 }

@@ -1,17 +1,17 @@
-//! A worker's service: what the request loop (`lanes`) calls for each open, request, close, note and wake.
+//! A worker's service: what the request loop (`workers`) calls for each open, request, close, note and wake.
 ghost use Rattle.std.specs.Prelude.{◌≡◌, ℕ, Bool, []};
 ghost use Rattle.far_server.specs.Answers.{known_at, unknown, IsAdmission};
 
-use crate::around::{Around, Desk};
 use crate::connection::Connection;
+use crate::connections::{answer_at, forget, kept_for, make_place};
+use crate::context::{ServerContext, Workspace};
 use crate::notes::take_note;
-use crate::places::{answer_at, forget, kept_for, make_place};
 use crate::settings::ServerSettings;
-use crate::tally::count;
+use crate::statistics::count;
 use commands::{Arguments, Span};
 use far_blob::Blob;
 use far_map::Calls;
-use lanes::{Next, Service, Woken};
+use request_loop::{Next, Service, Woken};
 use std::alloc::{AllocError, Global};
 use std::collections::BTreeMap;
 use std::rt::Clock;
@@ -22,7 +22,7 @@ use std::sync::Wait;
 pub(crate) struct Kept {
     /// The connections that have a place, each by the number that the gateway drew for it.
     connections: BTreeMap<u64, Connection>,
-    desk: Desk,
+    workspace: Workspace,
     /// How many more requests are answered before the worker checks how many version numbers are left.
     until_look: u32,
 }
@@ -34,7 +34,7 @@ impl Kept {
     {
         Kept {
             connections: BTreeMap::new(alloc),
-            desk: Desk::new(alloc, settings),
+            workspace: Workspace::new(alloc, settings),
             until_look: 1,
         }
     }
@@ -46,7 +46,7 @@ impl Kept {
 #[derive(Drop)]
 pub(crate) struct Server<'a, S: Calls<Blob>, C, R, T> {
     me: &'a mut S,
-    around: &'a Around<'a, C, R>,
+    context: &'a ServerContext<'a, C, R>,
     kept: T,
 }
 
@@ -58,7 +58,7 @@ impl<'a, S: Calls<Blob>, C, R, T: Drop> Server<'a, S, C, R, T> {
     {
         let Server {
             me: _,
-            around: _,
+            context: _,
             kept,
         } = self;
         kept
@@ -68,19 +68,19 @@ impl<'a, S: Calls<Blob>, C, R, T: Drop> Server<'a, S, C, R, T> {
 impl<'a, S: Calls<Blob>, C: Clock, R: Wait> Server<'a, S, C, R, Kept> {
     /// A service that goes on from what was kept.
     pub(crate) fn new(
-        around: &'a Around<'a, C, R>,
+        context: &'a ServerContext<'a, C, R>,
         me: &'a mut S,
         kept: Kept,
     ) -> Server<'a, S, C, R, Kept>
         ensures same_reference { result.me.ghost_name ≡ me.entry.ghost_name }
         ensures session { result.me.now ≡ me.old }
-        ensures around { result.around.now ≡ around.now }
+        ensures context { result.context.now ≡ context.now }
         ensures connections { result.kept.connections.entries ≡ kept.connections.entries }
     {
         let mut kept = kept;
-        let counted = kept.desk.tally;
-        kept.desk.begin(counted);
-        Server { me, around, kept }
+        let counted = kept.workspace.statistics;
+        kept.workspace.begin(counted);
+        Server { me, context, kept }
     }
 
     /// What the request loop does after a reply. It also checks now and then how many version numbers are
@@ -90,21 +90,21 @@ impl<'a, S: Calls<Blob>, C: Clock, R: Wait> Server<'a, S, C, R, Kept> {
         ensures told { (might may : Bool) → IsAdmission might may next → IsAdmission might may result }
         ensures same_reference { self.new.me.ghost_name ≡ self.old.me.ghost_name }
         ensures session { self.new.me.now ≡ self.old.me.now }
-        ensures around { self.new.around.now ≡ self.old.around.now }
+        ensures context { self.new.context.now ≡ self.old.context.now }
         ensures connections { self.new.kept.connections.entries ≡ self.old.kept.connections.entries }
     {
-        let renewal = self.around.renewal;
+        let renewal = self.context.renewal;
         self.kept.until_look = self.kept.until_look.saturating_sub(1);
         if self.kept.until_look == 0 {
             self.kept.until_look = renewal.every();
             renewal.look(self.me.names_left());
         }
-        if self.kept.desk.is_stuck {
-            self.kept.desk.is_stuck = false;
+        if self.kept.workspace.wants_renewal {
+            self.kept.workspace.wants_renewal = false;
             renewal.ask();
         }
         // A reply that closes the connection, or lets it in or out, leaves the wake to a later reply.
-        if next == Next::GoOn && renewal.is_due(self.around.clock) {
+        if next == Next::GoOn && renewal.is_due(self.context.clock) {
             return Next::WakeAll;
         }
         next
@@ -114,41 +114,47 @@ impl<'a, S: Calls<Blob>, C: Clock, R: Wait> Server<'a, S, C, R, Kept> {
     fn make_place(&mut self, connection: u64) -> Result<(), AllocError>
         ensures same_reference { self.new.me.ghost_name ≡ self.old.me.ghost_name }
         ensures session { self.new.me.now ≡ self.old.me.now }
-        ensures around { self.new.around.now ≡ self.old.around.now }
-        ensures known { (c : ℕ) → known_at self.new.kept.connections.entries c (unknown self.old.around.now.settings.now.password) ≡ known_at self.old.kept.connections.entries c (unknown self.old.around.now.settings.now.password) }
+        ensures context { self.new.context.now ≡ self.old.context.now }
+        ensures known { (c : ℕ) → known_at self.new.kept.connections.entries c (unknown self.old.context.now.settings.now.password) ≡ known_at self.old.kept.connections.entries c (unknown self.old.context.now.settings.now.password) }
     {
-        let passed = self.around.settings.password.is_none();
+        let is_authenticated = self.context.settings.password.is_none();
         let Kept {
             connections,
-            desk,
+            workspace,
             ..
         } = &mut self.kept;
-        make_place(self.around, connections, connection, desk, passed)
+        make_place(
+            self.context,
+            connections,
+            connection,
+            workspace,
+            is_authenticated,
+        )
     }
 
     /// Publishes the statistics, and gives back the memory of a large value.
     fn tell(&mut self)
         ensures same_reference { self.new.me.ghost_name ≡ self.old.me.ghost_name }
         ensures session { self.new.me.now ≡ self.old.me.now }
-        ensures around { self.new.around.now ≡ self.old.around.now }
+        ensures context { self.new.context.now ≡ self.old.context.now }
         ensures connections { self.new.kept.connections.entries ≡ self.old.kept.connections.entries }
     {
-        self.kept.desk.tell(self.around, &self.me.traffic());
-        self.kept.desk.give_back(self.around.alloc);
+        self.kept.workspace.tell(self.context, &self.me.traffic());
+        self.kept.workspace.give_back(self.context.alloc);
     }
 }
 
 impl<'a, S: Calls<Blob>, C: Clock, R: Wait> Service for Server<'a, S, C, R, Kept> {
-    ghost use Rattle.far_server.specs.Services.{lane_of, Acts};
+    ghost use Rattle.far_server.specs.Services.{worker_view, Acts};
 
-    ghost does = { λ s call t. (t.me.ghost_name ≡ s.me.ghost_name) × (t.around.now ≡ s.around.now) × Acts S.limits s.around.now.settings.now.digest_keys s.around.now.settings.now.password s.around.now.settings.now.bounds (lane_of s.around.now.settings.now.password (S.shown s.me.now) s.kept.connections.entries) call (lane_of s.around.now.settings.now.password (S.shown t.me.now) t.kept.connections.entries) };
+    ghost does = { λ s call t. (t.me.ghost_name ≡ s.me.ghost_name) × (t.context.now ≡ s.context.now) × Acts S.limits s.context.now.settings.now.digest_keys s.context.now.settings.now.password s.context.now.settings.now.bounds (worker_view s.context.now.settings.now.password (S.shown s.me.now) s.kept.connections.entries) call (worker_view s.context.now.settings.now.password (S.shown t.me.now) t.kept.connections.entries) };
 
     fn open(&mut self, connection: u64, _address: &[u8]) -> Result<bool, AllocError> {
         // If there is no memory for its place, its first request is refused, and the connection is closed
         // then.
         let _ = self.make_place(connection);
         self.tell();
-        Ok(self.around.settings.password.is_none())
+        Ok(self.context.settings.password.is_none())
     }
 
     fn answer(
@@ -159,16 +165,16 @@ impl<'a, S: Calls<Blob>, C: Clock, R: Wait> Service for Server<'a, S, C, R, Kept
         out: &mut Vec<u8>,
     ) -> Result<Next, AllocError> {
         let request = Arguments { bytes, spans };
-        let around = self.around;
-        let _turn = around
+        let context = self.context;
+        let _turn = context
             .turns
-            .take(around.rt, bytes.len(), around.settings.large);
+            .take(context.rt, bytes.len(), context.settings.large);
         match answer_at(
-            self.around,
+            self.context,
             self.me,
             &mut self.kept.connections,
             connection,
-            &mut self.kept.desk,
+            &mut self.kept.workspace,
             request,
             out,
         ) {
@@ -182,7 +188,7 @@ impl<'a, S: Calls<Blob>, C: Clock, R: Wait> Service for Server<'a, S, C, R, Kept
 
     fn leave(&mut self, connection: u64) -> Result<(), AllocError> {
         if forget(&mut self.kept.connections, connection) {
-            count(&mut self.kept.desk.tally.left);
+            count(&mut self.kept.workspace.statistics.connections_closed);
         }
         self.tell();
         Ok(())
@@ -194,15 +200,15 @@ impl<'a, S: Calls<Blob>, C: Clock, R: Wait> Service for Server<'a, S, C, R, Kept
 
     fn note(&mut self, text: &[u8], reply: &mut Vec<u8>) -> Result<(), AllocError> {
         // If there is no memory for the answer, none is sent.
-        if take_note(self.around.tallies, text, reply).is_err() {
+        if take_note(self.context.shared_statistics, text, reply).is_err() {
             reply.clear();
         }
         Ok(())
     }
 
     fn wake(&mut self) -> Result<Woken, AllocError> {
-        self.me.settle(self.around.rt);
-        if self.around.renewal.leaves() {
+        self.me.settle(self.context.rt);
+        if self.context.renewal.leaves() {
             return Ok(Woken::Leave);
         }
         Ok(Woken::Stay)

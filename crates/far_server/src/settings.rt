@@ -24,7 +24,7 @@ pub struct ServerSettings {
     /// Whether the map's devices keep anything. If not, all objects stay in frames.
     pub is_far: bool,
     /// How many workers there are. Each is a thread, and has a pipe of requests and one of replies.
-    pub lanes: u32,
+    pub workers: u32,
     /// The limits of a request. One beyond them is a protocol error, and ends its connection.
     pub requests: Limits,
     /// The limits of values and replies.

@@ -1,21 +1,21 @@
 //! What a worker of a server keeps from one map to the next.
 
-use crate::ending::WorkerEnd;
 use crate::server::Kept;
-use lanes::{Holds, Wire};
+use crate::worker_end::WorkerEnd;
+use request_loop::{Holds, Wire};
 use std::io::{BufRead, Write};
 use std::marker::Model;
 
 /// A worker that has left a map, and goes on in the next one. Contracts see its packets (`wire`), what the
 /// request loop holds of its connections (`holds`), and what the worker knows of these (`kept`).
 #[derive(Drop)]
-pub(crate) struct LeftLane<I: BufRead + Drop, O: Write + Drop> {
+pub(crate) struct PausedWorker<I: BufRead + Drop, O: Write + Drop> {
     pub(crate) wire: Wire<I, O>,
     pub(crate) holds: Holds,
     pub(crate) kept: Kept,
 }
 
-impl<I: BufRead + Drop, O: Write + Drop> Model for LeftLane<I, O> {
+impl<I: BufRead + Drop, O: Write + Drop> Model for PausedWorker<I, O> {
     ghost use Rattle.far_server.specs.Left.{LeftView, HasStood};
 
     ghost Value = { LeftView I O };
@@ -31,7 +31,7 @@ pub(crate) enum WorkerState<I: BufRead + Drop, O: Write + Drop> {
     /// It has not begun.
     Fresh,
     /// A worker that goes on in the next map.
-    Left(LeftLane<I, O>),
+    Left(PausedWorker<I, O>),
     /// It has ended. The sweep ends with each map, and begins again in the next one.
     Ended(WorkerEnd<I, O>),
 }

@@ -7,17 +7,17 @@ ghost use Rattle.far_server.specs.Queues.{held, waiting};
 ghost use Rattle.far_server.specs.Runs.{IsRequest};
 ghost use Rattle.far_server.specs.Answers.{known, waits_in, IsHeld, MovesOn, AreExecutedEach, IsExecutedOrElse};
 
-use crate::around::{Around, Desk};
 use crate::bound::{TOO_LARGE, may_grow_to};
+use crate::command::run;
 use crate::connection::Connection;
+use crate::context::{ServerContext, Workspace};
+use crate::one_reply::{push_one_failure, push_one_fault, push_one_simple};
 use crate::queue::{Queue, Request};
-use crate::refusing::text_of;
+use crate::refusal::text_of;
 use crate::reserve::{errors_of, has_room_for_short, push_failures};
-use crate::running::run;
-use crate::single::{push_one_failure, push_one_fault, push_one_simple};
-use commands::{Arguments, Command, Fault, Name, Special, read};
+use commands::{Arguments, Command, CommandFault, Name, Special, read};
 use far_blob::Blob;
-use far_map::{Calls, Refusal};
+use far_map::{Calls, MapRefusal};
 use resp::push_count;
 use std::alloc::{AllocError, Global};
 use std::rt::Clock;
@@ -38,17 +38,17 @@ const FULL_QUEUE: &[u8] = b"ERR too many bytes wait for EXEC";
 ///
 /// Any other fault is EXEC's reply to that request. So is a wrong number of arguments that PING itself
 /// refuses, or MSET if it has three words or more. `arguments` counts the command's name too.
-fn spoils(fault: &Fault<'_>, arguments: usize) -> bool {
+fn spoils(fault: &CommandFault<'_>, arguments: usize) -> bool {
     match fault {
-        Fault::Count(Name::Special(Special::Ping)) => false,
-        Fault::Count(Name::Special(Special::MSet)) => arguments < 3,
-        Fault::Unknown(_)
-        | Fault::Refused(_)
-        | Fault::Keys
-        | Fault::Subcommand(_, _)
-        | Fault::Count(_)
-        | Fault::SubcommandCount(_)
-        | Fault::SlowLogCount(_) => true,
+        CommandFault::Count(Name::Special(Special::Ping)) => false,
+        CommandFault::Count(Name::Special(Special::MSet)) => arguments < 3,
+        CommandFault::Unknown(_)
+        | CommandFault::Refused(_)
+        | CommandFault::Keys
+        | CommandFault::Subcommand(_, _)
+        | CommandFault::Count(_)
+        | CommandFault::SubcommandCount(_)
+        | CommandFault::SlowLogCount(_) => true,
         _ => false,
     }
 }
@@ -63,7 +63,7 @@ pub(crate) fn wait(
     most: u32,
     queue: &mut Queue,
     request: Arguments<'_>,
-    asked: Result<Command<'_>, Fault<'_>>,
+    asked: Result<Command<'_>, CommandFault<'_>>,
     reply: &mut Vec<u8>,
 ) -> Result<(), AllocError>
     ensures { OnOk result ((rs : List Token) × (reply.new.items ≡ reply.old.items ++ flat_map token rs) × IsHeld (waiting queue.old) (waiting queue.new) (listed request.entry) rs) }
@@ -82,29 +82,29 @@ pub(crate) fn wait(
         Ok(()) => push_one_simple(reply, b"QUEUED"),
         Err(_) => {
             queue.spoil();
-            push_one_failure(reply, text_of(Refusal::Memory))
+            push_one_failure(reply, text_of(MapRefusal::Memory))
         }
     }
 }
 
 /// Runs a request that waited. `limit` is how many bytes its reply may have.
 fn run_waiting<S: Calls<Blob>, C: Clock, R: Wait>(
-    around: &Around<'_, C, R>,
+    context: &ServerContext<'_, C, R>,
     me: &mut S,
     connection: &mut Connection,
-    desk: &mut Desk,
+    workspace: &mut Workspace,
     request: &Request,
     now: u64,
     limit: usize,
     reply: &mut Vec<u8>,
 ) -> Result<(), AllocError>
-    ensures ran { OnOk result ((rs : List Token) × (reply.new.items ≡ reply.old.items ++ flat_map token rs) × IsRequest S.limits around.now.settings.now.digest_keys around.now.settings.now.bounds.longest_value limit (held request.now) (S.shown me.old) (S.shown me.new) rs) }
+    ensures ran { OnOk result ((rs : List Token) × (reply.new.items ≡ reply.old.items ++ flat_map token rs) × IsRequest S.limits context.now.settings.now.digest_keys context.now.settings.now.bounds.longest_value limit (held request.now) (S.shown me.old) (S.shown me.new) rs) }
     ensures queue { connection.new.queue ≡ connection.old.queue }
 {
     let request = request.arguments();
     let asked = read(request, now);
     run(
-        around, me, connection, desk, request, asked, now, limit, reply,
+        context, me, connection, workspace, request, asked, now, limit, reply,
     )
 }
 
@@ -113,18 +113,18 @@ fn run_waiting<S: Calls<Blob>, C: Clock, R: Wait>(
 /// It stops at the first request before which the reply has no room for one more value, or there is no memory
 /// for a short reply. The reply to that request, and to each one after it, is an error then.
 fn execute<S: Calls<Blob>, C: Clock, R: Wait>(
-    around: &Around<'_, C, R>,
+    context: &ServerContext<'_, C, R>,
     me: &mut S,
     connection: &mut Connection,
-    desk: &mut Desk,
+    workspace: &mut Workspace,
     queue: &Queue,
     now: u64,
     reply: &mut Vec<u8>,
 ) -> Result<(), AllocError>
-    ensures ran { OnOk result ((rs : List Token) × (reply.new.items ≡ reply.old.items ++ flat_map token rs) × ((each : List Token) × AreExecutedEach S.limits around.now.settings.now.digest_keys around.now.settings.now.bounds (waiting queue.now) each (S.shown me.old) (S.shown me.new) × (rs ≡ Count (length (waiting queue.now)) ∷ each))) }
+    ensures ran { OnOk result ((rs : List Token) × (reply.new.items ≡ reply.old.items ++ flat_map token rs) × ((each : List Token) × AreExecutedEach S.limits context.now.settings.now.digest_keys context.now.settings.now.bounds (waiting queue.now) each (S.shown me.old) (S.shown me.new) × (rs ≡ Count (length (waiting queue.now)) ∷ each))) }
     ensures queue { connection.new.queue ≡ connection.old.queue }
 {
-    let bounds = around.settings.bounds;
+    let bounds = context.settings.bounds;
     let limit = bounds.longest_reply as usize;
     let before = reply.len();
     let requests = queue.requests();
@@ -138,16 +138,16 @@ fn execute<S: Calls<Blob>, C: Clock, R: Wait>(
         if !may_grow_to(limit, used, bounds.longest_value) {
             return push_failures(reply, left, TOO_LARGE);
         }
-        desk.beside = errors_of(left - 1);
-        if !has_room_for_short(desk.beside, reply) {
-            return push_failures(reply, left, text_of(Refusal::Memory));
+        workspace.beside = errors_of(left - 1);
+        if !has_room_for_short(workspace.beside, reply) {
+            return push_failures(reply, left, text_of(MapRefusal::Memory));
         }
         let request = &requests[at];
         match run_waiting(
-            around,
+            context,
             me,
             connection,
-            desk,
+            workspace,
             request,
             now,
             limit - used,
@@ -163,14 +163,14 @@ fn execute<S: Calls<Blob>, C: Clock, R: Wait>(
 /// Answers EXEC, after which nothing waits any more. First it makes room for an error of each request. If
 /// memory is refused for that, EXEC is refused as a whole.
 pub(crate) fn answer_exec<S: Calls<Blob>, C: Clock, R: Wait>(
-    around: &Around<'_, C, R>,
+    context: &ServerContext<'_, C, R>,
     me: &mut S,
     connection: &mut Connection,
-    desk: &mut Desk,
+    workspace: &mut Workspace,
     now: u64,
     reply: &mut Vec<u8>,
 ) -> Result<(), AllocError>
-    ensures { OnOk result ((rs : List Token) × (reply.new.items ≡ reply.old.items ++ flat_map token rs) × IsExecutedOrElse S.limits around.now.settings.now.digest_keys around.now.settings.now.bounds (known connection.old) (known connection.new) (S.shown me.old) (S.shown me.new) rs) }
+    ensures { OnOk result ((rs : List Token) × (reply.new.items ≡ reply.old.items ++ flat_map token rs) × IsExecutedOrElse S.limits context.now.settings.now.digest_keys context.now.settings.now.bounds (known connection.old) (known connection.new) (S.shown me.old) (S.shown me.new) rs) }
 {
     match connection.queue.take() {
         None => push_one_failure(reply, NO_MULTI_BEFORE_EXEC),
@@ -179,10 +179,10 @@ pub(crate) fn answer_exec<S: Calls<Blob>, C: Clock, R: Wait>(
                 return push_one_failure(reply, SPOILT);
             }
             if !has_room_for_short(errors_of(queue.requests().len()), reply) {
-                return push_one_failure(reply, text_of(Refusal::Memory));
+                return push_one_failure(reply, text_of(MapRefusal::Memory));
             }
-            let done = execute(around, me, connection, desk, &queue, now, reply);
-            desk.beside = 0;
+            let done = execute(context, me, connection, workspace, &queue, now, reply);
+            workspace.beside = 0;
             done
         }
     }
@@ -196,7 +196,7 @@ pub(crate) fn answer_multi(
 ) -> Result<(), AllocError>
     ensures said { OnOk result ((rs : List Token) × (reply.new.items ≡ reply.old.items ++ flat_map token rs)) }
     ensures waits { MovesOn (waits_in connection.old.queue) (waits_in connection.new.queue) }
-    ensures passed { connection.new.passed ≡ connection.old.passed }
+    ensures is_authenticated { connection.new.is_authenticated ≡ connection.old.is_authenticated }
 {
     if connection.queue.is_some() {
         return push_one_failure(reply, NESTED);
@@ -212,7 +212,7 @@ pub(crate) fn answer_discard(
 ) -> Result<(), AllocError>
     ensures said { OnOk result ((rs : List Token) × (reply.new.items ≡ reply.old.items ++ flat_map token rs)) }
     ensures waits { MovesOn (waits_in connection.old.queue) (waits_in connection.new.queue) }
-    ensures passed { connection.new.passed ≡ connection.old.passed }
+    ensures is_authenticated { connection.new.is_authenticated ≡ connection.old.is_authenticated }
 {
     match connection.queue.take() {
         None => push_one_failure(reply, NO_MULTI_BEFORE_DISCARD),

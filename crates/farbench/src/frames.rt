@@ -2,7 +2,7 @@
 ghost use Rattle.std.specs.Prelude.{◌≡◌, ◌≤◌, false};
 ghost use Rattle.version_words.specs.Rows.{limits_of};
 
-use crate::timing::{HEAD, MOST_THREADS, Runner, rows};
+use crate::stopwatch::{HEAD, MOST_THREADS, Runner, rows};
 use crate::words::Unvouched;
 use anyhow::{Result, bail};
 use far_object::Object;

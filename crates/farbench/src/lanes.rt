@@ -3,7 +3,7 @@ ghost use Rattle.std.specs.Prelude.{◌≡◌, ◌<◌, false, IfOk};
 ghost use Rattle.table_core.specs.Logs.{contents};
 ghost use Rattle.version_words.specs.Rows.{limits_of};
 
-use crate::timing::{HEAD, Runner, Span, alone, print};
+use crate::stopwatch::{HEAD, Runner, Span, alone, print};
 use crate::words::Unvouched;
 use anyhow::{Result, bail};
 use far_device::FakeDevice;

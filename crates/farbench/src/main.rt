@@ -1,14 +1,14 @@
 //! Benchmarks, one subcommand for each layer. Without arguments it prints its usage alone.
 #![tactic(auto)]
 
-mod evicting;
+mod eviction;
 mod frames;
 mod lanes;
 mod many;
-mod mixed;
+mod mix;
 mod plain;
+mod stopwatch;
 mod table;
-mod timing;
 mod words;
 
 use anyhow::{Result, bail};
@@ -54,12 +54,12 @@ where
         ("frames", Some(rounds), None) => frames::measure(rt, count, rounds),
         ("lanes", None, None) => lanes::measure(rt, count),
         ("table", Some(rounds), None) => table::measure(rt, count, rounds),
-        ("evicting", None, None) => evicting::measure(rt, count),
+        ("evicting", None, None) => eviction::measure(rt, count),
         ("many", Some(rounds), None) => many::measure(rt, host, count, rounds),
         ("plain", None, None) => plain::run(rt, count),
         ("mixed", Some(buckets), Some(frames)) => {
             let folder = folder.as_ref().map(|name| name.as_str());
-            mixed::measure(rt, host, count, buckets, frames, folder)
+            mix::measure(rt, host, count, buckets, frames, folder)
         }
         _ => bail!("no such benchmark: without arguments their usage is printed"),
     }

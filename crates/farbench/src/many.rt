@@ -1,6 +1,6 @@
 //! Gets of several keys at once, beside as many single ones, with a frame and a key for each bucket.
 
-use crate::timing::{HEAD, Runner, alone, print, vec_from_fn};
+use crate::stopwatch::{HEAD, Runner, alone, print, vec_from_fn};
 use anyhow::{Result, bail};
 use far_device::FakeDevice;
 use far_map::{Calls, Settings, Work, run_apart};

@@ -5,7 +5,7 @@ ghost use Rattle.hash_table.specs.Configs.{sizes_of};
 
 mod own;
 
-use crate::timing::{HEAD, MOST_THREADS, alone, print, rows, vec_from_fn};
+use crate::stopwatch::{HEAD, MOST_THREADS, alone, print, rows, vec_from_fn};
 use anyhow::{Result, bail};
 use far_device::FakeDevice;
 use far_object::Text;

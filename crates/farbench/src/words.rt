@@ -4,7 +4,7 @@ ghost use Rattle.version_words.specs.Rows.{limits_of};
 
 mod caller;
 
-use crate::timing::{HEAD, rows};
+use crate::stopwatch::{HEAD, rows};
 use anyhow::Result;
 use caller::{Call, Caller, Row};
 use far_object::Object;

@@ -8,7 +8,7 @@ use thiserror::Error;
 
 /// Why the program ends early. Its text is the line on standard error.
 #[derive(Clone, Copy, Debug, PartialEq, Eq, Error)]
-pub enum Fault {
+pub enum FarrunFault {
     /// The words are no three numbers and 1 to 64 files; there are more than 64 folders; or there is no pair of pipes for each
     /// lane, or a folder beside them.
     #[error("usage: farrun [--far DIR | --far-resp-in PIPE --far-resp-out PIPE]... [--lanes N] BUCKETS FRAMES LIMIT FILE...")]
@@ -25,22 +25,22 @@ pub enum Fault {
 }
 
 /// A growth was refused.
-pub const MEMORY: Fault = Fault::Program(ProgramFault::Run(RunFault::Memory));
+pub const MEMORY: FarrunFault = FarrunFault::Program(ProgramFault::Run(RunFault::Memory));
 
 /// A write of the output failed.
-pub const WRITE: Fault = Fault::Program(ProgramFault::Run(RunFault::Write));
+pub const WRITE: FarrunFault = FarrunFault::Program(ProgramFault::Run(RunFault::Write));
 
-impl Fault {
+impl FarrunFault {
     /// The status that the program ends with: 2 for wrong arguments, folders, pipes, settings and command files, and 1 for what the
     /// system refused.
     pub fn status(self) -> u8
         ensures { result ≡ status_of self }
     {
         match self {
-            Fault::Usage => 2,
-            Fault::Folder(FolderFault::CannotOpen(_)) | Fault::Store(_) => 2,
-            Fault::Folder(FolderFault::Memory) => 1,
-            Fault::Program(fault) => fault.status(),
+            FarrunFault::Usage => 2,
+            FarrunFault::Folder(FolderFault::CannotOpen(_)) | FarrunFault::Store(_) => 2,
+            FarrunFault::Folder(FolderFault::Memory) => 1,
+            FarrunFault::Program(fault) => fault.status(),
         }
     }
 }

@@ -2,17 +2,17 @@
 //! table that threads share, over devices of one's choice, and prints the replies and the contents.
 #![tactic(auto)]
 
-mod asked;
+mod command_line;
 mod fault;
-mod running;
+mod run;
 mod stores;
 
-use asked::{Asked, command};
 use clap::error::ErrorKind;
 use clap::{ArgMatches, Error};
+use command_line::{CommandLine, command};
 use far_driver::{ProgramFault, read_words};
-use fault::{Fault, MEMORY, WRITE};
-use running::run_asked;
+use fault::{FarrunFault, MEMORY, WRITE};
+use run::run_asked;
 use std::env::Env;
 use std::io;
 use std::io::BufWriter;
@@ -22,11 +22,11 @@ use std::sync::Wait;
 use std::thread::Threads;
 
 /// Runs what these say.
-fn run_matches<R>(rt: &R, host: HostRuntime, matches: &ArgMatches<'_>) -> Result<(), Fault>
+fn run_matches<R>(rt: &R, host: HostRuntime, matches: &ArgMatches<'_>) -> Result<(), FarrunFault>
 where
     R: Files + Input + AllocGlobal + Print + Threads + Wait + Sync,
 {
-    let Ok(asked) = Asked::of(rt.alloc(), matches) else {
+    let Ok(asked) = CommandLine::of(rt.alloc(), matches) else {
         return Err(MEMORY);
     };
     let Ok(mut out) = BufWriter::new(rt.alloc(), io::writer(rt)) else {
@@ -36,7 +36,7 @@ where
 }
 
 /// Prints why these are no words of the program, or its help, and gives the status.
-fn tell<R: Print + Eprint>(rt: &R, error: &Error) -> Result<u8, Fault> {
+fn tell<R: Print + Eprint>(rt: &R, error: &Error) -> Result<u8, FarrunFault> {
     if error.kind() == ErrorKind::OutOfMemory {
         return Err(MEMORY);
     }
@@ -48,14 +48,14 @@ fn tell<R: Print + Eprint>(rt: &R, error: &Error) -> Result<u8, Fault> {
 }
 
 /// Runs what the program's words say, and gives the status.
-fn run<R>(rt: &R, host: HostRuntime) -> Result<u8, Fault>
+fn run<R>(rt: &R, host: HostRuntime) -> Result<u8, FarrunFault>
 where
     R: Env + Files + Input + AllocGlobal + Print + Eprint + Threads + Wait + Sync,
 {
     let words = match read_words(rt) {
         Ok(words) => words,
-        Err(ProgramFault::Usage) => return Err(Fault::Usage),
-        Err(fault) => return Err(Fault::Program(fault)),
+        Err(ProgramFault::Usage) => return Err(FarrunFault::Usage),
+        Err(fault) => return Err(FarrunFault::Program(fault)),
     };
     let Ok(command) = command(rt.alloc()) else {
         return Err(MEMORY);

@@ -1,6 +1,6 @@
 //! Devices over pipes to stores.
 
-use resp_device::{OpenFault, Pipes, RespDevice};
+use resp_device::{Pipes, RespDevice, StoreOpenFault};
 use std::fs::File;
 
 /// The greatest number of a lane.
@@ -21,8 +21,8 @@ pub fn open_stores(
                     return Err(None);
                 }
             }
-            Err(OpenFault::Memory) => return Err(None),
-            Err(OpenFault::Io(_)) => return Err(Some(lane.saturating_add(1))),
+            Err(StoreOpenFault::Memory) => return Err(None),
+            Err(StoreOpenFault::Io(_)) => return Err(Some(lane.saturating_add(1))),
         }
     }
     Ok(devices)

@@ -8,11 +8,11 @@ use Rattle.file_device.specs.declared.disk.Disk.{Ghosts}
 use Rattle.std.proofs.MapsCrossing as maps
 use Rattle.file_device.proofs.Sent.{device_send}
 use Rattle.resp_device.proofs.Sent as resp
-use Rattle.farserve.specs.contracts.counted.CountedDevice as CountedDevice
+use Rattle.farserve.specs.contracts.counted_device.CountedDevice as CountedDevice
 use Rattle.farserve.specs.contracts.link.Link as Link
 use Rattle.farserve.specs.contracts.link.Ends as Ends
 use Rattle.farserve.specs.contracts.rest.Rest as Rest
-use Rattle.farserve.specs.contracts.resting.RestingStore as RestingStore
+use Rattle.farserve.specs.contracts.resting_store.RestingStore as RestingStore
 use Rattle.farserve.specs.contracts.stores.StoreDevice as StoreDevice
 
 pub counted_send : (κ : NamedLft) (K : RattleType) (g : Ghosts K.Denot) → IsSend K → IsSend (CountedDevice.the_row κ K g)

@@ -1,8 +1,8 @@
 //! Opens the devices of a server without a far store: over scratch files in folders, or over nothing.
 
-use crate::bounded::BoundedDisk;
-use crate::counted::CountedDevice;
-use crate::fault::Fault;
+use crate::bounded_disk::BoundedDisk;
+use crate::counted_device::CountedDevice;
+use crate::fault::FarserveFault;
 use far_server::FarUsage;
 use file_device::{DiskFault, FileDevice, FileDisk, MemoryDisk};
 use std::fs::File;
@@ -13,11 +13,11 @@ use std::rt::Files;
 /// The most devices besides the one for renewals, unless there are more folders.
 pub const DEVICES: u32 = 4;
 
-/// Random keys for a device's digests. `Fault::Random` is returned if the system gives no random bytes.
-pub fn keys_of<'f, R: RandomSource>(rt: &R) -> Result<RandomState, Fault<'f>> {
+/// Random keys for a device's digests. `FarserveFault::Random` is returned if the system gives no random bytes.
+pub fn keys_of<'f, R: RandomSource>(rt: &R) -> Result<RandomState, FarserveFault<'f>> {
     match RandomState::new(rt) {
         Ok(keys) => Ok(keys),
-        Err(fault) => Err(Fault::Random(fault)),
+        Err(fault) => Err(FarserveFault::Random(fault)),
     }
 }
 
@@ -43,15 +43,15 @@ where
 /// bytes, each an equal part. The last device of the list is one more, for renewals: it may keep `most` bytes
 /// again while a map is renewed. If there is no folder, the list is empty.
 ///
-/// `Fault::Folder` is returned for a folder that can't be used, or whose path is empty. `Fault::Random` is
-/// returned if the system gives no random bytes, and `Fault::Memory` if an allocation fails.
+/// `FarserveFault::Folder` is returned for a folder that can't be used, or whose path is empty. `FarserveFault::Random` is
+/// returned if the system gives no random bytes, and `FarserveFault::Memory` if an allocation fails.
 pub fn open_far<'a, 'b, R>(
     rt: R,
     folders: &[&'a str],
     count: u32,
     most: u64,
     usage: &'b FarUsage,
-) -> Result<Vec<CountedDevice<'b, BoundedDisk<FileDisk<R>>>>, Fault<'a>>
+) -> Result<Vec<CountedDevice<'b, BoundedDisk<FileDisk<R>>>>, FarserveFault<'a>>
 where
     R: Files<File = File> + AllocGlobal + RandomSource + Copy + Drop,
 {
@@ -62,7 +62,7 @@ where
             return Ok(devices);
         };
         if folder.is_empty() {
-            return Err(Fault::Folder(folder));
+            return Err(FarserveFault::Folder(folder));
         }
         let share = if lane < count {
             most / u64::from(count)
@@ -72,11 +72,11 @@ where
         match open(rt, folder, lane, share, keys_of(&rt)?, usage) {
             Ok(device) => {
                 if devices.push(device).is_err() {
-                    return Err(Fault::Memory);
+                    return Err(FarserveFault::Memory);
                 }
             }
-            Err(DiskFault::Memory) => return Err(Fault::Memory),
-            Err(DiskFault::Io(_, _)) => return Err(Fault::Folder(folder)),
+            Err(DiskFault::Memory) => return Err(FarserveFault::Memory),
+            Err(DiskFault::Io(_, _)) => return Err(FarserveFault::Folder(folder)),
         }
     }
     Ok(devices)
@@ -86,7 +86,7 @@ where
 fn open_one_of_none<'a, 'f, R>(
     rt: &R,
     usage: &'a FarUsage,
-) -> Result<CountedDevice<'a, BoundedDisk<MemoryDisk>>, Fault<'f>>
+) -> Result<CountedDevice<'a, BoundedDisk<MemoryDisk>>, FarserveFault<'f>>
 where
     R: AllocGlobal + RandomSource,
 {
@@ -96,18 +96,18 @@ where
 }
 
 /// Opens the devices of a server that keeps all objects in frames. Both refuse to keep anything; the second
-/// one is for renewals. The faults are those of `open_far`, except `Fault::Folder`.
+/// one is for renewals. The faults are those of `open_far`, except `FarserveFault::Folder`.
 pub fn open_none<'a, 'f, R>(
     rt: &R,
     usage: &'a FarUsage,
-) -> Result<Vec<CountedDevice<'a, BoundedDisk<MemoryDisk>>>, Fault<'f>>
+) -> Result<Vec<CountedDevice<'a, BoundedDisk<MemoryDisk>>>, FarserveFault<'f>>
 where
     R: AllocGlobal + RandomSource,
 {
     let mut devices = Vec::new(rt.alloc());
     for _ in 0..2 {
         if devices.push(open_one_of_none(rt, usage)?).is_err() {
-            return Err(Fault::Memory);
+            return Err(FarserveFault::Memory);
         }
     }
     Ok(devices)

@@ -1,13 +1,13 @@
 //! Faults that end the program, and the exit status of each.
 
-use far_map::RunFault;
-use far_server::LaneEnd;
+use far_map::MapFault;
+use far_server::ServeFault;
 use std::fmt::{Display, Formatter};
 use std::{fmt, io};
 
 /// Why the program ends early. Its text is the line on standard error.
 #[derive(Drop, Debug)]
-pub enum Fault<'a> {
+pub enum FarserveFault<'a> {
     /// The text of this option is no size within these bounds: the least and the most, in bytes.
     Size(&'static str, &'a str, u64, u64),
     /// The text of `--names` is no number within these bounds.
@@ -46,74 +46,77 @@ pub enum Fault<'a> {
     /// The gateway's arguments could not be written to standard output.
     Write,
     /// The map could not be run, or its devices failed.
-    Run(RunFault),
+    Run(MapFault),
     /// A worker ended before its requests did.
-    Lane(LaneEnd),
+    Worker(ServeFault),
 }
 
-impl Fault<'_> {
+impl FarserveFault<'_> {
     /// The exit status: 1 for what the system refused and for parts that failed, 2 for wrong options, folders
     /// and password files.
     pub fn status(&self) -> u8 {
         match self {
-            Fault::Random(_)
-            | Fault::Memory
-            | Fault::Write
-            | Fault::Links
-            | Fault::Run(_)
-            | Fault::Lane(_) => 1,
+            FarserveFault::Random(_)
+            | FarserveFault::Memory
+            | FarserveFault::Write
+            | FarserveFault::Links
+            | FarserveFault::Run(_)
+            | FarserveFault::Worker(_) => 1,
             _ => 2,
         }
     }
 }
 
-impl Display for Fault<'_> {
+impl Display for FarserveFault<'_> {
     fn fmt<W: fmt::Write>(&self, f: &mut Formatter<W>) -> fmt::Result {
         match self {
-            Fault::Size(option, text, least, most) => write!(
+            FarserveFault::Size(option, text, least, most) => write!(
                 f,
                 "--{option} {text}: no size from {least} to {most} bytes; 64k, 256m and 2g are sizes"
             ),
-            Fault::Names(text, least, most) => {
+            FarserveFault::Names(text, least, most) => {
                 write!(f, "--names {text}: no number from {least} to {most}")
             }
-            Fault::Bind(text) => write!(f, "--bind {text}: no IP address"),
-            Fault::Open(text) => write!(
+            FarserveFault::Bind(text) => write!(f, "--bind {text}: no IP address"),
+            FarserveFault::Open(text) => write!(
                 f,
                 "--bind {text}: others than this machine could get in, so it needs --password-file"
             ),
-            Fault::Unix(text) => write!(f, "--unix {text}: no path of 1 to 107 bytes"),
-            Fault::Little(text, None) => write!(
+            FarserveFault::Unix(text) => write!(f, "--unix {text}: no path of 1 to 107 bytes"),
+            FarserveFault::Little(text, None) => write!(
                 f,
                 "--memory {text}: too little for so many buckets and threads, and for values of --value-limit"
             ),
-            Fault::Little(text, Some(least)) => write!(
+            FarserveFault::Little(text, Some(least)) => write!(
                 f,
                 "--memory {text}: too little for so many buckets and threads, and for values of --value-limit: {least}m would do"
             ),
-            Fault::Pipes => f.write_str("it has no front; bin/farserve starts both"),
-            Fault::Unread(path, fault) => write!(f, "--password-file {path}: {fault}"),
-            Fault::Empty(path) => write!(f, "--password-file {path}: its first line is empty"),
-            Fault::Folder(path) => write!(f, "--far {path}: cannot open"),
-            Fault::Folders => f.write_str("--far: more than 64 folders"),
-            Fault::Store(text) => write!(
+            FarserveFault::Pipes => f.write_str("it has no front; bin/farserve starts both"),
+            FarserveFault::Unread(path, fault) => write!(f, "--password-file {path}: {fault}"),
+            FarserveFault::Empty(path) => write!(
+                f,
+                "--password-file {path}: its first line is empty"
+            ),
+            FarserveFault::Folder(path) => write!(f, "--far {path}: cannot open"),
+            FarserveFault::Folders => f.write_str("--far: more than 64 folders"),
+            FarserveFault::Store(text) => write!(
                 f,
                 "--far-resp {text}: neither HOST:PORT nor the path of a socket"
             ),
-            Fault::Storeless(option) => write!(
+            FarserveFault::Storeless(option) => write!(
                 f,
                 "--{option}: it is of a store, and there is no --far-resp"
             ),
-            Fault::Stored(option) => write!(
+            FarserveFault::Stored(option) => write!(
                 f,
                 "--{option}: it is of folders, and --far-resp takes their place"
             ),
-            Fault::Links => f.write_str("the pipes to the far store can't be opened"),
-            Fault::Random(fault) => write!(f, "the system gives no random bytes: {fault}"),
-            Fault::Memory => f.write_str("memory"),
-            Fault::Write => f.write_str("standard output can't be written"),
-            Fault::Run(fault) => write!(f, "the map could not be run: {fault}"),
-            Fault::Lane(fault) => write!(f, "a lane has ended: {fault}"),
+            FarserveFault::Links => f.write_str("the pipes to the far store can't be opened"),
+            FarserveFault::Random(fault) => write!(f, "the system gives no random bytes: {fault}"),
+            FarserveFault::Memory => f.write_str("memory"),
+            FarserveFault::Write => f.write_str("standard output can't be written"),
+            FarserveFault::Run(fault) => write!(f, "the map could not be run: {fault}"),
+            FarserveFault::Worker(fault) => write!(f, "a lane has ended: {fault}"),
         }
     }
 }

@@ -7,31 +7,31 @@
 
 ghost use Rattle.std.specs.Prelude.{◌≤◌};
 
-mod asked;
-mod bounded;
-mod counted;
+mod bounded_disk;
+mod command_line;
+mod counted_device;
 mod devices;
 mod fault;
 mod link;
+mod memory_plan;
 mod password;
 mod pipes;
 mod rest;
-mod resting;
+mod resting_store;
 mod sizes;
-mod sizing;
 mod stores;
 
 use anyhow::{Result, bail};
-use asked::{Asked, Store, command};
+use command_line::{CommandLine, Store, command};
 use devices::{DEVICES, open_far, open_none};
 use far_device::Device;
 use far_map::Settings;
 use far_server::{Bounds, FarUsage, ServerSettings, WorkerEnd, run_server};
-use fault::Fault;
+use fault::FarserveFault;
+use memory_plan::{Sizes, Tier, divide, least_memory};
 use pipes::NamedPipes;
 use resp::Limits;
 use server_commands::Options;
-use sizing::{Sizes, Tier, divide, least_memory};
 use std::env::Env;
 use std::fs::File;
 use std::io::ErrorKind;
@@ -62,13 +62,13 @@ fn request_for(value: u32) -> u32 {
     value.saturating_mul(2).max(REQUEST)
 }
 
-/// Divides the memory that is asked for. `Fault::Little` is returned if it is too little.
-fn divided<'a>(asked: &Asked<'a>) -> Result<Sizes, Fault<'a>> {
+/// Divides the memory that is asked for. `FarserveFault::Little` is returned if it is too little.
+fn divided<'a>(asked: &CommandLine<'a>) -> Result<Sizes, FarserveFault<'a>> {
     let (buckets, threads, tier) = (asked.buckets, asked.threads, asked.tier());
     let (value, request) = (asked.value_limit, request_for(asked.value_limit));
     match divide(asked.memory, buckets, threads, tier, value, request) {
         Some(sizes) => Ok(sizes),
-        None => Err(Fault::Little(
+        None => Err(FarserveFault::Little(
             asked.memory_text,
             least_memory(buckets, threads, tier, value, request),
         )),
@@ -92,7 +92,7 @@ fn told_limit(limit: u64) -> u64 {
 
 /// The settings of the server.
 fn settings(
-    asked: &Asked<'_>,
+    asked: &CommandLine<'_>,
     sizes: Sizes,
     names: u64,
     password: Option<[u8; 32]>,
@@ -114,7 +114,7 @@ fn settings(
     ServerSettings {
         map,
         is_far: asked.tier() != Tier::Nowhere,
-        lanes: asked.threads,
+        workers: asked.threads,
         requests,
         bounds: Bounds {
             longest_value: value,
@@ -133,17 +133,17 @@ fn settings(
             timeout: u64::from(asked.timeout),
             longest_value: u64::from(value),
             port: u32::from(asked.port),
-            lanes: asked.threads,
+            workers: asked.threads,
         },
     }
 }
 
-/// A random number. `Fault::Random` is returned if the system gives none.
-fn drawn<'a, R: RandomSource>(rt: &R) -> Result<u64, Fault<'a>> {
+/// A random number. `FarserveFault::Random` is returned if the system gives none.
+fn drawn<'a, R: RandomSource>(rt: &R) -> Result<u64, FarserveFault<'a>> {
     let mut bytes = [0; 8];
     match rt.fill_bytes(&mut bytes) {
         Ok(()) => Ok(u64::from_le_bytes(bytes)),
-        Err(fault) => Err(Fault::Random(fault)),
+        Err(fault) => Err(FarserveFault::Random(fault)),
     }
 }
 
@@ -162,8 +162,8 @@ fn tell_links(rt: &impl Print, folder: &str, store: Store<'_>, devices: u32) -> 
 }
 
 /// Writes how many workers there are, and the gateway's arguments.
-fn tell_front(rt: &impl Print, asked: &Asked<'_>, sizes: Sizes) -> io::Result<()> {
-    let (lanes, port, bind, timeout) = (asked.threads, asked.port, asked.bind, asked.timeout);
+fn tell_front(rt: &impl Print, asked: &CommandLine<'_>, sizes: Sizes) -> io::Result<()> {
+    let (workers, port, bind, timeout) = (asked.threads, asked.port, asked.bind, asked.timeout);
     let (auth_timeout, clients) = (asked.auth_timeout, asked.most_clients);
     let (memory, reply) = (sizes.clients, sizes.reply);
     print!(rt; "{lanes}\0--port\0{port}\0--bind\0{bind}\0--timeout\0{timeout}\0")?;
@@ -182,7 +182,7 @@ fn tell_front(rt: &impl Print, asked: &Asked<'_>, sizes: Sizes) -> io::Result<()
 }
 
 /// Writes to standard error what was chosen.
-fn tell_log(rt: &impl Eprint, asked: &Asked<'_>, sizes: Sizes) -> io::Result<()> {
+fn tell_log(rt: &impl Eprint, asked: &CommandLine<'_>, sizes: Sizes) -> io::Result<()> {
     let (memory, threads, value) = (asked.memory, asked.threads, asked.value_limit);
     let (buckets, bytes) = (sizes.buckets, sizes.bytes);
     eprint!(rt;
@@ -216,34 +216,38 @@ fn warn_of_names(rt: &impl Eprint, names: u64, buckets: u32) -> io::Result<()> {
     Ok(())
 }
 
-/// Writes what was chosen, and the gateway's arguments. `Fault::Write` is returned if the arguments can't be
+/// Writes what was chosen, and the gateway's arguments. `FarserveFault::Write` is returned if the arguments can't be
 /// written.
-fn tell<'a, R: Print + Eprint>(rt: &R, asked: &Asked<'a>, sizes: Sizes) -> Result<(), Fault<'a>> {
+fn tell<'a, R: Print + Eprint>(
+    rt: &R,
+    asked: &CommandLine<'a>,
+    sizes: Sizes,
+) -> Result<(), FarserveFault<'a>> {
     let _ = tell_log(rt, asked, sizes);
     match tell_front(rt, asked, sizes) {
         Ok(()) => Ok(()),
-        Err(_) => Err(Fault::Write),
+        Err(_) => Err(FarserveFault::Write),
     }
 }
 
 /// Serves over these devices until the gateway has ended. The last device is for renewals.
 ///
-/// `Fault::Run` is returned if the map can't be run or its devices fail, and `Fault::Lane` if a worker ends
-/// before its requests do. `Fault::Memory` is returned if there is no device.
+/// `FarserveFault::Run` is returned if the map can't be run or its devices fail, and `FarserveFault::Worker` if a worker ends
+/// before its requests do. `FarserveFault::Memory` is returned if there is no device.
 fn serve_over<'a, D, R>(
     rt: &R,
     host: HostRuntime,
-    asked: &Asked<'a>,
+    asked: &CommandLine<'a>,
     settings: ServerSettings,
     mut devices: Vec<D>,
     usage: &FarUsage,
-) -> Result<(), Fault<'a>>
+) -> Result<(), FarserveFault<'a>>
 where
     D: Device + Send,
     R: AllocGlobal + Threads + Wait + Sync,
 {
     let Some(spool) = devices.pop() else {
-        return Err(Fault::Memory);
+        return Err(FarserveFault::Memory);
     };
     let pipes = NamedPipes {
         rt: host,
@@ -260,18 +264,18 @@ where
         &host,
     ) {
         Ok(ends) => ends,
-        Err(fault) => return Err(Fault::Run(fault)),
+        Err(fault) => return Err(FarserveFault::Run(fault)),
     };
     for end in ends {
-        if let WorkerEnd::Lane(Err(fault)) = end {
-            return Err(Fault::Lane(fault));
+        if let WorkerEnd::Served(Err(fault)) = end {
+            return Err(FarserveFault::Worker(fault));
         }
     }
     Ok(())
 }
 
 /// Serves what the options ask for, until the gateway has ended.
-fn serve<'a, R>(rt: &R, host: HostRuntime, asked: &Asked<'a>) -> Result<(), Fault<'a>>
+fn serve<'a, R>(rt: &R, host: HostRuntime, asked: &CommandLine<'a>) -> Result<(), FarserveFault<'a>>
 where
     R: Files<File = File> + AllocGlobal + Print + Eprint + Threads + Wait + Sync,
 {
@@ -326,7 +330,7 @@ where
             return Ok(if error.exit_code() == 0 { 0 } else { 2 });
         }
     };
-    let served = match Asked::of(rt.alloc(), &matches) {
+    let served = match CommandLine::of(rt.alloc(), &matches) {
         Ok(asked) => serve(rt, host, &asked),
         Err(fault) => Err(fault),
     };

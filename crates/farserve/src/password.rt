@@ -1,6 +1,6 @@
 //! Reads the password file. Only the password's digest is kept.
 
-use crate::fault::Fault;
+use crate::fault::FarserveFault;
 use sha2::{Digest, Sha256};
 use std::alloc::Global;
 use std::fs::File;
@@ -33,19 +33,19 @@ fn first_line(bytes: &[u8]) -> &[u8] {
 
 /// The SHA-256 digest of the password, which is the first line of this file.
 ///
-/// `Fault::Unread` is returned if the file can't be read, and `Fault::Empty` if its first line is empty.
+/// `FarserveFault::Unread` is returned if the file can't be read, and `FarserveFault::Empty` if its first line is empty.
 pub fn digest_of<'a, R: Files<File = File>>(
     rt: &R,
     alloc: Global,
     path: &'a str,
-) -> Result<[u8; 32], Fault<'a>> {
+) -> Result<[u8; 32], FarserveFault<'a>> {
     let bytes = match read_front(rt, alloc, path) {
         Ok(bytes) => bytes,
-        Err(fault) => return Err(Fault::Unread(path, fault)),
+        Err(fault) => return Err(FarserveFault::Unread(path, fault)),
     };
     let line = first_line(bytes.as_slice());
     if line.is_empty() {
-        return Err(Fault::Empty(path));
+        return Err(FarserveFault::Empty(path));
     }
     Ok(Sha256::digest(line))
 }

@@ -3,13 +3,13 @@ ghost use Rattle.std.specs.Prelude.{◌≡◌, false};
 ghost use Rattle.resp_device.specs.Devices.{state_in};
 
 use crate::devices::keys_of;
-use crate::fault::Fault;
+use crate::fault::FarserveFault;
 use crate::link::Link;
 use crate::pipes::open_pair;
-use crate::resting::RestingStore;
+use crate::resting_store::RestingStore;
 use far_device::{Device, DeviceFault};
 use far_server::FarUsage;
-use resp_device::{Failure, RespDevice};
+use resp_device::{RespDevice, StoreFailure};
 use std::alloc::Global;
 use std::collections::HashSet;
 use std::fs::File;
@@ -61,7 +61,7 @@ impl<'a> StoreDevice<'a> {
     }
 
     /// Why the last call that failed did so. None if no call has failed.
-    pub fn last_failure(&self) -> Option<Failure> {
+    pub fn last_failure(&self) -> Option<StoreFailure> {
         self.inner.last_failure()
     }
 
@@ -105,7 +105,9 @@ impl Device for StoreDevice<'_> {
         let before = self.told();
         self.join();
         let result = self.inner.read(id, out);
-        if result == Err(DeviceFault::Failed) && self.inner.last_failure() == Some(Failure::Lost) {
+        if result == Err(DeviceFault::Failed)
+            && self.inner.last_failure() == Some(StoreFailure::Lost)
+        {
             let _ = self.lost.insert(id);
         }
         self.tell(before);
@@ -131,14 +133,14 @@ impl Device for StoreDevice<'_> {
 /// Opens `count` devices, 64 at most, over links to the store. Waits until the gateway has opened their pipes
 /// in this folder.
 ///
-/// `Fault::Links` is returned if a pipe can't be opened, `Fault::Random` if the system gives no random bytes,
-/// and `Fault::Memory` if an allocation fails.
+/// `FarserveFault::Links` is returned if a pipe can't be opened, `FarserveFault::Random` if the system gives no random bytes,
+/// and `FarserveFault::Memory` if an allocation fails.
 pub fn open_stores<'a, 'b, R>(
     rt: R,
     folder: &str,
     count: u32,
     usage: &'b FarUsage,
-) -> Result<Vec<RestingStore<'b, R>>, Fault<'a>>
+) -> Result<Vec<RestingStore<'b, R>>, FarserveFault<'a>>
 where
     R: Files<File = File> + AllocGlobal + RandomSource + Clock + Copy + Drop,
 {
@@ -149,16 +151,16 @@ where
             format!(in alloc; "{folder}/far-replies{lane}"),
             format!(in alloc; "{folder}/far-requests{lane}"),
         ) else {
-            return Err(Fault::Memory);
+            return Err(FarserveFault::Memory);
         };
         let Ok((replies, requests)) = open_pair(&rt, alloc, replies.as_str(), requests.as_str())
         else {
-            return Err(Fault::Links);
+            return Err(FarserveFault::Links);
         };
         let keys = keys_of(&rt)?;
         let mut prefix = [0; 16];
         if let Err(fault) = rt.fill_bytes(&mut prefix) {
-            return Err(Fault::Random(fault));
+            return Err(FarserveFault::Random(fault));
         }
         let Ok(device) = RespDevice::new(
             alloc,
@@ -167,11 +169,11 @@ where
             lane as u8,
             keys,
         ) else {
-            return Err(Fault::Memory);
+            return Err(FarserveFault::Memory);
         };
         let device = StoreDevice::new(alloc, device, usage);
         if devices.push(RestingStore::new(device, rt, usage)).is_err() {
-            return Err(Fault::Memory);
+            return Err(FarserveFault::Memory);
         }
     }
     Ok(devices)

@@ -39,7 +39,7 @@ use crate::class::{CLASSES, LONGEST, class_of};
 use crate::digest::are_alike;
 use crate::failures::Failures;
 use crate::place::Place;
-use crate::{Disk, Failure, Slot};
+use crate::{Disk, FileFailure, Slot};
 use far_device::{Device, DeviceFault};
 use std::alloc::{AllocError, Global};
 use std::hash::RandomState;
@@ -88,7 +88,7 @@ impl<K: Disk> FileDevice<K> {
     }
 
     /// Why a call returned `Failed` the last time. None if none did.
-    pub fn last_failure(&self) -> Option<Failure> {
+    pub fn last_failure(&self) -> Option<FileFailure> {
         self.failures.last
     }
 
@@ -136,14 +136,14 @@ impl<K: Disk> FileDevice<K> {
             (self.new.catalog.index.entries ≡ self.old.catalog.index.entries) }
     {
         if bytes.len() > LONGEST {
-            return Err(self.failures.add(Failure::TooLong));
+            return Err(self.failures.add(FileFailure::TooLong));
         }
         self.scratch.clear();
         self.scratch.extend_from_slice(bytes)?;
         let class = class_of(bytes.len() as u32);
         let slot = match self.catalog.take(class, id) {
             Ok(Some(slot)) => slot,
-            Ok(None) => return Err(self.failures.add(Failure::NoSlot)),
+            Ok(None) => return Err(self.failures.add(FileFailure::NoSlot)),
             Err(AllocError) => return Err(DeviceFault::Memory),
         };
         if let Err(fault) = self.disk.write_slot(slot, bytes) {
@@ -203,7 +203,7 @@ impl<K: Disk> FileDevice<K> {
         }
         if !are_alike(&self.keys, &out[before..], len, digest) {
             out.truncate(before);
-            return Err(self.failures.add(Failure::Damaged));
+            return Err(self.failures.add(FileFailure::Damaged));
         }
         Ok(())
     }

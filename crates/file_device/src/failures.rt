@@ -2,14 +2,14 @@
 ghost use Rattle.std.specs.Prelude.{◌≡◌, ◌+◌, ◌-◌, ◌^◌, min, Err};
 ghost use Rattle.file_device.specs.Counts.{count_after_fault};
 
-use crate::{DiskFault, Failure};
+use crate::{DiskFault, FileFailure};
 use far_device::DeviceFault;
 
 /// The count of failures, and why it rose last.
 #[derive(Drop)]
 pub(crate) struct Failures {
     pub(crate) count: u64,
-    pub(crate) last: Option<Failure>,
+    pub(crate) last: Option<FileFailure>,
 }
 
 impl Failures {
@@ -23,7 +23,7 @@ impl Failures {
     }
 
     /// Counts a failure. A count of 2^64 - 1 stays.
-    pub(crate) fn add(&mut self, why: Failure) -> DeviceFault
+    pub(crate) fn add(&mut self, why: FileFailure) -> DeviceFault
         ensures failed { result ≡ DeviceFault.Failed }
         ensures counted { self.new.count ≡ min (self.old.count + 1) (2 ^ 64 - 1) }
     {
@@ -38,7 +38,7 @@ impl Failures {
     {
         match fault {
             DiskFault::Memory => DeviceFault::Memory,
-            _ => self.add(Failure::Disk(fault)),
+            _ => self.add(FileFailure::Disk(fault)),
         }
     }
 }

@@ -50,7 +50,7 @@ impl From<AllocError> for DiskFault {
 
 /// Why a call of a `FileDevice` returned `Failed`.
 #[derive(Clone, Copy, Debug, PartialEq, Eq, Error)]
-pub enum Failure {
+pub enum FileFailure {
     /// The object has more than 64 MiB, which is the longest slot.
     #[error("an object is too long")]
     TooLong,

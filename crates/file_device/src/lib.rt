@@ -26,7 +26,7 @@ mod slot;
 pub use class::CLASSES;
 pub use device::FileDevice;
 pub use disk::Disk;
-pub use fault::{DiskFault, Failure, Step};
+pub use fault::{DiskFault, FileFailure, Step};
 pub use folders::{FolderFault, open_lanes};
 pub use memory::MemoryDisk;
 pub use scratch::FileDisk;

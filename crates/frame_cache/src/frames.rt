@@ -27,8 +27,8 @@ ghost use Rattle.frame_cache.specs.Slots.{most_frames, IsOfVersion, IsObjectOf};
 use crate::bits::Bits;
 use crate::fault::Missed;
 use crate::laws::retire;
-use crate::owned::Owned;
-use crate::reserved::Reserved;
+use crate::owned_frame::Owned;
+use crate::reserved_frame::Reserved;
 use crate::scope::Scope;
 use crate::slot::{OWNED, Slot, SlotClaim, read, take, unread, word_of};
 use crate::vacant::Vacant;
@@ -42,7 +42,7 @@ use std::sync::atomic::AtomicU32;
 use table_core::word::{name_of, place_of};
 use version_words::{Naming, Spare};
 
-mod reserving;
+mod reservation;
 
 /// The most frames that there may be: 2^22.
 pub const MOST_FRAMES: u32 = 4_194_304;

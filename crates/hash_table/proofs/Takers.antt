@@ -5,8 +5,8 @@ use Rattle.table_core.specs.declared.event.Event.{Event}
 use Rattle.table_core.specs.declared.limits.Limits.{Limits}
 use Rattle.version_words.specs.Views.{PassView, Goes}
 use Rattle.hash_table.specs.Closes.{Hands, HistoryStays, IsHandFault, pairs_from}
-use Rattle.hash_table.specs.declared.handing.HandFault.{HandFault}
-use Rattle.hash_table.specs.declared.handing.HandFault.TheVariants.{Close, Stopped}
+use Rattle.hash_table.specs.declared.close_through.HandFault.{HandFault}
+use Rattle.hash_table.specs.declared.close_through.HandFault.TheVariants.{Close, Stopped}
 use Rattle.hash_table.proofs.Ends.{Gathered, gathered_none, gathered_next, part}
 
 module _ {K V S : Type 0} (Takes : S → List (K × V) → S → Type 0) where

@@ -11,10 +11,10 @@ use Rattle.table_core.specs.Logs.{history, passes_of}
 use Rattle.table_core.specs.Lawful.{IsLawful}
 use Rattle.version_words.specs.Views.{PassView, Goes, IsWhole, AreNone, AreApart, calls_of}
 use Rattle.hash_table.specs.declared.caller.Caller.{Caller}
-use Rattle.hash_table.specs.declared.closing.CloseFault.{CloseFault}
-use Rattle.hash_table.specs.declared.closing.CloseFault.TheVariants.{PassMissing, Memory, Device, Damaged, Missed}
-use Rattle.hash_table.specs.declared.handing.HandFault.{HandFault}
-use Rattle.hash_table.specs.declared.handing.HandFault.TheVariants.{Close, Stopped}
+use Rattle.hash_table.specs.declared.close.CloseFault.{CloseFault}
+use Rattle.hash_table.specs.declared.close.CloseFault.TheVariants.{PassMissing, Memory, Device, Damaged, Missed}
+use Rattle.hash_table.specs.declared.close_through.HandFault.{HandFault}
+use Rattle.hash_table.specs.declared.close_through.HandFault.TheVariants.{Close, Stopped}
 
 -- a taker has taken some pairs, one bucket behind the other, and this is so of them
 abbrev pub Hands : {K V S : Type 0} → (S → List (K × V) → S → Type 0) → (List (K × V) → Type 0) → S → S → Type 0

@@ -2,8 +2,8 @@
 use Rattle.std.specs.Prelude.{◌≡◌, ℕ, ◌<◌, true, false}
 use Rattle.table_core.specs.BucketWords.{name_of, place_of, empty_place, far_place}
 use Rattle.version_words.specs.Views.{has_object}
-use Rattle.hash_table.specs.declared.telling.BucketState.{BucketState}
-use Rattle.hash_table.specs.declared.telling.BucketState.TheVariants.{Empty, Local, Far}
+use Rattle.hash_table.specs.declared.state.BucketState.{BucketState}
+use Rattle.hash_table.specs.declared.state.BucketState.TheVariants.{Empty, Local, Far}
 
 -- the word's name, and where its contents lie
 abbrev pub IsState : ℕ → BucketState → Type 0

@@ -19,49 +19,49 @@
 //!
 //! # One put, file by file
 //!
-//! 1. `changing.rt` has the public call. It looks at the bucket's word (`stages/seen.rt`).
+//! 1. `changes.rt` has the public call. It looks at the bucket's word (`stages/seen.rt`).
 //! 2. It reads the object under that word (`stages/local.rt`, `stages/far.rt`).
 //! 3. It makes the new object (`stages/build.rt`).
 //! 4. It publishes that under a new name (`stages/publish.rt`).
 //!
-//! Gets take the first two steps (`reading.rt`, `scope.rt`). Moves between frames and devices take all except
-//! the third (`moving.rt`). `telling.rt` only looks. `closing.rt`, `handing.rt` and `draining.rt` end a
+//! Gets take the first two steps (`gets.rt`, `scope.rt`). Moves between frames and devices take all except
+//! the third (`moves.rt`). `state.rt` only looks. `close.rt`, `close_through.rt` and `drain.rt` end a
 //! table; `all_pairs.rt` reads its buckets.
 #![tactic(auto, using(crate::proofs::Fronts::goes_trans))]
 
 mod all_pairs;
 mod caller;
-mod changing;
-mod closing;
+mod changes;
+mod close;
+mod close_through;
 mod config;
-mod draining;
-mod handing;
+mod drain;
+mod gets;
 mod limbo;
-mod moving;
+mod moves;
 mod opening;
-mod prefetching;
-mod reading;
-mod recycling;
+mod prefetch;
+mod recycled_frame;
 mod refusal;
-mod removing;
+mod removal;
 mod round;
 mod scope;
 mod stages;
+mod state;
 mod table;
-mod telling;
 mod traffic;
 
 pub use caller::Caller;
-pub use closing::CloseFault;
+pub use close::CloseFault;
+pub use close_through::{HandFault, Stopped, TakesPairs};
 pub use config::Config;
-pub use draining::Drained;
-pub use handing::{HandFault, Stopped, TakesPairs};
+pub use drain::Drained;
 pub use opening::{Opening, Vouched};
-pub use prefetching::MOST_PREFETCHED;
+pub use prefetch::MOST_PREFETCHED;
 pub use refusal::{OpenFault, ReclaimFault, Refusal};
-pub use removing::Removal;
+pub use removal::Removal;
 pub use round::Round;
 pub use scope::TableScope;
+pub use state::BucketState;
 pub use table::FarTable;
-pub use telling::BucketState;
 pub use traffic::Traffic;

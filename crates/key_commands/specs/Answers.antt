@@ -2,12 +2,12 @@
 use Rattle.std.specs.Prelude.{◌≡◌, ℕ, List, ◌++◌, codes, Option, Some, None}
 use Rattle.std.specs.Fmt.{signed_decimal}
 use Rattle.resp.specs.Replies.{Token, token, Simple, Failure, Number, String, Nothing}
-use Rattle.key_commands.specs.declared.asked.Effect.{Effect}
+use Rattle.key_commands.specs.declared.key_command.Effect.{Effect}
 use Rattle.key_commands.specs.declared.value.Live.{Live}
 use Rattle.key_commands.specs.declared.answer.Line.{Line}
 use Rattle.key_commands.specs.declared.answer.Line.TheVariants as lines
-use Rattle.key_commands.specs.declared.answer.Refusal.{Refusal}
-use Rattle.key_commands.specs.declared.answer.Refusal.TheVariants as refusals
+use Rattle.key_commands.specs.declared.answer.CommandRefusal.{CommandRefusal}
+use Rattle.key_commands.specs.declared.answer.CommandRefusal.TheVariants as refusals
 use Rattle.key_commands.specs.declared.answer.Reply.{Reply}
 use Rattle.key_commands.specs.declared.answer.Reply.TheVariants as answers
 use Rattle.key_commands.specs.declared.answer.Bytes.{Bytes}
@@ -29,7 +29,7 @@ line_text lines.Ok = codes "OK"
 line_text lines.String = codes "string"
 line_text lines.None = codes "none"
 
-abbrev pub refusal_text : Refusal → List ℕ
+abbrev pub refusal_text : CommandRefusal → List ℕ
 refusal_text refusals.TooLong = too_long
 refusal_text refusals.NotWhole = no_whole_number
 refusal_text refusals.Overflow = overflow

@@ -7,8 +7,8 @@ use Rattle.commands.specs.declared.name.OfKey.{OfKey}
 use Rattle.commands.specs.declared.name.OfKey.TheVariants as of_key
 use Rattle.commands.specs.declared.name.OfPair.{OfPair}
 use Rattle.commands.specs.declared.name.OfPair.TheVariants as of_pair
-use Rattle.key_commands.specs.declared.asked.KeyCommand.{KeyCommand}
-use Rattle.key_commands.specs.declared.asked.KeyCommand.TheVariants as ask
+use Rattle.key_commands.specs.declared.key_command.KeyCommand.{KeyCommand}
+use Rattle.key_commands.specs.declared.key_command.KeyCommand.TheVariants as ask
 
 abbrev pub key_command : OfKey → KeyCommand
 key_command of_key.Get = ask.Get

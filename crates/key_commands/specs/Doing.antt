@@ -1,9 +1,9 @@
 -- What each command on a key comes to.
 use Rattle.std.specs.Prelude.{◌≡◌, ℕ, List, Option}
 use Rattle.resp.specs.Replies.{Token}
-use Rattle.key_commands.specs.declared.asked.KeyCommand.{KeyCommand}
-use Rattle.key_commands.specs.declared.asked.KeyCommand.TheVariants as ask
-use Rattle.key_commands.specs.declared.asked.Effect.{Effect}
+use Rattle.key_commands.specs.declared.key_command.KeyCommand.{KeyCommand}
+use Rattle.key_commands.specs.declared.key_command.KeyCommand.TheVariants as ask
+use Rattle.key_commands.specs.declared.key_command.Effect.{Effect}
 use Rattle.key_commands.specs.Values.{Value, live, bytes_of}
 use Rattle.key_commands.specs.Outcomes.{Outcome, IsEffect, replies, number, cleaned}
 use Rattle.key_commands.specs.Reading.{got, presence, size_of, kind, string_of, part, deleted, got_and_deleted}

@@ -3,8 +3,8 @@ use Rattle.std.specs.Prelude.{◌≡◌, ℕ, ℤ, nat_le, if◌then◌else◌, 
 use Rattle.resp.specs.Replies.{Token, Failure, Number}
 use Rattle.commands.specs.Stored.{stored}
 use Rattle.key_commands.specs.Values.{Value}
-use Rattle.key_commands.specs.declared.asked.Effect.{Effect}
-use Rattle.key_commands.specs.declared.asked.Effect.TheVariants as effects
+use Rattle.key_commands.specs.declared.key_command.Effect.{Effect}
+use Rattle.key_commands.specs.declared.key_command.Effect.TheVariants as effects
 
 pub data After : Type 0 where
   Stays : After

@@ -15,7 +15,7 @@ pub(crate) enum Line {
 
 /// Why a command is not done, in Redis's words.
 #[derive(Clone, Copy, Debug)]
-pub(crate) enum Refusal {
+pub(crate) enum CommandRefusal {
     /// The value would be longer than values may be.
     TooLong,
     /// The value is no whole number of 64 bits with a sign.
@@ -35,7 +35,7 @@ pub(crate) enum Reply<'a> {
     Number(i64),
     String(&'a [u8]),
     Line(Line),
-    Failure(Refusal),
+    Failure(CommandRefusal),
 }
 
 /// Bytes that a value is to have.
@@ -79,7 +79,7 @@ impl<'a> Answer<'a> {
         }
     }
 
-    pub(crate) fn fails(refusal: Refusal) -> Answer<'a>
+    pub(crate) fn fails(refusal: CommandRefusal) -> Answer<'a>
         ensures { outcome_of result ≡ fails_lem (refusal_text refusal) }
     {
         Answer {
@@ -119,16 +119,17 @@ impl Line {
     }
 }
 
-impl Refusal {
+impl CommandRefusal {
     pub(crate) fn text(self) -> &'static [u8]
         ensures { result.now ≡ refusal_text self }
     {
         match self {
-            Refusal::TooLong => b"ERR string exceeds maximum allowed size (proto-max-bulk-len)",
-            Refusal::NotWhole => b"ERR value is not an integer or out of range",
-            Refusal::Overflow => b"ERR increment or decrement would overflow",
-            Refusal::NotFloat => b"ERR value is not a valid float",
-            Refusal::NotFinite => b"ERR increment would produce NaN or Infinity",
+            CommandRefusal::TooLong =>
+                b"ERR string exceeds maximum allowed size (proto-max-bulk-len)",
+            CommandRefusal::NotWhole => b"ERR value is not an integer or out of range",
+            CommandRefusal::Overflow => b"ERR increment or decrement would overflow",
+            CommandRefusal::NotFloat => b"ERR value is not a valid float",
+            CommandRefusal::NotFinite => b"ERR increment would produce NaN or Infinity",
         }
     }
 }

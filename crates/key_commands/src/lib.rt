@@ -1,18 +1,18 @@
 //! Commands on one key, as pure functions of the value that the key has.
 #![tactic(auto)]
 
-mod adding;
 mod answer;
-mod applying;
-mod asked;
-mod editing;
-mod floating;
-mod lasting;
-mod performing;
-mod ranging;
-mod reading;
+mod dispatch;
+mod edits;
+mod expiry;
+mod float_increment;
+mod increment;
+mod key_command;
+mod output;
+mod range;
+mod reads;
 mod setting;
 mod value;
 
-pub use applying::{apply, is_blind};
-pub use asked::{Effect, KeyCommand, on_one_key};
+pub use dispatch::{apply, is_blind};
+pub use key_command::{Effect, KeyCommand, on_one_key};

@@ -3,8 +3,8 @@ ghost use Rattle.std.specs.Prelude.{◌≡◌};
 ghost use Rattle.key_commands.specs.Answers.{said, seen, outcome_of};
 ghost use Rattle.key_commands.specs.Setting.{may_set as may_set_lem, deadline_after as deadline_after_lem, set_reply as set_reply_lem, kept_reply as kept_reply_lem, set_to, set_if_absent as set_if_absent_lem, got_and_set};
 
-use crate::answer::{Answer, Bytes, Line, Refusal, Reply};
-use crate::reading::got;
+use crate::answer::{Answer, Bytes, CommandRefusal, Line, Reply};
+use crate::reads::got;
 use crate::value::{Live, deadline_of};
 use commands::{Change, Lifetime, Where};
 
@@ -54,7 +54,7 @@ pub(crate) fn set<'a>(
     ensures { outcome_of result ≡ set_to new.now change most (seen value.entry) }
 {
     if new.len() > most as usize {
-        return Answer::fails(Refusal::TooLong);
+        return Answer::fails(CommandRefusal::TooLong);
     }
     if !may_set(change.to, value) {
         return Answer::replies(kept_reply(change.get, value));
@@ -67,7 +67,7 @@ pub(crate) fn set_if_absent<'a>(new: &'a [u8], most: u32, value: Option<Live<'_>
     ensures { outcome_of result ≡ set_if_absent_lem new.now most (seen value.entry) }
 {
     if new.len() > most as usize {
-        return Answer::fails(Refusal::TooLong);
+        return Answer::fails(CommandRefusal::TooLong);
     }
     match value {
         Some(_) => Answer::replies(Reply::Number(0)),
@@ -79,7 +79,7 @@ pub(crate) fn get_and_set<'a>(new: &'a [u8], most: u32, value: Option<Live<'a>>)
     ensures { outcome_of result ≡ got_and_set new.now most (seen value.entry) }
 {
     if new.len() > most as usize {
-        return Answer::fails(Refusal::TooLong);
+        return Answer::fails(CommandRefusal::TooLong);
     }
     Answer::sets(got(value), 0, Bytes::Given(new))
 }

@@ -9,7 +9,7 @@ use crate::rounds::{Round, make_round};
 use crate::series::{Series, make_series};
 use crate::stage::Stage;
 use crate::visits::{Visit, make_visit};
-use crate::walking::Walk;
+use crate::walk::Walk;
 use case_files::Line;
 use far_map::{Calls, Value};
 use std::alloc::Global;

@@ -3,34 +3,34 @@
 //!
 //! # Where a line is played
 //!
-//! A map hands its sessions to a program of its own (`far_map::Work`, and `Stints` where it is renewed). `stage.rt` is that program:
+//! A map hands its sessions to a program of its own (`far_map::Work`, and `RenewableWork` where it is renewed). `stage.rt` is that program:
 //! each worker walks over the lines of the case, waits until the lines before its own have been played, and plays them
-//! (`walking.rt`, `calls.rt`). What the calls reply is kept, and told in the order of the lines once the run is over (`playing.rt`).
+//! (`walk.rt`, `calls.rt`). What the calls reply is kept, and told in the order of the lines once the run is over (`player.rt`).
 #![tactic(auto)]
 
 mod calls;
 mod changes;
 mod device;
-mod holding;
+mod held_value;
 mod looks;
 mod numbers;
 mod opening;
 mod pairs;
-mod playing;
+mod player;
 mod reads;
 mod renewals;
 mod replies;
 mod rounds;
-mod running;
+mod run;
 mod series;
 mod stage;
 mod taker;
 mod tries;
 mod visits;
-mod walking;
+mod walk;
 mod words;
 
-pub use playing::play;
+pub use player::play;
 
 /// The calls that a case of maps may begin with.
 pub const OPENINGS: &[&str] = &[

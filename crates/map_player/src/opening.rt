@@ -41,10 +41,10 @@ pub struct Opening<'l> {
     pub takes: u32,
     is_broken: bool,
     devices: u32,
-    /// Which write, read or removal of each device fails, and of the device of the handover.
+    /// Which write, read or removal of each device fails, and of the device of the migration.
     fails: u32,
     spool_fails: u32,
-    /// How many reads of the device of the handover are refused for want of memory.
+    /// How many reads of the device of the migration are refused for want of memory.
     spool_short: u32,
     /// What each read gives in place of what was written.
     gives: Option<&'l [u8]>,
@@ -131,7 +131,7 @@ impl<'l> Opening<'l> {
         Ok(devices)
     }
 
-    /// The device of the handover, behind a gate of its own.
+    /// The device of the migration, behind a gate of its own.
     pub fn spool(&self, alloc: Global) -> Result<MapDevice, AllocError> {
         let gate = Arc::new(alloc, Gate::new(false, u64::from(self.spool_short)))?;
         Ok(device(alloc, u64::from(self.spool_fails), None, gate))

@@ -3,9 +3,9 @@
 use crate::looks::fields_said;
 use crate::replies::{Said, Stop};
 use crate::stage::Stage;
-use crate::walking::{Walk, play_lines};
+use crate::walk::{Walk, play_lines};
 use case_files::Line;
-use far_map::{After, Calls, Carried, Stints, Value};
+use far_map::{After, Calls, LoadReport, RenewableWork, Value};
 use std::alloc::{AllocError, Global};
 use std::sync::Wait;
 use std::sync::atomic::{AtomicBool, AtomicU64, Ordering};
@@ -31,12 +31,13 @@ impl Renewal {
         }
     }
 
-    fn keep(&self, carried: &Carried) {
-        self.pairs.store(carried.pairs, Ordering::SeqCst);
-        self.lost_pairs.store(carried.lost_pairs, Ordering::SeqCst);
+    fn keep(&self, load_report: &LoadReport) {
+        self.pairs.store(load_report.pairs, Ordering::SeqCst);
+        self.lost_pairs
+            .store(load_report.lost_pairs, Ordering::SeqCst);
         self.lost_buckets
-            .store(carried.lost_buckets, Ordering::SeqCst);
-        self.far.store(carried.far, Ordering::SeqCst);
+            .store(load_report.lost_buckets, Ordering::SeqCst);
+        self.far.store(load_report.far, Ordering::SeqCst);
         self.is_made.store(true, Ordering::SeqCst);
     }
 
@@ -72,10 +73,10 @@ pub fn renewals_of(alloc: Global, lines: &[Line]) -> Result<Vec<Renewal>, AllocE
     Ok(renewals)
 }
 
-impl<V: Value> Stints<V> for Stage<'_> {
+impl<V: Value> RenewableWork<V> for Stage<'_> {
     type State = Walk;
 
-    fn stint<S: Calls<V>, R: Wait>(
+    fn term<S: Calls<V>, R: Wait>(
         &self,
         rt: &R,
         alloc: Global,
@@ -89,14 +90,14 @@ impl<V: Value> Stints<V> for Stage<'_> {
         walk
     }
 
-    fn begins(&self, carried: Carried) {
+    fn begins(&self, load_report: LoadReport) {
         self.has_begun.store(true, Ordering::SeqCst);
         let before = self.generations.fetch_add(1, Ordering::SeqCst);
         let Some(number) = before.checked_sub(1) else {
             return;
         };
         if let Some(renewal) = self.renewals.get(number as usize) {
-            renewal.keep(&carried);
+            renewal.keep(&load_report);
             self.pass();
         }
     }

@@ -1,6 +1,6 @@
 //! What a call replies, as text, or why it could not be made.
 
-use far_map::{Lack, Refusal};
+use far_map::{Lack, MapRefusal};
 use std::alloc::{AllocError, AllocFailed, Global};
 
 /// The player's own growths are no call's: where one is refused the case can't be played.
@@ -10,13 +10,13 @@ pub const OUT_OF_MEMORY: Stop = Stop::Mistake("out of memory");
 #[derive(Clone, Copy)]
 pub enum Stop {
     /// The map refused it.
-    Refused(Refusal),
+    Refused(MapRefusal),
     /// The line is wrong.
     Mistake(&'static str),
 }
 
-impl From<Refusal> for Stop {
-    fn from(refusal: Refusal) -> Stop {
+impl From<MapRefusal> for Stop {
+    fn from(refusal: MapRefusal) -> Stop {
         Stop::Refused(refusal)
     }
 }
@@ -34,10 +34,10 @@ impl<T: Drop> From<AllocFailed<T>> for Stop {
 }
 
 /// What the player made for itself of a word. A word that is too long is refused as the map refuses it.
-pub fn own<T>(made: Result<T, Refusal>) -> Result<T, Stop> {
+pub fn own<T>(made: Result<T, MapRefusal>) -> Result<T, Stop> {
     match made {
         Ok(made) => Ok(made),
-        Err(Refusal::Memory) => Err(OUT_OF_MEMORY),
+        Err(MapRefusal::Memory) => Err(OUT_OF_MEMORY),
         Err(refusal) => Err(Stop::Refused(refusal)),
     }
 }
@@ -46,15 +46,15 @@ pub fn own<T>(made: Result<T, Refusal>) -> Result<T, Stop> {
 pub type Said = Result<String, Stop>;
 
 /// The text of a refusal.
-pub fn refusal_text(refusal: Refusal) -> &'static str {
+pub fn refusal_text(refusal: MapRefusal) -> &'static str {
     match refusal {
-        Refusal::TooLong => "too long",
-        Refusal::Full(Lack::Frame) => "full frame",
-        Refusal::Full(Lack::Spare) => "full spare",
-        Refusal::NamesSpent => "names spent",
-        Refusal::Device => "device",
-        Refusal::Damaged => "damaged",
-        Refusal::Memory => "memory",
+        MapRefusal::TooLong => "too long",
+        MapRefusal::Full(Lack::Frame) => "full frame",
+        MapRefusal::Full(Lack::Spare) => "full spare",
+        MapRefusal::NamesSpent => "names spent",
+        MapRefusal::Device => "device",
+        MapRefusal::Damaged => "damaged",
+        MapRefusal::Memory => "memory",
     }
 }
 
@@ -87,5 +87,5 @@ pub fn told(alloc: Global, said: Said) -> anyhow::Result<String> {
 
 /// Whether a growth was refused.
 pub fn is_memory(said: &Said) -> bool {
-    matches!(said, Err(Stop::Refused(Refusal::Memory)))
+    matches!(said, Err(Stop::Refused(MapRefusal::Memory)))
 }

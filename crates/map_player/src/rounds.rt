@@ -4,10 +4,10 @@ use crate::changes::one_more;
 use crate::replies::{OUT_OF_MEMORY, Said, Stop, count, plain, truth};
 use crate::stage::Stage;
 use crate::tries::{get, get_number, length, put, put_if, put_number, remove, remove_if};
-use crate::walking::Walk;
+use crate::walk::Walk;
 use crate::words::{key_at, number, number_at, number_named, times_at, value_at};
 use case_files::Line;
-use far_map::{Calls, Refusal, Text, Updated, Value};
+use far_map::{Calls, MapRefusal, Text, Updated, Value};
 use std::alloc::Global;
 use std::sync::Wait;
 use std::sync::atomic::Ordering;
@@ -38,7 +38,7 @@ fn update_one<V: Value, S: Calls<V>, R: Wait>(
     match me.update(rt, key, |found| one_more(alloc, found)) {
         Ok(Updated::Set(_)) => return Ok(true),
         Ok(Updated::Overtaken) => return Ok(false),
-        Ok(Updated::Left(_)) | Err(Refusal::Memory) => {}
+        Ok(Updated::Left(_)) | Err(MapRefusal::Memory) => {}
         Err(refusal) => return Err(Stop::Refused(refusal)),
     }
     let again = me.update(rt, key, |found| one_more(alloc, found))?;

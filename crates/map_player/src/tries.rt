@@ -3,7 +3,7 @@
 
 use crate::replies::Stop;
 use crate::words::{number_value, read_number};
-use far_map::{Calls, Refusal, Removal, Text, Value};
+use far_map::{Calls, MapRefusal, Removal, Text, Value};
 use std::alloc::Global;
 use std::sync::Wait;
 
@@ -14,7 +14,7 @@ pub fn put<V: Value, S: Calls<V>, R: Wait>(
     value: &V,
 ) -> Result<Option<V>, Stop> {
     match me.put(rt, key, value) {
-        Err(Refusal::Memory) => Ok(me.put(rt, key, value)?),
+        Err(MapRefusal::Memory) => Ok(me.put(rt, key, value)?),
         other => Ok(other?),
     }
 }
@@ -25,7 +25,7 @@ pub fn get<V: Value, S: Calls<V>, R: Wait>(
     key: &Text,
 ) -> Result<Option<V>, Stop> {
     match me.get(rt, key) {
-        Err(Refusal::Memory) => Ok(me.get(rt, key)?),
+        Err(MapRefusal::Memory) => Ok(me.get(rt, key)?),
         other => Ok(other?),
     }
 }
@@ -38,7 +38,7 @@ pub fn put_if<V: Value, S: Calls<V>, R: Wait>(
     value: &V,
 ) -> Result<Option<V>, Stop> {
     match me.put_if(rt, key, expected, value) {
-        Err(Refusal::Memory) => Ok(me.put_if(rt, key, expected, value)?),
+        Err(MapRefusal::Memory) => Ok(me.put_if(rt, key, expected, value)?),
         other => Ok(other?),
     }
 }
@@ -49,7 +49,7 @@ pub fn remove<V: Value, S: Calls<V>, R: Wait>(
     key: &Text,
 ) -> Result<Option<V>, Stop> {
     match me.remove(rt, key) {
-        Err(Refusal::Memory) => Ok(me.remove(rt, key)?),
+        Err(MapRefusal::Memory) => Ok(me.remove(rt, key)?),
         other => Ok(other?),
     }
 }
@@ -61,14 +61,14 @@ pub fn remove_if<V: Value, S: Calls<V>, R: Wait>(
     expected: &V,
 ) -> Result<Removal<V>, Stop> {
     match me.remove_if(rt, key, expected) {
-        Err(Refusal::Memory) => Ok(me.remove_if(rt, key, expected)?),
+        Err(MapRefusal::Memory) => Ok(me.remove_if(rt, key, expected)?),
         other => Ok(other?),
     }
 }
 
 pub fn evict<V: Value, S: Calls<V>, R: Wait>(rt: &R, me: &mut S) -> Result<bool, Stop> {
     match me.evict(rt) {
-        Err(Refusal::Memory) => Ok(me.evict(rt)?),
+        Err(MapRefusal::Memory) => Ok(me.evict(rt)?),
         other => Ok(other?),
     }
 }
@@ -80,7 +80,7 @@ pub fn length<V: Value, S: Calls<V>, R: Wait>(
     key: &Text,
 ) -> Result<Option<usize>, Stop> {
     match me.with(rt, key, |bytes| bytes.len()) {
-        Err(Refusal::Memory) => Ok(me.with(rt, key, |bytes| bytes.len())?),
+        Err(MapRefusal::Memory) => Ok(me.with(rt, key, |bytes| bytes.len())?),
         other => Ok(other?),
     }
 }

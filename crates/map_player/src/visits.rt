@@ -4,7 +4,7 @@ use crate::pairs::{Pairs, Sum};
 use crate::replies::{Said, Stop, refusal_text};
 use crate::words::{number_at, number_named, read_number, times_at};
 use case_files::Line;
-use far_map::{Calls, Refusal, Text, Value};
+use far_map::{Calls, MapRefusal, Text, Value};
 use far_object::bucket_of;
 use std::alloc::Global;
 use std::sync::Wait;
@@ -21,7 +21,7 @@ pub enum Visit {
 }
 
 /// How the pairs that were visited are told, and the refusal behind them.
-fn visited(alloc: Global, said: Said, ended: Result<(), Refusal>) -> Said {
+fn visited(alloc: Global, said: Said, ended: Result<(), MapRefusal>) -> Said {
     match ended {
         Ok(()) => said,
         Err(refusal) => {

@@ -3,13 +3,14 @@
 
 mod bundles;
 mod calls;
+mod damage;
 mod devices;
 mod disks;
 mod encodings;
 mod folders;
-mod handovers;
 mod logs;
 mod many;
+mod migrations;
 mod numbers;
 mod objects;
 mod orders;
@@ -19,7 +20,6 @@ mod replies;
 mod requests;
 mod runs;
 mod stores;
-mod tampered;
 mod values;
 mod words;
 mod world;
@@ -69,7 +69,7 @@ where
         "many" => many::play(rt, alloc, first, playing),
         "log" => logs::play(alloc, first, playing),
         "words" => words::play(alloc, first, playing),
-        "handover" => handovers::play(alloc, first, playing),
+        "handover" => migrations::play(alloc, first, playing),
         "device" => devices::play(rt, alloc, first, playing),
         "folders" => folders::play(rt, alloc, first, playing),
         "pipes" => pipes::play(rt, alloc, first, playing),

@@ -1,6 +1,6 @@
 //! One object, changed and read by the calls of `far_object`.
 
-use crate::tampered::compare_readers;
+use crate::damage::compare_readers;
 use crate::values::Value;
 use crate::world::{
     World, bytes, fault, memory, named, nothing, number, run, small, told, unknown, word,

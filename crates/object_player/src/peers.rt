@@ -109,7 +109,7 @@ impl Write for Peer {
 
 /// What is wrong with some replies of a store.
 #[derive(Clone, Copy, PartialEq, Eq)]
-pub(crate) enum Fault {
+pub(crate) enum PeerFault {
     /// It replies an error, and does nothing.
     Refuses,
     /// It has the key no more that is asked for.
@@ -137,7 +137,7 @@ pub(crate) struct Store {
     step: usize,
     /// The replies that can have the fault, and whose number this divides, have it; 0 for none.
     every: u64,
-    fault: Fault,
+    fault: PeerFault,
     turns: u64,
 }
 
@@ -164,7 +164,7 @@ fn place(objects: &[(Vec<u8>, Vec<u8>)], key: &[u8]) -> Option<usize> {
 
 impl Store {
     /// A store of whose replies some have a fault.
-    pub(crate) fn new(alloc: Global, step: usize, fault: Fault, every: u64) -> Self {
+    pub(crate) fn new(alloc: Global, step: usize, fault: PeerFault, every: u64) -> Self {
         Store {
             alloc,
             objects: Vec::new(alloc),
@@ -185,7 +185,7 @@ impl Store {
     }
 
     /// Counts a reply that can have the fault, and answers whether it has it.
-    fn has(&mut self, fault: Fault) -> bool {
+    fn has(&mut self, fault: PeerFault) -> bool {
         if self.fault != fault {
             return false;
         }
@@ -215,11 +215,11 @@ impl Store {
 
     fn get(&mut self) -> std::result::Result<(), AllocError> {
         let at = place(&self.objects, argument(&self.asked, &self.spans, 1));
-        if self.has(Fault::Forgets) {
+        if self.has(PeerFault::Forgets) {
             self.take(at);
             return push_nothing(&mut self.coming);
         }
-        let flips = self.has(Fault::Flips);
+        let flips = self.has(PeerFault::Flips);
         let Some((_, value)) = at.and_then(|at| self.objects.get(at)) else {
             return push_nothing(&mut self.coming);
         };
@@ -247,7 +247,7 @@ impl Store {
         if parsed != (Parsed::Request { consumed }) {
             return push_failure(&mut self.coming, b"ERR Protocol error");
         }
-        if self.has(Fault::Refuses) {
+        if self.has(PeerFault::Refuses) {
             return push_failure(&mut self.coming, b"OOM command not allowed");
         }
         let name = argument(&self.asked, &self.spans, 0);

@@ -5,7 +5,7 @@ use crate::replies;
 use crate::world::{World, bytes, named, nothing, push_bytes, run, told, word};
 use anyhow::{Result, bail};
 use case_files::{Line, Playing};
-use resp::{Fault, Limits, Parsed, Span, parse};
+use resp::{Limits, ParseFault, Parsed, Span, parse};
 use std::alloc::Global;
 
 /// The limits of what is read, and what was written.
@@ -48,15 +48,15 @@ pub(crate) fn front(bytes: &[u8], len: usize) -> Result<&[u8]> {
     }
 }
 
-fn fault_text(fault: Fault) -> &'static str {
+fn fault_text(fault: ParseFault) -> &'static str {
     match fault {
-        Fault::ArrayLength => "array length",
-        Fault::Mark => "mark",
-        Fault::StringLength => "string length",
-        Fault::StringEnd => "string end",
-        Fault::LongLine => "long line",
-        Fault::Quote => "quote",
-        Fault::Control => "control",
+        ParseFault::ArrayLength => "array length",
+        ParseFault::Mark => "mark",
+        ParseFault::StringLength => "string length",
+        ParseFault::StringEnd => "string end",
+        ParseFault::LongLine => "long line",
+        ParseFault::Quote => "quote",
+        ParseFault::Control => "control",
     }
 }
 

@@ -3,7 +3,7 @@
 use crate::calls::call;
 use crate::devices::{behind_lock, has};
 use crate::numbers::Numbers;
-use crate::peers::{Fault, Peer, Store};
+use crate::peers::{Peer, PeerFault, Store};
 use crate::runs::Wanted;
 use crate::world::{World, fault, flag, named, nothing, refused_or, run, shown, text, word};
 use anyhow::{Result, bail};
@@ -85,9 +85,9 @@ pub(crate) fn play_store<R: RandomSource>(
     playing: &mut Playing<'_>,
 ) -> Result<()> {
     let fault = match first.named("fault") {
-        None | Some(b"refuses") => Fault::Refuses,
-        Some(b"forgets") => Fault::Forgets,
-        Some(b"flips") => Fault::Flips,
+        None | Some(b"refuses") => PeerFault::Refuses,
+        Some(b"forgets") => PeerFault::Forgets,
+        Some(b"flips") => PeerFault::Flips,
         _ => bail!("fault= is refuses, forgets or flips"),
     };
     let every = u64::from(named(first, "every", 0)?);

@@ -20,8 +20,8 @@ use Rattle.table_core.specs.Machines.{MachineView, buckets_of, StandsAt, Breaks,
 use Rattle.table_core.proofs.Logs.{history-append, passes-append, names-append}
 use Rattle.table_core.proofs.Histories.{answer}
 use Rattle.table_core.proofs.Installing.{unbroken, after_standing, after_fits, may_check, still_standing, may_install, standing_more, standing_checked}
-use Rattle.run_lines.specs.declared.refusal.Refusal.{Refusal}
-use Rattle.run_lines.specs.declared.refusal.Refusal.TheVariants as refusal
+use Rattle.run_lines.specs.declared.refusal.LineRefusal.{LineRefusal}
+use Rattle.run_lines.specs.declared.refusal.LineRefusal.TheVariants as refusal
 use Rattle.plain_run.specs.declared.table.PlainTable.{PlainTable}
 use Rattle.run_lines.specs.Calls.{Texts, Asked, sets, IsTooLong}
 use Rattle.plain_run.specs.Tables.{Log, IsDrawnWord, object_in, IsAt, IsUnmade, Makes, IsWhy, CallEnds}
@@ -48,7 +48,7 @@ set_other xs b c x h = let flip : c ≢ b = λ e. h (sym e) in rw get_or-set_oth
 module _ (t : PlainTable) (log : Log) (at : IsAt t log) where
   -- ---- a call without a word
 
-  pub refused : (o : Asked) (why : Refusal) → IsWhy (buckets_of t.machine) t.limit (map_of enc_text enc_text (history log)) o why → CallEnds t t log o (Err why)
+  pub refused : (o : Asked) (why : LineRefusal) → IsWhy (buckets_of t.machine) t.limit (map_of enc_text enc_text (history log)) o why → CallEnds t t log o (Err why)
   refused o why is = record { later = log; stands = at; buckets = refl; limit = refl; names = omega arith; went = (refl, is) }
 
   pub checked : (m : MachineView (List ℕ) (List ℕ)) (o : Asked) (reply : Option (List ℕ)) → Answers enc_text enc_text t.machine m log 1 o None reply
@@ -197,9 +197,9 @@ found b n m k o is key same some =
 -- the machine refused the word, and the name was drawn in vain
 pub vain_same : (t : PlainTable) (log : Log) (at : IsAt t log) (o : Asked) (b : ℕ) (es : Texts) (is : b ≡ bucket enc_text (buckets_of t.machine) (key_of o)) (lt : b < buckets_of t.machine)
     → es ≡ after enc_text enc_text (object_in t.objects.items b) o → (m : MachineView (List ℕ) (List ℕ)) → GoesOn enc_text enc_text t.machine m log (Named (names_of log + 1) b es)
-    → (last : MachineView (List ℕ) (List ℕ)) → last ≡ m → (why : Refusal) → why ≡ refusal.Memory → CallEnds t (record { machine = last; objects = t.objects; limit = t.limit }) log o (Err why)
+    → (last : MachineView (List ℕ) (List ℕ)) → last ≡ m → (why : LineRefusal) → why ≡ refusal.Memory → CallEnds t (record { machine = last; objects = t.objects; limit = t.limit }) log o (Err why)
 vain_same t log at o b es is lt es_is m named last same why memory =
-    subst (λ (w : Refusal). CallEnds t (record { machine = last; objects = t.objects; limit = t.limit }) log o (Err w)) (sym memory)
+    subst (λ (w : LineRefusal). CallEnds t (record { machine = last; objects = t.objects; limit = t.limit }) log o (Err w)) (sym memory)
     (subst (λ (x : MachineView (List ℕ) (List ℕ)). CallEnds t (record { machine = x; objects = t.objects; limit = t.limit }) log o (Err refusal.Memory)) (sym same) (drawn_in_vain t log at o b es is lt es_is m named))
 
 -- ---- as the call finds it
@@ -225,7 +225,7 @@ no_set buckets limit m o so h = let s = h.sets in cc
 
 module _ (t : PlainTable) (log : Log) (at : IsAt t log) (o : Asked) (b : ℕ) (is : b ≡ bucket enc_text (buckets_of t.machine) (key_of o)) (lt : b < buckets_of t.machine) where
   -- the object could not be made
-  pub unmade : (why : Refusal) → IsUnmade t.limit (object_in t.objects.items b) o why → CallEnds t t log o (Err why)
+  pub unmade : (why : LineRefusal) → IsUnmade t.limit (object_in t.objects.items b) o why → CallEnds t t log o (Err why)
   unmade refusal.TooLong h =
       let so : IsTrue (sets (map_of enc_text enc_text (history log)) o) = sym (sets_same t log at o b is lt) ∙ h.0 in
       refused t log at o refusal.TooLong (too_long t log at o b _ is lt refl so h.1)

@@ -11,7 +11,7 @@ use Rattle.command_file.specs.declared.command.Command.{Command}
 use Rattle.command_file.specs.declared.command.Command.TheVariants.{Map, Table}
 use Rattle.command_file.specs.declared.command.MapCommand.{MapCommand}
 use Rattle.command_file.specs.declared.command.TableCommand.{TableCommand}
-use Rattle.run_lines.specs.declared.refusal.Refusal.{Refusal}
+use Rattle.run_lines.specs.declared.refusal.LineRefusal.{LineRefusal}
 use Rattle.run_lines.specs.Calls.{Asked, Call, calls_by, operation_of, IsTooLong}
 use Rattle.run_lines.specs.Replies.{line_of, held_by}
 use Rattle.run_lines.proofs.Calls.{calls_by-append, calls_by-own}
@@ -41,7 +41,7 @@ pub record Ends (buckets limit : ℕ) (h h' : List Call) (held : Option (List �
   pub grows : h ++ rest ≡ h'
   pub own : AllByRecursion (λ call. call.0 ≡ 1) h → AllByRecursion (λ call. call.0 ≡ 1) h'
 
-ends : (buckets limit : ℕ) (h h' : List Call) (held : Option (List ℕ)) (c : MapCommand) (r : Result (Option (List ℕ)) Refusal)
+ends : (buckets limit : ℕ) (h h' : List Call) (held : Option (List ℕ)) (c : MapCommand) (r : Result (Option (List ℕ)) LineRefusal)
     → MatchResult r
     (λ answer. (h' ≡ h ++ (1, operation_of c) ∷ []) × (answer ≡ reply enc_text (map_of enc_text enc_text h) (operation_of c)) × (IsTooLong buckets limit (map_of enc_text enc_text h) (operation_of c) → ⊥))
     (λ why. (h' ≡ h) × IsWhy buckets limit (map_of enc_text enc_text h) (operation_of c) why)
@@ -105,7 +105,7 @@ start old commands text none fresh =
 pub room : (old new : PlainTable) (commands : List Command) (i : ℕ) (text : List ℕ) → Running old new commands i text → i < length commands → length commands ≤ 65536 → (log : Log) × IsAt new log × (names_of log < 2 ^ 40 - 1)
 room old new commands i text r lt few = (r.so_far.log, r.so_far.stands, omega (arith, r.few))
 
-pub next : (old new last : PlainTable) (commands : List Command) (i : ℕ) (text more : List ℕ) (c : MapCommand) (r : Result (Option (List ℕ)) Refusal)
+pub next : (old new last : PlainTable) (commands : List Command) (i : ℕ) (text more : List ℕ) (c : MapCommand) (r : Result (Option (List ℕ)) LineRefusal)
     → Running old new commands i text → i < length commands → length commands ≤ 65536 → Map c ≡ get_or commands i (Map c)
     → ((log : Log) → IsAt new log → names_of log < 2 ^ 40 - 1 → CallEnds new last log (operation_of c) r) → more ≡ text ++ (line_of r ++ 10 ∷ []) → Running old last commands (i + 1) more
 next old new last commands i text more c r run lt few at on more_is = record {

@@ -12,7 +12,7 @@ use Rattle.command_file.specs.declared.command.MapCommand.{MapCommand}
 use Rattle.command_file.specs.declared.command.TableCommand.{TableCommand}
 use Rattle.command_file.specs.Lines.{lines_of}
 use Rattle.command_file.specs.Files.{IsFile, IsFileFault}
-use Rattle.run_lines.specs.declared.refusal.Refusal.{Refusal}
+use Rattle.run_lines.specs.declared.refusal.LineRefusal.{LineRefusal}
 use Rattle.run_lines.specs.Calls.{Call, operation_of, IsTooLong}
 use Rattle.run_lines.specs.Replies.{RepliedIn}
 use Rattle.run_lines.specs.Output.{written}
@@ -28,7 +28,7 @@ IsOfMap (Map c) = ⊤
 IsOfMap (Table c) = ⊥
 
 -- a command is answered where its object is not too long for the map of the calls before it, and refused where it is, or for want of memory
-abbrev pub MayReply : ℕ → ℕ → List Call → MapCommand → Result (Option (List ℕ)) Refusal → Type 0
+abbrev pub MayReply : ℕ → ℕ → List Call → MapCommand → Result (Option (List ℕ)) LineRefusal → Type 0
 MayReply buckets limit before c (Ok answer) = IsTooLong buckets limit (map_of enc_text enc_text before) (operation_of c) → ⊥
 MayReply buckets limit before c (Err why) = IsWhy buckets limit (map_of enc_text enc_text before) (operation_of c) why
 

@@ -9,8 +9,8 @@ use Rattle.table_core.specs.Maps.{after, reply, map_of}
 use Rattle.table_core.specs.Logs.{history, passes_of, names_of}
 use Rattle.table_core.specs.Lawful.{standing, widest}
 use Rattle.table_core.specs.Machines.{buckets_of, StandsAt}
-use Rattle.run_lines.specs.declared.refusal.Refusal.{Refusal}
-use Rattle.run_lines.specs.declared.refusal.Refusal.TheVariants as refusal
+use Rattle.run_lines.specs.declared.refusal.LineRefusal.{LineRefusal}
+use Rattle.run_lines.specs.declared.refusal.LineRefusal.TheVariants as refusal
 use Rattle.run_lines.specs.Calls.{Texts, Asked, sets, IsTooLong}
 use Rattle.plain_run.specs.declared.table.PlainTable.{PlainTable}
 
@@ -42,13 +42,13 @@ MayInstall (op.Get k) (Some w) = ⊥
 MayInstall _ _ = ⊤
 
 -- it is not made: too long where the operation sets its key and the object is
-abbrev pub IsUnmade : ℕ → Texts → Asked → Refusal → Type 0
+abbrev pub IsUnmade : ℕ → Texts → Asked → LineRefusal → Type 0
 IsUnmade limit es o refusal.TooLong = IsTrue (sets es o) × (limit < length (object_of enc_text enc_text (after enc_text enc_text es o)))
 IsUnmade limit es o refusal.Memory = ⊤
 IsUnmade limit es o _ = ⊥
 
 -- a new object where the operation changes the bucket, which is not too long where it sets its key; and else none
-abbrev pub Makes : ℕ → Texts → Asked → Result (Option Texts) Refusal → Type 0
+abbrev pub Makes : ℕ → Texts → Asked → Result (Option Texts) LineRefusal → Type 0
 Makes limit es o (Ok None) = (after enc_text enc_text es o ≡ es) × (sets es o ≡ false) × MayInstall o None
 Makes limit es o (Ok (Some new)) =
     (new ≡ after enc_text enc_text es o) × (IsTrue (sets es o) → length (object_of enc_text enc_text new) ≤ limit) × ((w : ℕ) → MayInstall o (Some w))
@@ -57,13 +57,13 @@ Makes limit es o (Err why) = IsUnmade limit es o why
 -- ---- calls
 
 -- why a command is refused: too long where it is, or for want of memory
-abbrev pub IsWhy : ℕ → ℕ → Texts → Asked → Refusal → Type 0
+abbrev pub IsWhy : ℕ → ℕ → Texts → Asked → LineRefusal → Type 0
 IsWhy buckets limit m o refusal.TooLong = IsTooLong buckets limit m o
 IsWhy buckets limit m o refusal.Memory = ⊤
 IsWhy buckets limit m o _ = ⊥
 
 -- a call is done and answered as the map of the history answers it, or is refused and leaves the history as it was
-pub record CallEnds (old new : PlainTable) (log : Log) (o : Asked) (r : Result (Option (List ℕ)) Refusal) : Type 0 where
+pub record CallEnds (old new : PlainTable) (log : Log) (o : Asked) (r : Result (Option (List ℕ)) LineRefusal) : Type 0 where
   pub later : Log
   pub stands : IsAt new later
   pub buckets : buckets_of new.machine ≡ buckets_of old.machine

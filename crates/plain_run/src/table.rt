@@ -35,7 +35,7 @@ ghost use Rattle.plain_run.specs.Tables.{Log, IsAt, CallEnds, IsDrawnWord, objec
 
 use command_file::MapCommand;
 use far_object::{FarObject, Memory, Object, Text, bucket_of};
-use run_lines::Refusal;
+use run_lines::LineRefusal;
 use std::alloc::Global;
 use table_core::word::{EMPTY_PLACE, pack};
 use table_core::{CoreFault, Machine, Pairs, Rule};
@@ -56,12 +56,12 @@ pub struct PlainTable {
 }
 
 /// Why a call of the machine that keeps the rules was refused.
-fn for_memory(fault: CoreFault) -> Refusal
+fn for_memory(fault: CoreFault) -> LineRefusal
     requires { fault.rule ≡ rule.Memory }
-    ensures { result ≡ Refusal.Memory }
+    ensures { result ≡ LineRefusal.Memory }
 {
     match fault.rule {
-        Rule::Memory => Refusal::Memory,
+        Rule::Memory => LineRefusal::Memory,
         _ => unreachable!(),
     }
 }
@@ -72,14 +72,14 @@ fn draw(
     alloc: Global,
     bucket: u32,
     object: &Object<Text, Text>,
-) -> Result<u64, Refusal>
+) -> Result<u64, LineRefusal>
     requires stands { (log : Log) × StandsAt enc_text enc_text machine.old log × (names_of log < 2 ^ 40 - 1) }
     requires bucket { bucket < buckets_of machine.old }
     requires contents { AreContents enc_text (buckets_of machine.old) bucket object.now }
     ensures drawn { IfOk result (λ word. (log : Log) → StandsAt enc_text enc_text machine.old log
         → IsDrawnWord log object.now word × GoesOn enc_text enc_text machine.old machine.new log (Named (names_of log + 1) bucket object.now)) }
     ensures err { OnErr result (machine.new ≡ machine.old) }
-    ensures why { IfErr result (λ refusal. refusal ≡ Refusal.Memory) }
+    ensures why { IfErr result (λ refusal. refusal ≡ LineRefusal.Memory) }
 {
     let pairs = Pairs::new(object.entries(alloc)?);
     let name = match machine.name(bucket, pairs) {
@@ -204,21 +204,21 @@ impl PlainTable {
         bucket: u32,
         key: &Text,
         value: &Text,
-    ) -> Result<Option<Object<Text, Text>>, Refusal>
+    ) -> Result<Option<Object<Text, Text>>, LineRefusal>
         requires there { bucket < vec_len self.now.objects }
         requires limited { self.now.limit ≤ 1048576 }
         ensures { Makes self.now.limit (object_in self.now.objects.items bucket) (op.Put key.now value.now) result }
     {
         let object = self.stored(bucket);
         if object.count() >= MOST_PAIRS {
-            return Err(Refusal::TooLong);
+            return Err(LineRefusal::TooLong);
         }
         let object = match object.with(alloc, key, value) {
             Ok(object) => object,
-            Err(_) => return Err(Refusal::Memory),
+            Err(_) => return Err(LineRefusal::Memory),
         };
         if object.as_bytes().len() > self.limit as usize {
-            return Err(Refusal::TooLong);
+            return Err(LineRefusal::TooLong);
         }
         Ok(Some(object))
     }
@@ -229,7 +229,7 @@ impl PlainTable {
         alloc: Global,
         bucket: u32,
         key: &Text,
-    ) -> Result<Option<Object<Text, Text>>, Refusal>
+    ) -> Result<Option<Object<Text, Text>>, LineRefusal>
         requires there { bucket < vec_len self.now.objects }
         ensures { Makes self.now.limit (object_in self.now.objects.items bucket) (op.Remove key.now) result }
     {
@@ -240,7 +240,7 @@ impl PlainTable {
         }
         match object.without(alloc, key) {
             Ok(object) => Ok(Some(object)),
-            Err(_) => Err(Refusal::Memory),
+            Err(_) => Err(LineRefusal::Memory),
         }
     }
 
@@ -267,7 +267,7 @@ impl PlainTable {
         key: &Text,
         expected: Option<&Text>,
         value: &Text,
-    ) -> Result<Option<Object<Text, Text>>, Refusal>
+    ) -> Result<Option<Object<Text, Text>>, LineRefusal>
         requires there { bucket < vec_len self.now.objects }
         requires limited { self.now.limit ≤ 1048576 }
         ensures { Makes self.now.limit (object_in self.now.objects.items bucket) (op.PutIf key.now (lent_value expected.entry) value.now) result }
@@ -285,7 +285,7 @@ impl PlainTable {
         alloc: Global,
         bucket: u32,
         command: &MapCommand,
-    ) -> Result<Option<Object<Text, Text>>, Refusal>
+    ) -> Result<Option<Object<Text, Text>>, LineRefusal>
         requires there { bucket < vec_len self.now.objects }
         requires limited { self.now.limit ≤ 1048576 }
         ensures { Makes self.now.limit (object_in self.now.objects.items bucket) (operation_of command.now) result }
@@ -305,7 +305,11 @@ impl PlainTable {
     }
 
     /// Does what a command asks. A refused command leaves the pairs as they were.
-    pub fn answer(&mut self, alloc: Global, command: &MapCommand) -> Result<Option<Text>, Refusal>
+    pub fn answer(
+        &mut self,
+        alloc: Global,
+        command: &MapCommand,
+    ) -> Result<Option<Text>, LineRefusal>
         requires stands { (log : Log) × IsAt self.old log × (names_of log < 2 ^ 40 - 1) }
         ensures { (log : Log) → IsAt self.old log → names_of log < 2 ^ 40 - 1 → CallEnds self.old self.new log (operation_of command.now) result }
     {

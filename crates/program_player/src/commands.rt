@@ -1,10 +1,10 @@
 //! Calls that read files of commands.
 
 use crate::desk::Desk;
+use crate::listing::{shown, shown_in_falling_order};
 use crate::mistake::Mistake;
 use crate::readers::{Faltering, Given};
 use crate::reply::{reply_of, text};
-use crate::shown::{shown, shown_in_falling_order};
 use case_files::Line;
 use command_file::{FileFault, FileText, Script, read_file};
 use far_driver::{RunFault, read_files};

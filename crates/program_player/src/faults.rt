@@ -4,7 +4,7 @@ use crate::desk::Desk;
 use crate::mistake::Mistake;
 use case_files::Line;
 use command_file::FileFault;
-use far_driver::{Refusal, RunFault};
+use far_driver::{LineRefusal, RunFault};
 use plain_run::PlainFault;
 
 const NO_FAULT: Mistake = Mistake::Call("there is no such fault");
@@ -35,16 +35,16 @@ fn plain_fault(line: &Line) -> Result<PlainFault, Mistake> {
 }
 
 /// The refusal of this name.
-pub fn refusal(name: &[u8]) -> Option<Refusal> {
-    let all: [(&[u8], Refusal); 8] = [
-        (b"Memory", Refusal::Memory),
-        (b"TooLong", Refusal::TooLong),
-        (b"NamesSpent", Refusal::NamesSpent),
-        (b"LimboFull", Refusal::LimboFull),
-        (b"Device", Refusal::Device),
-        (b"Damaged", Refusal::Damaged),
-        (b"Full", Refusal::Full),
-        (b"HeldAlready", Refusal::HeldAlready),
+pub fn refusal(name: &[u8]) -> Option<LineRefusal> {
+    let all: [(&[u8], LineRefusal); 8] = [
+        (b"Memory", LineRefusal::Memory),
+        (b"TooLong", LineRefusal::TooLong),
+        (b"NamesSpent", LineRefusal::NamesSpent),
+        (b"LimboFull", LineRefusal::LimboFull),
+        (b"Device", LineRefusal::Device),
+        (b"Damaged", LineRefusal::Damaged),
+        (b"Full", LineRefusal::Full),
+        (b"HeldAlready", LineRefusal::HeldAlready),
     ];
     for (one, refusal) in all {
         if one == name {

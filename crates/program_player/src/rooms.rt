@@ -3,10 +3,10 @@
 use crate::desk::Desk;
 use crate::lists::ends_of;
 use crate::mistake::Mistake;
+use crate::output::{status_of, write_lists};
 use crate::plain::{run_plain, table_of};
 use crate::reply::text;
 use crate::writers::{Limits, Output};
-use crate::written::{status_of, write_lists};
 use case_files::Line;
 use run_lines::{write_contents, write_files};
 use std::thread::Threads;

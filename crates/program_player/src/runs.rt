@@ -11,7 +11,7 @@ use crate::writers::{Limits, Output};
 use case_files::Line;
 use command_file::{FileFault, read_file};
 use far_device::{CannedDevice, Device, FakeDevice, FaultyDevice, LyingDevice, WatchedDevice};
-use far_driver::{Gate, OpenGate, Refusal, RunFault, open_lanes, run_files};
+use far_driver::{Gate, LineRefusal, OpenGate, RunFault, open_lanes, run_files};
 use hash_table::Config;
 use std::alloc::Global;
 use std::sync::atomic::{AtomicU64, Ordering};
@@ -64,7 +64,7 @@ where
     }
     let ended = run_files(rt, config, devices, readers, gate, out);
     let is_refused = ended == Err(RunFault::Memory)
-        || ended == Err(RunFault::Contents(Refusal::Memory));
+        || ended == Err(RunFault::Contents(LineRefusal::Memory));
     if is_refused || out.tells_memory() {
         return Err(Mistake::Memory);
     }

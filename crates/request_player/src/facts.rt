@@ -7,7 +7,7 @@ use server_commands::{Facts, Options};
 pub(crate) const NO_FACTS: Facts = Facts {
     now: 0,
     started: 0,
-    lanes: 0,
+    workers: 0,
     port: 0,
     clients: 0,
     accepted: 0,
@@ -55,7 +55,7 @@ pub(crate) const NO_OPTIONS: Options = Options {
     timeout: 0,
     longest_value: 0,
     port: 0,
-    lanes: 0,
+    workers: 0,
 };
 
 /// `NAME=NUMBER`.
@@ -115,7 +115,7 @@ fn far_field<'f>(facts: &'f mut Facts, name: &str) -> Option<&'f mut u64> {
 
 fn set_fact(facts: &mut Facts, name: &str, number: u64) -> Option<()> {
     match name {
-        "lanes" => facts.lanes = u32::try_from(number).ok()?,
+        "lanes" => facts.workers = u32::try_from(number).ok()?,
         "port" => facts.port = u32::try_from(number).ok()?,
         "buckets" => facts.buckets = u32::try_from(number).ok()?,
         "frames" => facts.frames = u32::try_from(number).ok()?,
@@ -137,7 +137,7 @@ fn set_option(options: &mut Options, name: &str, number: u64) -> Option<()> {
         "timeout" => options.timeout = number,
         "longest_value" => options.longest_value = number,
         "port" => options.port = u32::try_from(number).ok()?,
-        "lanes" => options.lanes = u32::try_from(number).ok()?,
+        "lanes" => options.workers = u32::try_from(number).ok()?,
         _ => return None,
     }
     Some(())

@@ -1,13 +1,11 @@
 //! Plays the cases of requests: what is read from a request, what a command on one key or to the server replies, and which
-//! packets a lane writes. tests/cases/requests/README.md names the calls.
+//! packets a worker writes. tests/cases/requests/README.md names the calls.
 #![tactic(auto)]
 
-mod asked;
-mod asked_of_server;
-mod desk;
 mod facts;
 mod key;
-mod lane;
+mod key_request;
+mod manners;
 mod mistake;
 mod packet;
 mod parser;
@@ -15,7 +13,9 @@ mod reply;
 mod request;
 mod run;
 mod server;
+mod server_request;
 mod token;
+mod worker;
 mod world;
 
 pub use world::{OPENINGS, play};

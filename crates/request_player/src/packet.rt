@@ -1,4 +1,4 @@
-//! The packets between the gateway and a lane: as lines of a case, and as bytes.
+//! The packets between the gateway and a worker: as lines of a case, and as bytes.
 
 use crate::mistake::{Mistake, WORDS};
 use crate::reply::Reply;

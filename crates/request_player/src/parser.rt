@@ -1,6 +1,6 @@
 //! The opening `requests`: what a request is read as, and the parts of commands that are functions of what they are given.
 
-use crate::asked::put_command;
+use crate::key_request::put_command;
 use crate::mistake::{Mistake, WORDS};
 use crate::reply::{Reply, one_word, truth};
 use crate::request::{Request, signed_at};

@@ -1,13 +1,13 @@
-//! A lane over bytes in memory, served by one service, or by another behind it.
+//! A worker over bytes in memory, served by one service, or by another behind it.
 ghost use Rattle.std.specs.Prelude.{[]};
 
-use crate::desk::{Desk, Manner};
+use crate::manners::{Manner, Manners};
 use crate::mistake::Mistake;
-use lanes::{Duplex, Holds, LaneFault, Pause, Service, Wire, serve_on, serve_over};
+use request_loop::{Duplex, Holds, LoopFault, Pause, Service, Wire, serve_on, serve_over};
 use resp::Limits;
 use std::alloc::Global;
 
-/// How a lane is served.
+/// How a worker is served.
 #[derive(Clone, Copy)]
 pub(crate) struct Serving {
     pub(crate) limits: Limits,
@@ -18,17 +18,17 @@ pub(crate) struct Serving {
     pub(crate) long: usize,
 }
 
-/// How a lane ended.
+/// How a worker ended.
 #[derive(Clone, Copy, PartialEq, Eq)]
 pub(crate) enum Ended {
     /// There were no more packets.
     Over,
     /// Its service left.
     Left,
-    Fault(LaneFault),
+    Fault(LoopFault),
 }
 
-/// What a lane wrote, and how it ended. Of one that a fault ended it is not known what it wrote.
+/// What a worker wrote, and how it ended. Of one that a fault ended it is not known what it wrote.
 #[derive(Drop)]
 pub(crate) struct Ran {
     pub(crate) written: Vec<u8>,
@@ -41,7 +41,7 @@ fn serve_by_both<D: Duplex, S: Service, T: Service>(
     duplex: &mut D,
     one: &mut S,
     other: &mut T,
-) -> Result<(Pause, Pause), LaneFault>
+) -> Result<(Pause, Pause), LoopFault>
     requires { D.tells duplex.old duplex.old [] [] }
 {
     let left = serve_on(alloc, duplex, one, Holds::none(alloc))?;
@@ -55,8 +55,8 @@ fn run_by_both(
     came: &[u8],
     other: Manner,
 ) -> Result<Ran, Mistake> {
-    let mut one = Desk::new(alloc, serving.one, serving.long)?;
-    let mut other = Desk::new(alloc, other, serving.long)?;
+    let mut one = Manners::new(alloc, serving.one, serving.long)?;
+    let mut other = Manners::new(alloc, other, serving.long)?;
     let mut wire = Wire::new(alloc, came, Vec::new(alloc), serving.limits);
     let served = serve_by_both(alloc, &mut wire, &mut one, &mut other);
     let (_, written) = wire.into_parts();
@@ -69,7 +69,7 @@ fn run_by_both(
 }
 
 fn run_by_one(alloc: Global, serving: Serving, came: &[u8]) -> Result<Ran, Mistake> {
-    let mut one = Desk::new(alloc, serving.one, serving.long)?;
+    let mut one = Manners::new(alloc, serving.one, serving.long)?;
     let output = Vec::new(alloc);
     match serve_over(alloc, came, output, serving.limits, &mut one) {
         Ok((_, written)) => {
@@ -94,7 +94,7 @@ fn run_once(alloc: Global, serving: Serving, came: &[u8]) -> Result<Ran, Mistake
     }
 }
 
-/// Runs a lane over these bytes from its beginning. It is run twice, since one that is refused a growth may close a connection
+/// Runs a worker over these bytes from its beginning. It is run twice, since one that is refused a growth may close a connection
 /// and go on: where the runs differ, a growth was refused to one of them.
 pub(crate) fn run(alloc: Global, serving: Serving, came: &[u8]) -> Result<Ran, Mistake> {
     let ran = run_once(alloc, serving, came)?;

@@ -1,10 +1,10 @@
 //! A case: its openings, and the calls behind each.
 
 use crate::key::Key;
-use crate::lane::Lane;
 use crate::mistake::{Mistake, WORDS};
 use crate::parser;
 use crate::server::Server;
+use crate::worker::Worker;
 use anyhow::anyhow;
 use case_files::{Line, Playing};
 use std::alloc::Global;
@@ -19,7 +19,7 @@ enum World {
     /// Requests are read at this time, in milliseconds since 1970.
     Requests(u64),
     Key(Key),
-    Lane(Lane),
+    Worker(Worker),
     Server(Server),
 }
 
@@ -32,7 +32,7 @@ fn opened(alloc: Global, line: &Line) -> Result<World, Mistake> {
             let most = u32::try_from(most).ok().ok_or(WORDS)?;
             Ok(World::Key(Key::new(alloc, now, most)))
         }
-        "packets" => Ok(World::Lane(Lane::new(alloc, line)?)),
+        "packets" => Ok(World::Worker(Worker::new(alloc, line)?)),
         "server_replies" => Ok(World::Server(Server::new(alloc))),
         _ => Err(Mistake::Said("no call opens this")),
     }
@@ -48,7 +48,7 @@ impl World {
             World::Nothing => Err(Mistake::Said("nothing is open")),
             World::Requests(now) => parser::call(alloc, line, *now),
             World::Key(key) => key.call(line),
-            World::Lane(lane) => lane.call(line),
+            World::Worker(worker) => worker.call(line),
             World::Server(server) => server.call(line),
         }
     }

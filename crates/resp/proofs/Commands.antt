@@ -6,7 +6,7 @@ use Rattle.std.specs.List.{flat_map}
 use Rattle.std.proofs.lemmas.Fmt.{decimal_digit, decimal_nonempty, length-decimal-le}
 use Rattle.resp.specs.declared.limits.Limits.{Limits}
 use Rattle.resp.specs.declared.place.Span.{Span}
-use Rattle.resp.specs.declared.outcome.Fault.{Fault}
+use Rattle.resp.specs.declared.outcome.ParseFault.{ParseFault}
 use Rattle.resp.specs.declared.outcome.Parsed.{Parsed}
 use Rattle.resp.specs.declared.outcome.Parsed.TheVariants.{Request, Incomplete, Malformed}
 use Rattle.resp.specs.Lines.{IsDigit, number, line, Lacks, Spoilt, IsPositive}
@@ -173,7 +173,7 @@ negative_is limits bytes spans (Incomplete n) fits some one two none lacks =
     kind_lacks negative (IsPositive (2 ^ 63)) command (IsAdmitted limits) Negative (λ x h. refl) (λ x h. h) bytes n (only_front negative (IsPositive (2 ^ 63)) limits bytes (42 ∷ 45 ∷ f.0) f.1 (negative_only limits f.0 fits)) lacks
 negative_is limits bytes spans (Malformed at fault) fits some one two none bad =
     let f = two_taken bytes 42 45 at some (negative_later bytes at (omega arith) one bad.0) one two in
-    let Cause : Fault → Type 0 = IsCause limits bytes at in (
+    let Cause : ParseFault → Type 0 = IsCause limits bytes at in (
       kind_spoilt negative (IsPositive (2 ^ 63)) command (IsAdmitted limits) Negative (λ x h. refl) (λ x h. h) bytes at (only_front negative (IsPositive (2 ^ 63)) limits (take (at + 1) bytes) (42 ∷ 45 ∷ f.0) f.1 (negative_only limits f.0 fits)) bad.0,
       subst Cause (sym bad.1) (inr bad.0),
     )

@@ -4,8 +4,8 @@ use Rattle.std.proofs.lemmas.Bool.{cases_eq}
 use Rattle.std.specs.List.{AllByRecursion}
 use Rattle.resp.specs.Lines.{Lacks, Spoilt, Begins}
 use Rattle.resp.specs.declared.limits.Limits.{Limits}
-use Rattle.resp.specs.declared.outcome.Fault.{Fault}
-use Rattle.resp.specs.declared.outcome.Fault.TheVariants.{ArrayLength, Mark, StringLength, StringEnd, LongLine, Quote, Control}
+use Rattle.resp.specs.declared.outcome.ParseFault.{ParseFault}
+use Rattle.resp.specs.declared.outcome.ParseFault.TheVariants.{ArrayLength, Mark, StringLength, StringEnd, LongLine, Quote, Control}
 use Rattle.resp.specs.Parsing.{IsByteCause, IsCause}
 use Rattle.resp.specs.Requests.{IsPlain, IsLine, inline}
 use Rattle.resp.proofs.Numbers.{cut, all_behind, one_more}
@@ -107,7 +107,7 @@ first_case c (inr a) (inr b) (inr d) f = absurd (f a b d)
 pub not_plain_is : (c : ℕ) → c ≢ 10 → c ≢ 34 → c ≢ 39 → ¬ (IsPlain c) → (c ≡ 0) ⊎ ((c ≡ 11) ⊎ (c ≡ 12))
 not_plain_is c ten quote apostrophe spoilt = first_case c (cases_eq c 0) (cases_eq c 11) (cases_eq c 12) (λ a b d. spoilt (a, ten, b, d, quote, apostrophe))
 
-pub byte_cause : (limits : Limits) (bytes : List ℕ) (at : ℕ) (fault : Fault) → get_or bytes 0 0 ≢ 42 → IsByteCause (get_or bytes at 0) fault → IsCause limits bytes at fault
+pub byte_cause : (limits : Limits) (bytes : List ℕ) (at : ℕ) (fault : ParseFault) → get_or bytes 0 0 ≢ 42 → IsByteCause (get_or bytes at 0) fault → IsCause limits bytes at fault
 byte_cause limits bytes at ArrayLength ne never = absurd never
 byte_cause limits bytes at Mark ne never = absurd never
 byte_cause limits bytes at StringLength ne never = absurd never

@@ -5,7 +5,7 @@ ghost use Rattle.resp.specs.Parsing.{ParsesArray, ParsesNegative};
 use crate::bulk::{Bulk, bulk_at};
 use crate::limits::Limits;
 use crate::line::{Line, line_at, positive_at};
-use crate::outcome::{Fault, Parsed};
+use crate::outcome::{ParseFault, Parsed};
 use crate::place::Span;
 use std::alloc::AllocError;
 
@@ -41,7 +41,7 @@ pub(crate) fn array_at(
         Line::Bad(at) => {
             return Ok(Parsed::Malformed {
                 at,
-                fault: Fault::ArrayLength,
+                fault: ParseFault::ArrayLength,
             });
         }
     };
@@ -84,7 +84,7 @@ pub(crate) fn negative_at(bytes: &[u8]) -> Parsed
         Line::Short { missing, .. } => Parsed::Incomplete { missing },
         Line::Bad(at) => Parsed::Malformed {
             at: at + 2,
-            fault: Fault::ArrayLength,
+            fault: ParseFault::ArrayLength,
         },
     }
 }

@@ -5,7 +5,7 @@ ghost use Rattle.resp.specs.Requests.{IsPlain, is_blank, words};
 ghost use Rattle.resp.specs.Parsing.{ParsesInline, arguments_in, AreWithin, WordIsPut, IsByteCause};
 
 use crate::limits::Limits;
-use crate::outcome::{Fault, Parsed};
+use crate::outcome::{ParseFault, Parsed};
 use crate::place::Span;
 use std::alloc::AllocError;
 
@@ -77,18 +77,18 @@ fn push_words(bytes: &[u8], end: usize, spans: &mut Vec<Span>) -> Result<(), All
 }
 
 /// What is wrong with a byte that is neither plain nor an LF.
-fn fault_of(byte: u8) -> Fault
+fn fault_of(byte: u8) -> ParseFault
     requires other { byte ≢ 10 }
     requires spoilt { ¬ (IsPlain byte) }
     ensures { IsByteCause byte result }
 {
     if byte == b'"' {
-        return Fault::Quote;
+        return ParseFault::Quote;
     }
     if byte == b'\'' {
-        return Fault::Quote;
+        return ParseFault::Quote;
     }
-    Fault::Control
+    ParseFault::Control
 }
 
 /// A line that begins with another byte than an array does, whose words are put into `spans`.
@@ -115,7 +115,7 @@ pub(crate) fn inline_at(
     if at == most {
         return Ok(Parsed::Malformed {
             at,
-            fault: Fault::LongLine,
+            fault: ParseFault::LongLine,
         });
     }
     Ok(Parsed::Malformed {

@@ -8,12 +8,12 @@ pub enum Parsed {
     /// The beginning of one. So many bytes are enough, and no fewer are.
     Incomplete { missing: usize },
     /// No request goes on as these bytes do up to this place and with it.
-    Malformed { at: usize, fault: Fault },
+    Malformed { at: usize, fault: ParseFault },
 }
 
 /// What is wrong with the byte at which bytes are no request's any more, as far as Redis tells it apart.
 #[derive(Clone, Copy, Debug, PartialEq, Eq)]
-pub enum Fault {
+pub enum ParseFault {
     /// Not the number of strings of an array, or more than the limit: "invalid multibulk length".
     ArrayLength,
     /// A string of an array begins with this byte, and not with `$`: "expected '$', got 'x'".

@@ -6,7 +6,7 @@ use Rattle.std.specs.declared.random_state.RandomState.{RandomState}
 use Rattle.far_device.specs.Calls.{Reads, Removes, Writes}
 use Rattle.far_device.specs.declared.fault.DeviceFault.{DeviceFault}
 use Rattle.far_device.specs.declared.fault.DeviceFault.TheVariants.{Memory, Failed}
-use Rattle.resp_device.specs.declared.kept.Kept.{Kept}
+use Rattle.resp_device.specs.declared.object_record.Kept.{Kept}
 use Rattle.resp_device.specs.Digests.{digest_under, GivesAlike}
 use Rattle.resp_device.specs.Objects.{kept_at, bytes_of, contents_of, state_of, ChangesAt, IsSound}
 use Rattle.resp_device.proofs.Contents.{contains_key-contents_of, get-at_kept, contents_of-insert, contents_of-remove, same_elsewhere, absent_stays, changed_twice}

@@ -9,7 +9,7 @@ use Rattle.std.specs.FinMap.{find, get, contains_key, insert, remove, len, len-e
 use Rattle.std.proofs.lemmas.Bool.Decides.{eqb_tells}
 use Rattle.std.proofs.lemmas.Map.Made.{lookup-map_values}
 use Rattle.far_device.specs.DeviceState.{SameExceptAt}
-use Rattle.resp_device.specs.declared.kept.Kept.{Kept}
+use Rattle.resp_device.specs.declared.object_record.Kept.{Kept}
 use Rattle.resp_device.specs.Objects.{bytes_of, kept_at, contents_of, ChangesAt}
 
 -- the bytes of what is kept, if there is something

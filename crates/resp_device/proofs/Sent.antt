@@ -4,7 +4,7 @@ use denote.Param.Send.{IsSend, sendable}
 use denote.Param.SendFields.{declared_send, FieldsHave}
 use Rattle.std.proofs.Crossing as vecs
 use Rattle.std.proofs.MapsCrossing as maps
-use Rattle.resp_device.specs.contracts.kept.Kept as Kept
+use Rattle.resp_device.specs.contracts.object_record.Kept as Kept
 use Rattle.resp_device.specs.contracts.index.Index as Index
 use Rattle.resp_device.specs.contracts.link.Link as Link
 use Rattle.resp_device.specs.contracts.requests.Requests as Requests

@@ -3,7 +3,7 @@ use Rattle.std.specs.Prelude.{ℕ, Bool, List, Option}
 use Rattle.std.specs.declared.random_state.RandomState.{RandomState}
 use Rattle.far_device.specs.DeviceState.{DeviceState, Contents}
 use Rattle.resp_device.specs.declared.device.RespDevice.{RespDevice}
-use Rattle.resp_device.specs.declared.fault.Failure.{Failure}
+use Rattle.resp_device.specs.declared.fault.StoreFailure.{StoreFailure}
 use Rattle.resp_device.specs.Objects.{contents_of}
 use Rattle.resp_device.specs.Wire.{key_of}
 
@@ -27,7 +27,7 @@ module _ {P : Type 0} where
   is_live_in device = device.link.live
 
   -- why the last call failed that did
-  abbrev pub last_in : RespDevice P → Option Failure
+  abbrev pub last_in : RespDevice P → Option StoreFailure
   last_in device = device.failures.last
 
   -- the number that its keys in the store begin with

@@ -4,7 +4,7 @@ use Rattle.std.specs.Map.{lookup}
 use Rattle.std.specs.FinMap.{from_entries}
 use Rattle.std.specs.declared.random_state.RandomState.{RandomState}
 use Rattle.far_device.specs.DeviceState.{DeviceState, Contents}
-use Rattle.resp_device.specs.declared.kept.Kept.{Kept}
+use Rattle.resp_device.specs.declared.object_record.Kept.{Kept}
 use Rattle.resp_device.specs.Digests.{digest_under}
 
 -- what was written

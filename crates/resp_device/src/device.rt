@@ -9,12 +9,12 @@ ghost use Rattle.resp_device.specs.Failures.{LivesOn};
 ghost use Rattle.resp_device.specs.Objects.{AreSound};
 ghost use Rattle.resp_device.specs.Wire.{IsStored, IsFetched, IsDeleted};
 
-use crate::Failure;
+use crate::StoreFailure;
 use crate::digest::are_alike;
 use crate::failures::Failures;
 use crate::index::Index;
-use crate::kept::{Kept, LONGEST};
 use crate::link::{Link, part};
+use crate::object_record::{Kept, LONGEST};
 use crate::requests::Requests;
 use far_device::{Device, DeviceFault};
 use std::alloc::{AllocError, Global};
@@ -67,7 +67,7 @@ impl<P: Read + Write + Drop> RespDevice<P> {
     }
 
     /// Why the last call that answered `Failed` did so, and none before there was one.
-    pub fn last_failure(&self) -> Option<Failure>
+    pub fn last_failure(&self) -> Option<StoreFailure>
         ensures { result ≡ last_in self.now }
     {
         self.failures.last
@@ -142,10 +142,10 @@ impl<P: Read + Write + Drop> Device for RespDevice<P> {
             (is_live_in self.old) (is_live_in self.new) }
     {
         if bytes.len() > LONGEST {
-            return Err(self.failures.add(Failure::TooLong));
+            return Err(self.failures.add(StoreFailure::TooLong));
         }
         if !self.link.live {
-            return Err(self.failures.add(Failure::Broken));
+            return Err(self.failures.add(StoreFailure::Broken));
         }
         self.scratch.clear();
         self.scratch.extend_from_slice(bytes)?;
@@ -190,7 +190,7 @@ impl<P: Read + Write + Drop> Device for RespDevice<P> {
         };
         let bytes = part(&self.link.room, span);
         if !are_alike(&self.keys, bytes, len, digest) {
-            return Err(self.failures.add(Failure::Damaged));
+            return Err(self.failures.add(StoreFailure::Damaged));
         }
         out.extend_from_slice(bytes)?;
         Ok(true)

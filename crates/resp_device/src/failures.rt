@@ -1,14 +1,14 @@
 //! How often a device failed.
 ghost use Rattle.std.specs.Prelude.{◌≡◌, ◌+◌, ◌-◌, ◌^◌, min, Some};
 
-use crate::Failure;
+use crate::StoreFailure;
 use far_device::DeviceFault;
 
 /// The count, and why it last rose.
 #[derive(Drop)]
 pub(crate) struct Failures {
     pub(crate) count: u64,
-    pub(crate) last: Option<Failure>,
+    pub(crate) last: Option<StoreFailure>,
 }
 
 impl Failures {
@@ -22,7 +22,7 @@ impl Failures {
     }
 
     /// Counts a failure. A count of 2^64 - 1 stays.
-    pub(crate) fn add(&mut self, why: Failure) -> DeviceFault
+    pub(crate) fn add(&mut self, why: StoreFailure) -> DeviceFault
         ensures failed { result ≡ DeviceFault.Failed }
         ensures counted { self.new.count ≡ min (self.old.count + 1) (2 ^ 64 - 1) }
         ensures last { self.new.last ≡ Some why }

@@ -6,7 +6,7 @@ use thiserror::Error;
 /// Why a call of a `RespDevice` answered `Failed`. From `Wrong` on the pipes are used no more, until
 /// the device gets others.
 #[derive(Clone, Copy, Debug, PartialEq, Eq, Error)]
-pub enum Failure {
+pub enum StoreFailure {
     /// The object is longer than 64 MiB.
     #[error("an object is too long")]
     TooLong,
@@ -47,7 +47,7 @@ pub enum Failure {
 
 /// Why a device could not be opened.
 #[derive(Clone, Copy, Debug, PartialEq, Eq, Error)]
-pub enum OpenFault {
+pub enum StoreOpenFault {
     /// A growth of memory was refused.
     #[error("memory")]
     Memory,
@@ -56,8 +56,8 @@ pub enum OpenFault {
     Io(ErrorKind),
 }
 
-impl From<AllocError> for OpenFault {
-    fn from(_refused: AllocError) -> OpenFault {
-        OpenFault::Memory
+impl From<AllocError> for StoreOpenFault {
+    fn from(_refused: AllocError) -> StoreOpenFault {
+        StoreOpenFault::Memory
     }
 }

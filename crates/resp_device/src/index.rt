@@ -4,7 +4,7 @@ ghost use Rattle.std.specs.FinMap.{len};
 ghost use Rattle.std.specs.Option.{option_copied};
 ghost use Rattle.resp_device.specs.Objects.{contents_of, kept_at, ChangesAt};
 
-use crate::kept::Kept;
+use crate::object_record::Kept;
 use std::alloc::{AllocError, Global};
 use std::collections::HashMap;
 

@@ -3,18 +3,18 @@
 
 mod device;
 mod digest;
+mod exchange;
 mod failures;
 mod fault;
 mod index;
-mod kept;
 mod laws;
 mod link;
-mod moving;
+mod object_record;
 mod opening;
 mod pipes;
 mod requests;
 
 pub use device::RespDevice;
-pub use fault::{Failure, OpenFault};
+pub use fault::{StoreFailure, StoreOpenFault};
 pub use laws::keys_are_apart;
 pub use pipes::Pipes;

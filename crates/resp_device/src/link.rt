@@ -5,8 +5,8 @@ ghost use Rattle.resp.specs.Replies.{token, token_in, Simple, Number, String};
 ghost use Rattle.resp_device.specs.Failures.{live_after, Breaks};
 ghost use Rattle.resp_device.specs.Wire.{Exchanges, IsWhole, limits_of};
 
-use crate::Failure;
-use crate::moving::{receive, send};
+use crate::StoreFailure;
+use crate::exchange::{receive, send};
 use resp::{Limits, Span, Token};
 use std::alloc::{AllocError, Global};
 use std::io::{Read, Write};
@@ -79,17 +79,17 @@ impl<P: Read + Write + Drop> Link<P> {
     }
 
     /// Sends the request and takes the reply to it, which lies in `room`. Broken pipes are not used.
-    fn exchange(&mut self, request: &[u8], most: u32) -> Result<Token, Failure>
+    fn exchange(&mut self, request: &[u8], most: u32) -> Result<Token, StoreFailure>
         ensures exchanged { IfOk result (λ read. Exchanges P.contents P.remaining
             self.old.pipes self.new.pipes request.now (token (token_in self.new.room.items read))) }
         ensures whole { IfOk result (λ read. IsWhole (limits_of most) self.new.room.items read) }
         ensures live { OnOk result ((self.old.live ≡ true) × (self.new.live ≡ true)) }
         ensures failed { IfErr result (λ why. Breaks why × (self.new.live ≡ false)) }
         ensures broken { self.old.live ≡ false
-            → (result ≡ Err Failure.Broken) × (self.new ≡ self.old) }
+            → (result ≡ Err StoreFailure.Broken) × (self.new ≡ self.old) }
     {
         if !self.live {
-            return Err(Failure::Broken);
+            return Err(StoreFailure::Broken);
         }
         // A call that ends early leaves them so.
         self.live = false;
@@ -101,28 +101,28 @@ impl<P: Read + Write + Drop> Link<P> {
     }
 
     /// Why the reply is not the wanted one. Behind an error the pipes can be used, else no more.
-    fn refuse(&mut self, token: Token) -> Failure
+    fn refuse(&mut self, token: Token) -> StoreFailure
         requires { self.old.live ≡ true }
         ensures pipes { self.new.pipes ≡ self.old.pipes }
         ensures live { self.new.live ≡ live_after result self.old.live }
     {
         match token {
-            Token::Failure(_) => Failure::Refused,
+            Token::Failure(_) => StoreFailure::Refused,
             _ => {
                 self.live = false;
-                Failure::Wrong
+                StoreFailure::Wrong
             }
         }
     }
 
     /// Sends a request that is replied `+OK`.
-    pub(crate) fn store(&mut self, request: &[u8]) -> Result<(), Failure>
+    pub(crate) fn store(&mut self, request: &[u8]) -> Result<(), StoreFailure>
         ensures stored { OnOk result (Exchanges P.contents P.remaining
             self.old.pipes self.new.pipes request.now (token (Simple (79 ∷ 75 ∷ [])))) }
         ensures live { OnOk result ((self.old.live ≡ true) × (self.new.live ≡ true)) }
         ensures failed { IfErr result (λ why. self.new.live ≡ live_after why self.old.live) }
         ensures broken { self.old.live ≡ false
-            → (result ≡ Err Failure.Broken) × (self.new ≡ self.old) }
+            → (result ≡ Err StoreFailure.Broken) × (self.new ≡ self.old) }
     {
         let token = self.exchange(request, 0)?;
         if let Token::Simple(span) = token
@@ -135,7 +135,7 @@ impl<P: Read + Write + Drop> Link<P> {
 
     /// Sends a request that is replied a string, of so many bytes at most, and says where in `room` it
     /// lies.
-    pub(crate) fn fetch(&mut self, request: &[u8], most: u32) -> Result<Span, Failure>
+    pub(crate) fn fetch(&mut self, request: &[u8], most: u32) -> Result<Span, StoreFailure>
         ensures fetched { IfOk result (λ span. Exchanges P.contents P.remaining
             self.old.pipes self.new.pipes request.now
             (token (String (argument_in self.new.room.items span)))) }
@@ -146,23 +146,23 @@ impl<P: Read + Write + Drop> Link<P> {
         ensures live { OnOk result ((self.old.live ≡ true) × (self.new.live ≡ true)) }
         ensures failed { IfErr result (λ why. self.new.live ≡ live_after why self.old.live) }
         ensures broken { self.old.live ≡ false
-            → (result ≡ Err Failure.Broken) × (self.new ≡ self.old) }
+            → (result ≡ Err StoreFailure.Broken) × (self.new ≡ self.old) }
     {
         match self.exchange(request, most)? {
             Token::String(span) => Ok(span),
-            Token::Nothing => Err(Failure::Lost),
+            Token::Nothing => Err(StoreFailure::Lost),
             token => Err(self.refuse(token)),
         }
     }
 
     /// Sends a request that is replied how many keys it was about, 0 or 1.
-    pub(crate) fn count(&mut self, request: &[u8]) -> Result<(), Failure>
+    pub(crate) fn count(&mut self, request: &[u8]) -> Result<(), StoreFailure>
         ensures counted { OnOk result ((n : ℕ) × (n ≤ 1) × Exchanges P.contents P.remaining
             self.old.pipes self.new.pipes request.now (token (Number (pos n)))) }
         ensures live { OnOk result ((self.old.live ≡ true) × (self.new.live ≡ true)) }
         ensures failed { IfErr result (λ why. self.new.live ≡ live_after why self.old.live) }
         ensures broken { self.old.live ≡ false
-            → (result ≡ Err Failure.Broken) × (self.new ≡ self.old) }
+            → (result ≡ Err StoreFailure.Broken) × (self.new ≡ self.old) }
     {
         match self.exchange(request, 0)? {
             Token::Number(0) => Ok(()),

@@ -3,10 +3,10 @@ ghost use Rattle.std.specs.Prelude.{◌≡◌, false};
 ghost use Rattle.version_words.specs.Rows.{limits_of};
 
 mod calls;
-mod held;
+mod holdings;
+mod other_reader;
 mod readers;
-mod reading;
-mod shared;
+mod threads;
 mod user;
 mod versions;
 

@@ -1,13 +1,13 @@
 //! Cases of lanes: of a row of words, and of devices that each has a lane.
-mod broken;
+mod broken_device;
 mod calls;
 mod devices;
 mod disk;
+mod gates;
 mod opening;
-mod reading;
-mod shared;
+mod other_reader;
 mod store;
+mod threads;
 mod user;
-mod waiting;
 
 pub use opening::play;

@@ -2,7 +2,7 @@
 #![tactic(auto)]
 
 mod frames;
-mod held;
+mod holdings;
 mod lanes;
 mod replies;
 mod rows;

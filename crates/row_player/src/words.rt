@@ -2,13 +2,13 @@
 ghost use Rattle.std.specs.Prelude.{◌≡◌, false};
 ghost use Rattle.version_words.specs.Rows.{limits_of};
 
+mod all_passes;
 mod calls;
-mod gathered;
-mod held;
+mod holdings;
 mod installs;
-mod shared;
+mod threads;
 mod user;
-mod vouched;
+mod vouched_row;
 
 use crate::replies::tell_opened;
 use crate::rows::{Unvouched, opened};
@@ -19,7 +19,7 @@ use std::marker::Brand;
 use std::thread::Threads;
 use user::User;
 use version_words::{Naming, Opened};
-pub use vouched::play_vouched;
+pub use vouched_row::play_vouched;
 
 /// Plays the case of an opening `row`.
 pub fn play<R: Threads + Sync>(rt: &R, alloc: Global, opening: &Line, playing: &mut Playing<'_>) {

@@ -4,7 +4,7 @@ use mathlib.Core.List.{IsPrefix}
 use Rattle.command_file.specs.declared.command.Command.{Command}
 use Rattle.command_file.specs.declared.command.Command.TheVariants.{Map, Table}
 use Rattle.command_file.specs.declared.command.MapCommand.{MapCommand}
-use Rattle.run_lines.specs.declared.refusal.Refusal.{Refusal}
+use Rattle.run_lines.specs.declared.refusal.LineRefusal.{LineRefusal}
 use Rattle.run_lines.specs.Calls.{Asked, Call, calls_by, operation_of}
 use Rattle.run_lines.specs.Replies.{Place, AnsweredAt, RefusedAt, RepliedFrom, IsTableLine, held_by, text_of}
 
@@ -16,7 +16,7 @@ place_later h h' p done pre at = record {
   past = at.past;
 }
 
-module _ (MayReply : List Call → MapCommand → Result (Option (List ℕ)) Refusal → Type 0) where
+module _ (MayReply : List Call → MapCommand → Result (Option (List ℕ)) LineRefusal → Type 0) where
   answered_later : (h h' : List Call) (p : ℕ) (done : List Asked) (c : MapCommand) (answer : Option (List ℕ)) → IsPrefix h h' → AnsweredAt MayReply h p done c answer → AnsweredAt MayReply h' p done c answer
   answered_later h h' p done c answer pre at = record {
     before = at.before;

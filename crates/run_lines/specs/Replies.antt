@@ -8,8 +8,8 @@ use Rattle.command_file.specs.declared.command.MapCommand.{MapCommand}
 use Rattle.command_file.specs.declared.command.MapCommand.TheVariants as command
 use Rattle.command_file.specs.declared.command.TableCommand.{TableCommand}
 use Rattle.command_file.specs.declared.command.TableCommand.TheVariants as table
-use Rattle.run_lines.specs.declared.refusal.Refusal.{Refusal}
-use Rattle.run_lines.specs.declared.refusal.Refusal.TheVariants as refusal
+use Rattle.run_lines.specs.declared.refusal.LineRefusal.{LineRefusal}
+use Rattle.run_lines.specs.declared.refusal.LineRefusal.TheVariants as refusal
 use Rattle.run_lines.specs.Calls.{Asked, Call, calls_by, operation_of}
 
 -- ---- texts
@@ -19,7 +19,7 @@ abbrev pub text_of : Option (List ℕ) → List ℕ
 text_of None = codes "none"
 text_of (Some value) = value
 
-abbrev pub refusal_text : Refusal → List ℕ
+abbrev pub refusal_text : LineRefusal → List ℕ
 refusal_text refusal.Memory = codes "memory"
 refusal_text refusal.TooLong = codes "too long"
 refusal_text refusal.NamesSpent = codes "names spent"
@@ -30,7 +30,7 @@ refusal_text refusal.Full = codes "full"
 refusal_text refusal.HeldAlready = codes "held already"
 
 -- the line of a reply
-abbrev pub line_of : Result (Option (List ℕ)) Refusal → List ℕ
+abbrev pub line_of : Result (Option (List ℕ)) LineRefusal → List ℕ
 line_of (Ok answer) = text_of answer
 line_of (Err why) = refusal_text why
 
@@ -46,7 +46,7 @@ released_text (Some value) = codes "released"
 
 -- an object went to a device, none might, or the reason why none did
 abbrev pub IsEvictLine : List ℕ → Type 0
-IsEvictLine line = (line ≡ codes "evicted") ⊎ ((line ≡ codes "nothing") ⊎ ((why : Refusal) × (line ≡ refusal_text why)))
+IsEvictLine line = (line ≡ codes "evicted") ⊎ ((line ≡ codes "nothing") ⊎ ((why : LineRefusal) × (line ≡ refusal_text why)))
 
 -- where an object lies, and its name
 abbrev pub IsPlaceLine : List ℕ → Type 0
@@ -87,7 +87,7 @@ pub record Place (calls : List Call) (p : ℕ) (done : List Asked) : Type 0 wher
   pub past : calls_by p before ≡ done
 
 -- MayReply: what a command may be replied at a beginning of the history
-module _ (MayReply : List Call → MapCommand → Result (Option (List ℕ)) Refusal → Type 0) where
+module _ (MayReply : List Call → MapCommand → Result (Option (List ℕ)) LineRefusal → Type 0) where
   -- the pass called the command's operation behind those that it had done, and the answer is the map's of all that stood before it, where it may be answered so
   pub record AnsweredAt (calls : List Call) (p : ℕ) (done : List Asked) (c : MapCommand) (answer : Option (List ℕ)) : Type 0 where
     pub before : List Call
@@ -99,7 +99,7 @@ module _ (MayReply : List Call → MapCommand → Result (Option (List ℕ)) Ref
 
   -- the line is that of a refusal which came where the pass had made just these calls
   pub record RefusedAt (calls : List Call) (p : ℕ) (done : List Asked) (c : MapCommand) (line : List ℕ) : Type 0 where
-    pub why : Refusal
+    pub why : LineRefusal
     pub line_is : line ≡ refusal_text why
     pub place : Place calls p done
     pub may : MayReply place.before c (Err why)

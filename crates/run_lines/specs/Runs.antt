@@ -5,7 +5,7 @@ use Rattle.far_object.specs.Encodings.{enc_text}
 use Rattle.table_core.specs.Maps.{map_of}
 use Rattle.command_file.specs.declared.command.Command.{Command}
 use Rattle.command_file.specs.declared.command.MapCommand.{MapCommand}
-use Rattle.run_lines.specs.declared.refusal.Refusal.{Refusal}
+use Rattle.run_lines.specs.declared.refusal.LineRefusal.{LineRefusal}
 use Rattle.run_lines.specs.Calls.{Call, calls_by}
 use Rattle.run_lines.specs.Replies.{RepliedIn}
 use Rattle.run_lines.specs.Output.{output}
@@ -22,7 +22,7 @@ AreApart [] = ⊤
 AreApart (p ∷ passes) = AllByRecursion (λ q. p ≢ q) passes × AreApart passes
 
 -- the text is what one history replies to the files, each by a pass of its own, and the contents behind them; the history has no other call
-pub record Ran (MayReply : List Call → MapCommand → Result (Option (List ℕ)) Refusal → Type 0) (files : List (List Command)) (text : List ℕ) : Type 0 where
+pub record Ran (MayReply : List Call → MapCommand → Result (Option (List ℕ)) LineRefusal → Type 0) (files : List (List Command)) (text : List ℕ) : Type 0 where
   pub calls : List Call
   pub all : List Worked
   pub files_are : map (λ w. w.commands) all ≡ files

@@ -2,13 +2,13 @@
 #![tactic(auto)]
 
 mod lines;
+mod output;
 mod pair;
 mod refusal;
 mod reply;
-mod writing;
 
 pub use lines::PairLines;
+pub use output::{write_contents, write_files};
 pub use pair::Pair;
-pub use refusal::Refusal;
+pub use refusal::LineRefusal;
 pub use reply::{push_line, reply_text};
-pub use writing::{write_contents, write_files};

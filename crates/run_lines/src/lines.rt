@@ -4,8 +4,8 @@ ghost use Rattle.std.specs.Io.KnownBytes.{Appends};
 ghost use Rattle.far_pairs.specs.Bundles.{all_of};
 ghost use Rattle.run_lines.specs.Output.{written, pair_line};
 
+use crate::output::write_pairs;
 use crate::pair::Pair;
-use crate::writing::write_pairs;
 use far_object::Memory;
 use rayon::iter::{
     FromParallelIterator, IndexedParallelIterator, IntoParallelRefIterator, ParallelIterator,

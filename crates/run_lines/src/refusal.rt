@@ -1,13 +1,13 @@
 //! Why a command made no call.
 ghost use Rattle.std.specs.Prelude.{◌≡◌};
-ghost use Rattle.run_lines.specs.declared.refusal.Refusal.TheVariants.{Memory as refusal_memory};
+ghost use Rattle.run_lines.specs.declared.refusal.LineRefusal.TheVariants.{Memory as refusal_memory};
 
 use far_object::Memory;
 use thiserror::Error;
 
 /// Why a command was refused. Its text is the command's reply.
 #[derive(Clone, Copy, Debug, PartialEq, Eq, Error)]
-pub enum Refusal {
+pub enum LineRefusal {
     /// A growth was refused.
     #[error("memory")]
     Memory,
@@ -34,15 +34,15 @@ pub enum Refusal {
     HeldAlready,
 }
 
-impl From<Memory> for Refusal {
+impl From<Memory> for LineRefusal {
     ghost from_gives = { λ _ refusal. refusal ≡ refusal_memory };
 
-    fn from(_refused: Memory) -> Refusal {
-        Refusal::Memory
+    fn from(_refused: Memory) -> LineRefusal {
+        LineRefusal::Memory
     }
 }
 
-impl Refusal {
+impl LineRefusal {
     ghost use Rattle.run_lines.specs.Replies.{refusal_text};
 
     /// The text of the reply.
@@ -50,14 +50,14 @@ impl Refusal {
         ensures { result.now ≡ refusal_text self }
     {
         match self {
-            Refusal::Memory => b"memory",
-            Refusal::TooLong => b"too long",
-            Refusal::NamesSpent => b"names spent",
-            Refusal::LimboFull => b"limbo full",
-            Refusal::Device => b"device",
-            Refusal::Damaged => b"damaged",
-            Refusal::Full => b"full",
-            Refusal::HeldAlready => b"held already",
+            LineRefusal::Memory => b"memory",
+            LineRefusal::TooLong => b"too long",
+            LineRefusal::NamesSpent => b"names spent",
+            LineRefusal::LimboFull => b"limbo full",
+            LineRefusal::Device => b"device",
+            LineRefusal::Damaged => b"damaged",
+            LineRefusal::Full => b"full",
+            LineRefusal::HeldAlready => b"held already",
         }
     }
 }

@@ -2,11 +2,11 @@
 ghost use Rattle.std.specs.Prelude.{◌≡◌, ◌++◌, [], ◌∷◌, OnOk};
 ghost use Rattle.run_lines.specs.Replies.{line_of};
 
-use crate::refusal::Refusal;
+use crate::refusal::LineRefusal;
 use far_object::{Memory, Text};
 
 /// The text of a reply: the value, `none`, or why the command was refused.
-pub fn reply_text(reply: &Result<Option<Text>, Refusal>) -> &[u8]
+pub fn reply_text(reply: &Result<Option<Text>, LineRefusal>) -> &[u8]
     ensures { result.now ≡ line_of reply.now }
 {
     match reply {

@@ -2,7 +2,7 @@
 ghost use Rattle.std.specs.Prelude.{◌≡◌, ◌≤◌, ◌*◌, length, count_by, OnOk, OnErr};
 ghost use Rattle.server_commands.specs.Replying.{Replies, Grows};
 
-use crate::pushing::{count_asked, put_count, put_string, put_word, restored};
+use crate::reply_parts::{count_asked, put_count, put_string, put_word, restored};
 use crate::table::{COMMANDS, Row, rows};
 use commands::Arguments;
 use std::alloc::AllocError;

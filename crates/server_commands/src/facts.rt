@@ -6,7 +6,7 @@ pub struct Facts {
     pub now: u64,
     pub started: u64,
     /// Threads that answer.
-    pub lanes: u32,
+    pub workers: u32,
     /// 0 for none.
     pub port: u32,
     /// Connections that there are.
@@ -91,7 +91,7 @@ pub struct Options {
     /// 0 for none.
     pub port: u32,
     /// `io-threads`.
-    pub lanes: u32,
+    pub workers: u32,
 }
 
 /// The name that Redis has for what happens where there is no room.

@@ -5,8 +5,8 @@ ghost use Rattle.server_commands.specs.Replying.{Replies, Tells, Grows};
 ghost use Rattle.server_commands.specs.Greeting.{greeting as greeting_lem};
 
 use crate::facts::REDIS_VERSION;
-use crate::pushing::{put_count, put_number, put_string, put_word, restored};
-use commands::Fault;
+use crate::reply_parts::{put_count, put_number, put_string, put_word, restored};
+use commands::CommandFault;
 use resp::{push_count, push_failure, push_number};
 use std::alloc::AllocError;
 
@@ -71,8 +71,8 @@ pub fn slow_log_len(out: &mut Vec<u8>) -> Result<(), AllocError>
     push_number(out, 0)
 }
 
-/// The error's text, as `Fault::push_text` has it, which has neither CR nor LF. After want of memory `out` has what it had.
-pub fn fault(fault: Fault<'_>, out: &mut Vec<u8>) -> Result<(), AllocError>
+/// The error's text, as `CommandFault::push_text` has it, which has neither CR nor LF. After want of memory `out` has what it had.
+pub fn fault(fault: CommandFault<'_>, out: &mut Vec<u8>) -> Result<(), AllocError>
     ensures done { OnOk result ((text : List ℕ) × (out.new.items ≡ out.old.items ++ token (Failure text))) }
     ensures kept { OnErr result (out.new.items ≡ out.old.items) }
 {

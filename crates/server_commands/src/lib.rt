@@ -1,21 +1,21 @@
 //! What the commands to the server itself reply, from what the server knows of itself.
 #![tactic(auto)]
 
-mod configuring;
+mod command_list;
+mod config;
 mod docs;
 mod facts;
 mod far;
 mod greeting;
-mod listing;
+mod info;
 mod page;
-mod pushing;
+mod reply_parts;
 mod sizes;
 mod table;
-mod telling;
 
-pub use configuring::config_get;
+pub use command_list::{command_count, command_list};
+pub use config::config_get;
 pub use docs::command_docs;
 pub use facts::{Facts, Options};
 pub use greeting::{fault, hello, slow_log_get, slow_log_len};
-pub use listing::{command_count, command_list};
-pub use telling::info;
+pub use info::info;

@@ -108,8 +108,8 @@ fn push_server(facts: &Facts, text: &mut Vec<u8>) -> Result<(), AllocError> {
             ("server_time_usec", facts.now.saturating_mul(SECOND)),
             ("uptime_in_seconds", up / SECOND),
             ("uptime_in_days", up / DAY),
-            ("io_threads_active", u64::from(facts.lanes > 1)),
-            ("lanes", u64::from(facts.lanes)),
+            ("io_threads_active", u64::from(facts.workers > 1)),
+            ("lanes", u64::from(facts.workers)),
         ],
     )
 }

@@ -23,7 +23,7 @@ const PATIENCE: u64 = 60;
 
 /// What was asked: by which client, and how often.
 #[derive(Clone, Copy)]
-struct Asked {
+struct SentRequest {
     client: usize,
     count: u64,
 }
@@ -57,8 +57,8 @@ fn repeated(line: &Line) -> Result<(u64, &[Vec<u8>])> {
 
 impl<'a, R> Player<'a, R> {
     pub fn new(rt: &'a R, alloc: Global, opening: &Opening, stage: &'a Stage) -> Result<Self> {
-        let lanes = opening.settings.lanes;
-        let gateway = Gateway::new(rt, alloc, &stage.wires, lanes, opening.pieces)?;
+        let workers = opening.settings.workers;
+        let gateway = Gateway::new(rt, alloc, &stage.wires, workers, opening.pieces)?;
         Ok(Player {
             rt,
             alloc,
@@ -112,17 +112,17 @@ impl<'a, R: Wait + Clock> Player<'a, R> {
     }
 
     /// Sends a line's request so often.
-    fn send(&mut self, line: &Line, words: &[Vec<u8>], count: u64) -> Result<Asked> {
+    fn send(&mut self, line: &Line, words: &[Vec<u8>], count: u64) -> Result<SentRequest> {
         let client = self.client(line)?;
         let request = request_of(self.alloc, words)?;
         for _ in 0..count {
             self.gateway.send(client, request.as_slice())?;
         }
-        Ok(Asked { client, count })
+        Ok(SentRequest { client, count })
     }
 
     /// Sends what a line asks for.
-    fn send_line(&mut self, line: &Line) -> Result<Asked> {
+    fn send_line(&mut self, line: &Line) -> Result<SentRequest> {
         match line.call() {
             "times" => {
                 let (count, words) = repeated(line)?;
@@ -132,7 +132,7 @@ impl<'a, R: Wait + Clock> Player<'a, R> {
                 let client = self.client(line)?;
                 let bytes = line.word(1).unwrap_or(b"");
                 self.gateway.send(client, bytes)?;
-                Ok(Asked { client, count: 1 })
+                Ok(SentRequest { client, count: 1 })
             }
             _ if is_request(line.word(0).unwrap_or(b"")) => { self.send(line, line.rest(0), 1) }
             _ => bail!("no such call: tests/cases/server/README.md has them"),
@@ -140,7 +140,7 @@ impl<'a, R: Wait + Clock> Player<'a, R> {
     }
 
     /// What was replied to what was asked.
-    fn hear(&mut self, asked: Asked) -> Result<String> {
+    fn hear(&mut self, asked: SentRequest) -> Result<String> {
         let mut summary = Summary::new(self.alloc);
         for _ in 0..asked.count {
             match self.gateway.reply(asked.client)? {
@@ -211,7 +211,7 @@ impl<'a, R: Wait + Clock> Player<'a, R> {
         Ok(format!(in self.alloc; "{text}")?)
     }
 
-    /// `ends`: all clients leave, and how each lane ends.
+    /// `ends`: all clients leave, and how each worker ends.
     fn end(&mut self) -> Result<String> {
         self.gateway.end()?;
         match self

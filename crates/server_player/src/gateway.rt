@@ -1,4 +1,4 @@
-//! The clients of a case, and the gateway between them and the lanes.
+//! The clients of a case, and the gateway between them and the workers.
 
 use crate::packets::{CLOSE, DATA, OPEN, Packet, WAKE, first_packet, push_packet};
 use crate::replies::{Told, first_reply};
@@ -23,39 +23,39 @@ const LOOKS: u32 = 10_000_000;
 #[derive(Drop)]
 struct Client {
     name: Vec<u8>,
-    lane: usize,
-    /// The number of its connection among those of the lane.
+    worker: usize,
+    /// The number of its connection among those of the worker.
     number: u64,
     /// What was sent to it, and was not told.
     replies: Vec<u8>,
-    /// Whether the gateway has closed the connection, and whether the lane has.
+    /// Whether the gateway has closed the connection, and whether the worker has.
     has_left: bool,
     is_closed: bool,
 }
 
-/// The clients of a case, and the gateway between them and the lanes.
+/// The clients of a case, and the gateway between them and the workers.
 #[derive(Drop)]
 pub struct Gateway<'a, R> {
     rt: &'a R,
     alloc: Global,
     wires: &'a Wires,
     pieces: usize,
-    /// Of each lane what it wrote, without whole packets.
+    /// Of each worker what it wrote, without whole packets.
     unread: Vec<Vec<u8>>,
     clients: Vec<Client>,
 }
 
 impl<'a, R> Gateway<'a, R> {
-    /// Before so many lanes. Requests go in pieces of so many bytes with a wake behind each, or as a whole where these are none.
+    /// Before so many workers. Requests go in pieces of so many bytes with a wake behind each, or as a whole where these are none.
     pub fn new(
         rt: &'a R,
         alloc: Global,
         wires: &'a Wires,
-        lanes: u32,
+        workers: u32,
         pieces: usize,
     ) -> Result<Self> {
         let mut unread = Vec::new(alloc);
-        for _ in 0..lanes {
+        for _ in 0..workers {
             unread.push(Vec::new(alloc))?;
         }
         Ok(Gateway {
@@ -90,23 +90,21 @@ impl<'a, R> Gateway<'a, R> {
     }
 
     /// The client of a connection.
-    fn client_of(&mut self, lane: usize, number: u64) -> Option<&mut Client> {
-        let place = self
-            .clients
-            .iter()
-            .position(|client| client.lane == lane && client.number == number)?;
+    fn client_of(&mut self, worker: usize, number: u64) -> Option<&mut Client> {
+        let place = self.clients.iter().position(|client| client.worker == worker
+            && client.number == number)?;
         self.clients.get_mut(place)
     }
 }
 
 impl<'a, R: Wait + Clock> Gateway<'a, R> {
-    fn send_packet(&self, lane: usize, kind: u8, number: u64) -> Result<()> {
+    fn send_packet(&self, worker: usize, kind: u8, number: u64) -> Result<()> {
         let mut packet = Vec::new(self.alloc);
         push_packet(&mut packet, kind, number, b"")?;
-        self.wires.send(self.rt, lane, packet.as_slice())
+        self.wires.send(self.rt, worker, packet.as_slice())
     }
 
-    /// The place of the client of this name. A new one connects: clients go to the lanes in turn.
+    /// The place of the client of this name. A new one connects: clients go to the workers in turn.
     pub fn client(&mut self, name: &[u8]) -> Result<usize> {
         let place = self
             .clients
@@ -116,20 +114,20 @@ impl<'a, R: Wait + Clock> Gateway<'a, R> {
             return Ok(place);
         }
         let place = self.clients.len();
-        let lane = place.checked_rem(self.unread.len()).unwrap_or(0);
-        let others = self.clients.iter().filter(|client| client.lane == lane);
+        let worker = place.checked_rem(self.unread.len()).unwrap_or(0);
+        let others = self.clients.iter().filter(|client| client.worker == worker);
         let number = others.count() as u64;
         let mut own = Vec::new(self.alloc);
         own.extend_from_slice(name)?;
         self.clients.push(Client {
             name: own,
-            lane,
+            worker,
             number,
             replies: Vec::new(self.alloc),
             has_left: false,
             is_closed: false,
         })?;
-        self.send_packet(lane, OPEN, number)?;
+        self.send_packet(worker, OPEN, number)?;
         Ok(place)
     }
 
@@ -139,7 +137,7 @@ impl<'a, R: Wait + Clock> Gateway<'a, R> {
         if client.has_left {
             return Ok(());
         }
-        let (lane, number) = (client.lane, client.number);
+        let (worker, number) = (client.worker, client.number);
         let size = if self.pieces == 0 {
             LARGEST
         } else {
@@ -152,18 +150,18 @@ impl<'a, R: Wait + Clock> Gateway<'a, R> {
                 push_packet(&mut packets, WAKE, 0, b"")?;
             }
         }
-        self.wires.send(self.rt, lane, packets.as_slice())
+        self.wires.send(self.rt, worker, packets.as_slice())
     }
 
-    /// Takes a packet of a lane.
-    fn take(&mut self, lane: usize, packet: Packet<'_>) -> Result<()> {
+    /// Takes a packet of a worker.
+    fn take(&mut self, worker: usize, packet: Packet<'_>) -> Result<()> {
         if packet.kind == WAKE {
             for other in 0..self.unread.len() {
                 self.send_packet(other, WAKE, 0)?;
             }
             return Ok(());
         }
-        let Some(client) = self.client_of(lane, packet.number) else {
+        let Some(client) = self.client_of(worker, packet.number) else {
             return Ok(());
         };
         if packet.kind == DATA {
@@ -174,15 +172,15 @@ impl<'a, R: Wait + Clock> Gateway<'a, R> {
             let answers = !client.has_left;
             client.has_left = true;
             if answers {
-                self.send_packet(lane, CLOSE, packet.number)?;
+                self.send_packet(worker, CLOSE, packet.number)?;
             }
         }
         Ok(())
     }
 
-    /// Takes the whole packets that a lane wrote.
-    fn take_all(&mut self, lane: usize) -> Result<()> {
-        let Some(unread) = self.unread.get_mut(lane) else {
+    /// Takes the whole packets that a worker wrote.
+    fn take_all(&mut self, worker: usize) -> Result<()> {
+        let Some(unread) = self.unread.get_mut(worker) else {
             return Ok(());
         };
         let bytes = mem::replace(unread, Vec::new(self.alloc));
@@ -191,16 +189,16 @@ impl<'a, R: Wait + Clock> Gateway<'a, R> {
             let Some(packet) = first_packet(rest) else {
                 break;
             };
-            self.take(lane, packet)?;
+            self.take(worker, packet)?;
             rest = rest.get(packet.len..).unwrap_or(b"");
         }
-        if let Some(unread) = self.unread.get_mut(lane) {
+        if let Some(unread) = self.unread.get_mut(worker) {
             unread.extend_from_slice(rest)?;
         }
         Ok(())
     }
 
-    /// Takes what the lanes wrote, and waits where they wrote nothing.
+    /// Takes what the workers wrote, and waits where they wrote nothing.
     fn look(&mut self) -> Result<()> {
         let patience = Duration::from_secs(PATIENCE);
         if !self
@@ -209,8 +207,8 @@ impl<'a, R: Wait + Clock> Gateway<'a, R> {
         {
             bail!("no reply came");
         }
-        for lane in 0..self.unread.len() {
-            self.take_all(lane)?;
+        for worker in 0..self.unread.len() {
+            self.take_all(worker)?;
         }
         Ok(())
     }
@@ -233,12 +231,12 @@ impl<'a, R: Wait + Clock> Gateway<'a, R> {
         bail!("no reply came")
     }
 
-    /// A client closes its connection, and waits until the lane has closed it too.
+    /// A client closes its connection, and waits until the worker has closed it too.
     pub fn close(&mut self, place: usize) -> Result<()> {
         let client = self.at(place)?;
-        let (lane, number) = (client.lane, client.number);
+        let (worker, number) = (client.worker, client.number);
         if !client.has_left {
-            self.send_packet(lane, CLOSE, number)?;
+            self.send_packet(worker, CLOSE, number)?;
         }
         for _ in 0..LOOKS {
             if let Some(client) = self.clients.get_mut(place) {
@@ -252,11 +250,11 @@ impl<'a, R: Wait + Clock> Gateway<'a, R> {
         Ok(())
     }
 
-    /// The pipe to the lane of a client breaks off inside a packet.
+    /// The pipe to the worker of a client breaks off inside a packet.
     pub fn cut(&mut self, place: usize) -> Result<()> {
-        let lane = self.at(place)?.lane;
-        self.wires.send(self.rt, lane, &[DATA, 0, 0])?;
-        self.wires.close(self.rt, lane);
+        let worker = self.at(place)?.worker;
+        self.wires.send(self.rt, worker, &[DATA, 0, 0])?;
+        self.wires.close(self.rt, worker);
         Ok(())
     }
 
@@ -264,7 +262,7 @@ impl<'a, R: Wait + Clock> Gateway<'a, R> {
     pub fn end(&mut self) -> Result<()> {
         for client in &self.clients {
             if !client.has_left {
-                self.send_packet(client.lane, CLOSE, client.number)?;
+                self.send_packet(client.worker, CLOSE, client.number)?;
             }
         }
         for client in &mut self.clients {
@@ -276,8 +274,8 @@ impl<'a, R: Wait + Clock> Gateway<'a, R> {
 
     /// Nothing comes any more.
     pub fn close_pipes(&self) {
-        for lane in 0..self.unread.len() {
-            self.wires.close(self.rt, lane);
+        for worker in 0..self.unread.len() {
+            self.wires.close(self.rt, worker);
         }
     }
 }

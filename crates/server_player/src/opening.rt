@@ -9,14 +9,14 @@ use server_commands::Options;
 use sha2::{Digest, Sha256};
 use stored_keys::DigestKeys;
 
-/// The most lanes of a server here.
-const MOST_LANES: u64 = 16;
+/// The most workers of a server here.
+const MOST_WORKERS: u64 = 16;
 
 /// What a server is opened with, and how its clients send.
 #[derive(Drop)]
 pub struct Opening {
     pub settings: ServerSettings,
-    /// How many lanes have pipes.
+    /// How many workers have pipes.
     pub pipes: u32,
     /// What the clock shows first.
     pub clock: u64,
@@ -53,7 +53,7 @@ fn map(line: &Line) -> Result<Settings> {
     })
 }
 
-fn options(line: &Line, lanes: u32, longest_value: u32) -> Result<Options> {
+fn options(line: &Line, workers: u32, longest_value: u32) -> Result<Options> {
     Ok(Options {
         most_memory: number(line, "memory", 1 << 24, u64::MAX)?,
         evicts: flag(line, "evicts", false)?,
@@ -61,7 +61,7 @@ fn options(line: &Line, lanes: u32, longest_value: u32) -> Result<Options> {
         timeout: 0,
         longest_value: u64::from(longest_value),
         port: 0,
-        lanes,
+        workers,
     })
 }
 
@@ -73,12 +73,12 @@ fn requests(line: &Line) -> Result<Limits> {
     })
 }
 
-fn settings(line: &Line, lanes: u32) -> Result<ServerSettings> {
+fn settings(line: &Line, workers: u32) -> Result<ServerSettings> {
     let longest_value = small(line, "longest_value", 70_000)?;
     Ok(ServerSettings {
         map: map(line)?,
         is_far: flag(line, "is_far", true)?,
-        lanes,
+        workers,
         requests: requests(line)?,
         bounds: Bounds {
             longest_value,
@@ -96,17 +96,17 @@ fn settings(line: &Line, lanes: u32) -> Result<ServerSettings> {
             second: 2,
         },
         seed: number(line, "seed", 1, u64::MAX)?,
-        options: options(line, lanes, longest_value)?,
+        options: options(line, workers, longest_value)?,
     })
 }
 
 impl Opening {
     /// What a line says. What it does not say is as in tests/cases/server/README.md.
     pub fn of(line: &Line) -> Result<Opening> {
-        let lanes = number(line, "lanes", 1, MOST_LANES)?.min(MOST_LANES) as u32;
+        let workers = number(line, "lanes", 1, MOST_WORKERS)?.min(MOST_WORKERS) as u32;
         Ok(Opening {
-            settings: settings(line, lanes)?,
-            pipes: small(line, "pipes", lanes)?,
+            settings: settings(line, workers)?,
+            pipes: small(line, "pipes", workers)?,
             clock: number(line, "clock", 1_000_000, u64::MAX)?,
             pieces: number(line, "pieces", 0, 60_000)?.min(60_000) as usize,
         })

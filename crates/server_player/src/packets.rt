@@ -1,4 +1,4 @@
-//! Packets between the gateway and a lane: a kind, the number of a connection, a length, and so many bytes.
+//! Packets between the gateway and a worker: a kind, the number of a connection, a length, and so many bytes.
 
 use std::alloc::AllocError;
 

@@ -1,37 +1,37 @@
 //! The pipes of a server in memory.
 
 use crate::wires::Wires;
-use far_server::{OpenFault, Pipes};
+use far_server::{Pipes, PipesFault};
 use std::alloc::Global;
 use std::io;
 use std::io::{BufReader, Read, Write};
 use std::sync::Wait;
 
-/// Where a lane's packets come from.
+/// Where a worker's packets come from.
 #[derive(Drop)]
-pub struct LaneInput<'a, R: Wait> {
+pub struct WorkerInput<'a, R: Wait> {
     rt: &'a R,
     wires: &'a Wires,
-    lane: usize,
+    worker: usize,
 }
 
-impl<R: Wait> Read for LaneInput<'_, R> {
+impl<R: Wait> Read for WorkerInput<'_, R> {
     fn read(&mut self, buf: &mut [u8]) -> io::Result<usize> {
-        self.wires.read(self.rt, self.lane, buf)
+        self.wires.read(self.rt, self.worker, buf)
     }
 }
 
-/// Where a lane's packets go to.
+/// Where a worker's packets go to.
 #[derive(Drop)]
-pub struct LaneOutput<'a, R: Wait> {
+pub struct WorkerOutput<'a, R: Wait> {
     rt: &'a R,
     wires: &'a Wires,
-    lane: usize,
+    worker: usize,
 }
 
-impl<R: Wait> Write for LaneOutput<'_, R> {
+impl<R: Wait> Write for WorkerOutput<'_, R> {
     fn write(&mut self, buf: &[u8]) -> io::Result<usize> {
-        self.wires.write(self.rt, self.lane, buf)
+        self.wires.write(self.rt, self.worker, buf)
     }
 
     fn flush(&mut self) -> io::Result<()> {
@@ -39,7 +39,7 @@ impl<R: Wait> Write for LaneOutput<'_, R> {
     }
 }
 
-/// The pipes of so many lanes. One behind them has none.
+/// The pipes of so many workers. One behind them has none.
 #[derive(Drop)]
 pub struct MemoryPipes<'a, R: Wait> {
     pub rt: &'a R,
@@ -48,20 +48,20 @@ pub struct MemoryPipes<'a, R: Wait> {
 }
 
 impl<'a, R: Wait> Pipes for MemoryPipes<'a, R> {
-    type Input = BufReader<LaneInput<'a, R>>;
+    type Input = BufReader<WorkerInput<'a, R>>;
 
-    type Output = LaneOutput<'a, R>;
+    type Output = WorkerOutput<'a, R>;
 
     ghost opens = { λ _ _ _ _. Unit {0} };
 
-    fn open(&self, alloc: Global, lane: u32) -> Result<(Self::Input, Self::Output), OpenFault> {
-        if lane >= self.count {
-            return Err(OpenFault::Io);
+    fn open(&self, alloc: Global, worker: u32) -> Result<(Self::Input, Self::Output), PipesFault> {
+        if worker >= self.count {
+            return Err(PipesFault::Io);
         }
-        let (rt, wires, lane) = (self.rt, self.wires, lane as usize);
-        match BufReader::new(alloc, LaneInput { rt, wires, lane }) {
-            Ok(input) => Ok((input, LaneOutput { rt, wires, lane })),
-            Err(_) => Err(OpenFault::Memory),
+        let (rt, wires, worker) = (self.rt, self.wires, worker as usize);
+        match BufReader::new(alloc, WorkerInput { rt, wires, worker }) {
+            Ok(input) => Ok((input, WorkerOutput { rt, wires, worker })),
+            Err(_) => Err(PipesFault::Memory),
         }
     }
 }

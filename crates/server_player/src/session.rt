@@ -10,7 +10,7 @@ use crate::stage::Stage;
 use anyhow::{Result, bail};
 use case_files::{Line, Playing};
 use far_device::FakeDevice;
-use far_server::{LaneEnd, Pipes, WorkerEnd, run_server};
+use far_server::{Pipes, ServeFault, WorkerEnd, run_server};
 use std::alloc::Global;
 use std::rt::Clock;
 use std::sync::Wait;
@@ -19,11 +19,11 @@ use std::thread::{Threads, join};
 /// What a case begins with.
 pub const OPENINGS: &[&str] = &["server"];
 
-/// How the lanes ended, each behind a semicolon.
+/// How the workers ended, each behind a semicolon.
 fn push_end<I: Drop, O: Drop>(alloc: Global, out: &mut String, end: WorkerEnd<I, O>) -> Result<()> {
-    let fault: Option<LaneEnd> = match end {
-        WorkerEnd::Lane(Ok(_)) => None,
-        WorkerEnd::Lane(Err(fault)) => Some(fault),
+    let fault: Option<ServeFault> = match end {
+        WorkerEnd::Served(Ok(_)) => None,
+        WorkerEnd::Served(Err(fault)) => Some(fault),
         WorkerEnd::Sweep => return Ok(()),
     };
     if !out.is_empty() {
@@ -36,7 +36,7 @@ fn push_end<I: Drop, O: Drop>(alloc: Global, out: &mut String, end: WorkerEnd<I,
     Ok(())
 }
 
-/// Serves until all clients have left, and says how each lane ended.
+/// Serves until all clients have left, and says how each worker ended.
 fn serve<R>(rt: &R, alloc: Global, opening: &Opening, stage: &Stage) -> Result<String>
 where
     R: Clock + Threads + Wait + Sync,
@@ -110,8 +110,8 @@ fn play_and_close<R: Clock + Wait>(
     playing: &mut Playing<'_>,
 ) -> Result<()> {
     let played = play_clients(rt, alloc, opening, stage, draws, playing);
-    for lane in 0..opening.settings.lanes {
-        stage.wires.close(rt, lane as usize);
+    for worker in 0..opening.settings.workers {
+        stage.wires.close(rt, worker as usize);
     }
     played
 }

@@ -23,7 +23,7 @@ pub struct Stage {
 impl Stage {
     pub fn new(alloc: Global, opening: &Opening) -> Result<Stage> {
         Ok(Stage {
-            wires: Wires::new(alloc, opening.settings.lanes)?,
+            wires: Wires::new(alloc, opening.settings.workers)?,
             clock: AtomicU64::new(opening.clock),
             device: AtomicU64::new(0),
             spool: AtomicU64::new(0),

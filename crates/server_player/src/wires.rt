@@ -1,4 +1,4 @@
-//! What goes between the gateway and the lanes, in memory.
+//! What goes between the gateway and the workers, in memory.
 ghost use Rattle.std.specs.Io.{ReadsAtMost, WritesAtMost};
 
 use anyhow::Result;
@@ -10,37 +10,37 @@ use std::rt::Clock;
 use std::sync::{Condvar, CondvarTimeouts, Mutex, Wait};
 use std::time::Duration;
 
-/// What goes between the gateway and a lane.
+/// What goes between the gateway and a worker.
 #[derive(Drop)]
 struct Wire {
-    /// What the gateway sent and the lane has not read.
+    /// What the gateway sent and the worker has not read.
     requests: VecDeque<u8>,
     /// Whether nothing comes behind that.
     is_over: bool,
-    /// What the lane wrote and the gateway has not read.
+    /// What the worker wrote and the gateway has not read.
     replies: VecDeque<u8>,
 }
 
-/// What goes between the gateway and all lanes.
+/// What goes between the gateway and all workers.
 #[derive(Drop)]
 struct Whole {
     wires: Vec<Wire>,
-    /// How the lanes have ended, once the server has.
+    /// How the workers have ended, once the server has.
     ends: Option<String>,
 }
 
 impl Whole {
-    /// Whether the lane has nothing to read, and may have later.
-    fn is_silent(&self, lane: usize) -> bool {
-        match self.wires.get(lane) {
+    /// Whether the worker has nothing to read, and may have later.
+    fn is_silent(&self, worker: usize) -> bool {
+        match self.wires.get(worker) {
             Some(wire) => wire.requests.is_empty() && !wire.is_over,
             None => false,
         }
     }
 
-    /// Moves what a lane wrote behind these bytes.
-    fn hand_over(&mut self, lane: usize, unread: &mut Vec<u8>) -> Result<()> {
-        let Some(wire) = self.wires.get_mut(lane) else {
+    /// Moves what a worker wrote behind these bytes.
+    fn hand_over(&mut self, worker: usize, unread: &mut Vec<u8>) -> Result<()> {
+        let Some(wire) = self.wires.get_mut(worker) else {
             return Ok(());
         };
         let (front, back) = wire.replies.as_slices();
@@ -50,13 +50,13 @@ impl Whole {
         Ok(())
     }
 
-    /// Whether no lane wrote anything, and the server goes on.
+    /// Whether no worker wrote anything, and the server goes on.
     fn is_quiet(&self) -> bool {
         self.ends.is_none() && self.wires.iter().all(|wire| wire.replies.is_empty())
     }
 }
 
-/// What goes between the gateway and all lanes, which they share.
+/// What goes between the gateway and all workers, which they share.
 #[derive(Drop)]
 pub struct Wires {
     whole: Mutex<Whole>,
@@ -65,10 +65,10 @@ pub struct Wires {
 }
 
 impl Wires {
-    /// Of so many lanes.
-    pub fn new(alloc: Global, lanes: u32) -> Result<Wires> {
+    /// Of so many workers.
+    pub fn new(alloc: Global, workers: u32) -> Result<Wires> {
         let mut wires = Vec::new(alloc);
-        for _ in 0..lanes {
+        for _ in 0..workers {
             wires.push(Wire {
                 requests: VecDeque::new(alloc),
                 is_over: false,
@@ -81,10 +81,10 @@ impl Wires {
         })
     }
 
-    /// The gateway writes to a lane, unless it has closed that pipe.
-    pub fn send<R: Wait>(&self, rt: &R, lane: usize, bytes: &[u8]) -> Result<()> {
+    /// The gateway writes to a worker, unless it has closed that pipe.
+    pub fn send<R: Wait>(&self, rt: &R, worker: usize, bytes: &[u8]) -> Result<()> {
         let mut whole = self.whole.lock(rt);
-        if let Some(wire) = whole.wires.get_mut(lane) {
+        if let Some(wire) = whole.wires.get_mut(worker) {
             if !wire.is_over {
                 wire.requests.write_all(bytes)?;
             }
@@ -94,17 +94,17 @@ impl Wires {
         Ok(())
     }
 
-    /// The gateway writes no more to a lane.
-    pub fn close<R: Wait>(&self, rt: &R, lane: usize) {
+    /// The gateway writes no more to a worker.
+    pub fn close<R: Wait>(&self, rt: &R, worker: usize) {
         let mut whole = self.whole.lock(rt);
-        if let Some(wire) = whole.wires.get_mut(lane) {
+        if let Some(wire) = whole.wires.get_mut(worker) {
             wire.is_over = true;
         }
         drop(whole);
         self.news.notify_all();
     }
 
-    /// The gateway reads what the lanes wrote, behind what it has of each. It waits so long where they wrote nothing: whether something
+    /// The gateway reads what the workers wrote, behind what it has of each. It waits so long where they wrote nothing: whether something
     /// came, or the server has ended.
     pub fn receive<R: Wait + Clock>(
         &self,
@@ -116,8 +116,8 @@ impl Wires {
         let (mut whole, waited) = self
             .news
             .wait_timeout_while(rt, whole, patience, |whole| whole.is_quiet());
-        for (lane, unread) in unread.iter_mut().enumerate() {
-            whole.hand_over(lane, unread)?;
+        for (worker, unread) in unread.iter_mut().enumerate() {
+            whole.hand_over(worker, unread)?;
         }
         Ok(!waited.timed_out())
     }
@@ -127,7 +127,7 @@ impl Wires {
         self.whole.lock(rt).ends.is_some()
     }
 
-    /// How the lanes have ended: none where the server goes on for so long.
+    /// How the workers have ended: none where the server goes on for so long.
     pub fn ends<R: Wait + Clock>(&self, rt: &R, patience: Duration) -> Option<String> {
         let whole = self.whole.lock(rt);
         let (mut whole, _) = self
@@ -144,26 +144,26 @@ impl Wires {
         self.news.notify_all();
     }
 
-    /// A lane reads. It waits until there is something, or nothing comes any more.
-    pub fn read<R: Wait>(&self, rt: &R, lane: usize, out: &mut [u8]) -> io::Result<usize>
+    /// A worker reads. It waits until there is something, or nothing comes any more.
+    pub fn read<R: Wait>(&self, rt: &R, worker: usize, out: &mut [u8]) -> io::Result<usize>
         ensures { ReadsAtMost result out.new }
     {
         let whole = self.whole.lock(rt);
         let mut whole = self
             .news
-            .wait_while(rt, whole, |whole| whole.is_silent(lane));
-        match whole.wires.get_mut(lane) {
+            .wait_while(rt, whole, |whole| whole.is_silent(worker));
+        match whole.wires.get_mut(worker) {
             Some(wire) => wire.requests.read(out),
             None => Ok(0),
         }
     }
 
-    /// A lane writes.
-    pub fn write<R: Wait>(&self, rt: &R, lane: usize, bytes: &[u8]) -> io::Result<usize>
+    /// A worker writes.
+    pub fn write<R: Wait>(&self, rt: &R, worker: usize, bytes: &[u8]) -> io::Result<usize>
         ensures { WritesAtMost result bytes.now }
     {
         let mut whole = self.whole.lock(rt);
-        let written = match whole.wires.get_mut(lane) {
+        let written = match whole.wires.get_mut(worker) {
             Some(wire) => wire.replies.write(bytes),
             None => Ok(0),
         };

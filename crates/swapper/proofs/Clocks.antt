@@ -5,8 +5,8 @@ use Rattle.std.proofs.lemmas.List.{get_or-set_same, get_or-set_other, same_lists
 use Rattle.std.proofs.lemmas.Bool.Decides.{eqb_tells}
 use Rattle.swapper.specs.Chances.{at, next, flag, first, unheld, unmarked, victim, hand_after, spent, marked, chosen, IsSwept}
 use Rattle.swapper.specs.Meetings.{Finds, IsMet, Asks, IsWalked, or_this}
-use Rattle.swapper.specs.declared.asked.Met.{Met}
-use Rattle.swapper.specs.declared.asked.Met.TheVariants as met
+use Rattle.swapper.specs.declared.flags.Met.{Met}
+use Rattle.swapper.specs.declared.flags.Met.TheVariants as met
 
 -- ---- steps
 

@@ -1,8 +1,8 @@
 -- One frame that the hand meets.
 use Rattle.std.specs.Prelude.{◌≡◌, ℕ, zero, suc, ◌+◌, ◌<◌, ◌≤◌, Bool, true, false, ◌||◌, List, length, set, Option, Some, None, ◌⊎◌}
 use Rattle.swapper.specs.Chances.{flag, at, marked, IsSwept}
-use Rattle.swapper.specs.declared.asked.Met.{Met}
-use Rattle.swapper.specs.declared.asked.Met.TheVariants as met
+use Rattle.swapper.specs.declared.flags.Met.{Met}
+use Rattle.swapper.specs.declared.flags.Met.TheVariants as met
 
 -- what a frame is, by these two answers and its mark
 abbrev pub Finds : ℕ → List Bool → List Bool → Bool → Bool → Met → Type 0

@@ -8,7 +8,7 @@ ghost use Rattle.std.specs.Prelude.{◌≡◌, ◌<◌, ℕ, length, true, false
 ghost use Rattle.swapper.specs.Chances.{flag, at, next, IsSwept};
 ghost use Rattle.swapper.specs.Meetings.{IsMet, IsWalked, Asks, or_this as first_found};
 
-use crate::asked::{Asked, Flags, Met};
+use crate::flags::{Flags, FrameFlags, Met};
 use crate::marks::Marks;
 use far_object::Memory;
 use std::alloc::Global;
@@ -108,7 +108,7 @@ impl Clock {
     }
 
     // Asks one frame, and takes its mark if it is not held.
-    fn meet<S, A: Asked<S>>(&mut self, asked: &A, state: &mut S, frame: u32) -> Met
+    fn meet<S, A: FrameFlags<S>>(&mut self, asked: &A, state: &mut S, frame: u32) -> Met
         requires count { A.count asked.now ≡ length self.old.marks }
         requires here { frame < length self.old.marks }
         ensures met { IsMet (A.may_hold asked.now) (A.may_touch asked.now) frame self.old.marks self.new.marks result }
@@ -128,7 +128,7 @@ impl Clock {
 
     /// Walks to the victim, and asks a frame only where the hand reaches it: the victim and the marks are as if all frames
     /// had been asked first.
-    pub(crate) fn walk<S, A: Asked<S>>(&mut self, asked: &A, state: &mut S) -> Option<u32>
+    pub(crate) fn walk<S, A: FrameFlags<S>>(&mut self, asked: &A, state: &mut S) -> Option<u32>
         requires count { A.count asked.now ≡ length self.old.marks }
         ensures walked { (n : ℕ)
             × IsWalked (A.may_hold asked.now) (A.may_touch asked.now) self.old.marks self.old.hand n self.new.marks self.new.hand result

@@ -11,7 +11,7 @@ ghost use Rattle.version_words.specs.Views.{Goes, calls};
 ghost use Rattle.hash_table.specs.Refusals.{OfSwapOut};
 ghost use Rattle.swapper.specs.Evictors.{Collecting, Collects, Picks, GivesUp, IsTurn, IsTurnRefused, Turns};
 
-mod collecting;
+mod collection;
 
 use crate::clock::Clock;
 use crate::frames::TableFrames;

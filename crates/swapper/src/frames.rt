@@ -1,6 +1,6 @@
 //! The frames of a table, as the hand asks them.
 
-use crate::asked::Asked;
+use crate::flags::FrameFlags;
 use far_device::Device;
 use far_object::FarObject;
 use hash_table::{BucketState, Caller, FarTable};
@@ -14,7 +14,7 @@ pub(crate) struct TableFrames<'a, K: FarObject, V: FarObject, J: Naming, D: Devi
     pub(crate) count: u32,
 }
 
-impl<'a, K: FarObject, V: FarObject, J: Naming, D: Device> Asked<Caller<K, V, J>>
+impl<'a, K: FarObject, V: FarObject, J: Naming, D: Device> FrameFlags<Caller<K, V, J>>
     for TableFrames<'a, K, V, J, D> {
     ghost use Rattle.std.specs.Prelude.{◌≡◌, false};
     ghost use Rattle.version_words.specs.Views.{Goes};

@@ -17,11 +17,11 @@ use far_object::FarObject;
 use std::alloc::Global;
 use std::marker::Model;
 
-mod applying;
-mod gathering;
-mod judging;
-mod reading;
-mod replaying;
+mod all_pairs;
+mod calls;
+mod replay;
+mod rules;
+mod views;
 
 /// Where a table stands after the events of a log. Contracts see its words, the bucket and the contents of each name, and
 /// the last pass.

@@ -4,7 +4,7 @@ use crate::datum::{Datum, datum_at, expected_at, frame_at, number_at};
 use crate::site::Site;
 use crate::stop::{Reply, Stop};
 use crate::user::User;
-use crate::{evicting, many, replies};
+use crate::{eviction, many, replies};
 use case_files::Line;
 use far_device::Device;
 use std::sync::Wait;
@@ -227,10 +227,10 @@ pub fn call<T: Datum, J: Naming, B: QueueNaming, D: Device, R: Wait>(
         }
         "try_puts" | "puts_and_reclaims" | "rounds" => puts(rt, site, user, line),
         "settle" | "hand_over" | "collect" | "turn" | "reclaimed" | "frames_in_use" => {
-            evicting::queue_call(rt, site, user, line)
+            eviction::queue_call(rt, site, user, line)
         }
         "give_up" | "make_room" | "make_ready" | "reclaim_oldest" => {
-            evicting::room_call(rt, site, user, line)
+            eviction::room_call(rt, site, user, line)
         }
         _ => told(site, user, line),
     }

@@ -6,7 +6,7 @@ use crate::many::{MOST_TRIES, is_number};
 use crate::site::Site;
 use crate::stop::{Reply, Stop};
 use crate::user::User;
-use crate::{evicting, replies};
+use crate::{eviction, replies};
 use case_files::Line;
 use far_device::Device;
 use hash_table::Refusal;
@@ -165,9 +165,9 @@ fn make_room<T: Datum, J: Naming, B: QueueNaming, D: Device, R: Wait>(
 ) {
     if let Some(evictor) = site.evictor {
         if is_wanted {
-            let _ = evicting::turn(rt, site, evictor);
+            let _ = eviction::turn(rt, site, evictor);
         } else {
-            let _ = evicting::collect(rt, site, evictor);
+            let _ = eviction::collect(rt, site, evictor);
         }
     }
 }
@@ -199,7 +199,7 @@ fn until_room<T: Datum, J: Naming, B: QueueNaming, D: Device, R: Wait>(
 ) -> Result<Result<Option<T>, Refusal>, Stop> {
     for _ in 0..MOST_TURNS {
         let answer = deed.call(rt, site, user, key);
-        let _ = evicting::settle(rt, site, user)?;
+        let _ = eviction::settle(rt, site, user)?;
         match answer {
             Err(Refusal::NoFrame) => make_room(rt, site, may_evict),
             Err(Refusal::LimboFull) => make_room(rt, site, false),
@@ -220,7 +220,7 @@ fn hand_in<T: Datum, J: Naming, B: QueueNaming, D: Device, R: Wait>(
         if user.caller.limbo_len() == 0 {
             return Ok(());
         }
-        let _ = evicting::settle(rt, site, user)?;
+        let _ = eviction::settle(rt, site, user)?;
         yield_now();
     }
     Ok(())

@@ -7,11 +7,11 @@
 mod block;
 mod calls;
 mod clock;
-mod closing;
+mod close;
 mod crowd;
 mod datum;
 mod devices;
-mod evicting;
+mod eviction;
 mod many;
 mod opening;
 mod replies;

@@ -4,7 +4,7 @@ use crate::datum::{Datum, datum_at};
 use crate::site::Site;
 use crate::stop::{Reply, Stop, told};
 use crate::world::{Callers, ENDED, World, site_of};
-use crate::{closing, is_opening, replies};
+use crate::{close, is_opening, replies};
 use case_files::{Line, Playing};
 use far_device::Device;
 use hash_table::TableScope;
@@ -14,7 +14,7 @@ use version_words::Naming;
 
 /// Whether the line can't be played under a scope.
 fn ends_before(line: &Line) -> bool {
-    line.block != 0 || is_opening(line.call()) || closing::CALLS.contains(&line.call())
+    line.block != 0 || is_opening(line.call()) || close::CALLS.contains(&line.call())
 }
 
 // A line under the scope.

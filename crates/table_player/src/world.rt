@@ -5,7 +5,7 @@ use crate::seats::Taker;
 use crate::site::{Evicting, Queue, Site, Spares, Table};
 use crate::stop::{Reply, Stop, told};
 use crate::user::{User, entered};
-use crate::{block, calls, closing, is_opening, replies, scope};
+use crate::{block, calls, close, is_opening, replies, scope};
 use case_files::{Line, Playing};
 use far_device::Device;
 use std::alloc::Global;
@@ -196,7 +196,7 @@ where
     pub fn line<R: Threads + Wait + Sync>(&mut self, rt: &R, line: &Line) -> Reply {
         match line.call() {
             "close" | "close_on_threads" | "close_through" | "drain" => {
-                closing::call(rt, self, line)
+                close::call(rt, self, line)
             }
             "handed_over" => replies::pairs(self.alloc, &self.handed),
             "enter" | "enters" | "mark" | "learn" => self.entering(line),

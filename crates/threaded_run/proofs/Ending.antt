@@ -24,7 +24,7 @@ use Rattle.far_pairs.specs.Bundles.{all_of}
 use Rattle.version_words.specs.Rows.{limits_of}
 use Rattle.hash_table.specs.Configs.{sizes_of}
 use Rattle.hash_table.specs.declared.config.Config.{Config}
-use Rattle.far_map.specs.declared.fault.RunFault.{RunFault}
+use Rattle.far_map.specs.declared.fault.MapFault.{MapFault}
 use Rattle.far_map.specs.Runs.{IsEnd, EndsBundled}
 use Rattle.threaded_run.specs.Ends.{Collected, Writes}
 use Rattle.threaded_run.proofs.Working.{Lines, Gives, worked_all}
@@ -106,7 +106,7 @@ lines_before l limit files passes texts w = record {
 
 -- ---- a run of a map whose workers give lines
 
-module _ (honest : Bool) (config back : Config) (limit count : ℕ) (files scripts : List (List Command)) (outs : List Lines) (texts : List (List ℕ)) (end : Result (Vec Texts) RunFault)
+module _ (honest : Bool) (config back : Config) (limit count : ℕ) (files scripts : List (List Command)) (outs : List Lines) (texts : List (List ℕ)) (end : Result (Vec Texts) MapFault)
     (same : back ≡ config) (same_limit : limit ≡ config.limit) (same_count : count ≡ length files) (same_files : scripts ≡ files) (given : AreGiven outs texts) where
   abbrev l : Limits
   l = limits_of (sizes_of config) honest
@@ -114,7 +114,7 @@ module _ (honest : Bool) (config back : Config) (limit count : ℕ) (files scrip
   abbrev Ends : Type 0
   Ends = EndsBundled enc_text (λ worker l begun ended (out : Lines). Gives scripts worker l begun ended out) (limits_of (sizes_of back) honest) limit count outs end
 
-  abbrev EndsHere : Result (Vec Texts) RunFault → Type 0
+  abbrev EndsHere : Result (Vec Texts) MapFault → Type 0
   EndsHere e = EndsBundled enc_text (λ worker l begun ended (out : Lines). Gives files worker l begun ended out) l config.limit (length files) outs e
 
   ends_here : Ends → EndsHere end
@@ -124,14 +124,14 @@ module _ (honest : Bool) (config back : Config) (limit count : ℕ) (files scrip
       (subst (λ (n : ℕ). EndsBundled enc_text (λ worker l begun ended (out : Lines). Gives scripts worker l begun ended out) l n count outs end) same_limit
       (subst (λ (k : Config). EndsBundled enc_text (λ worker l begun ended (out : Lines). Gives scripts worker l begun ended out) (limits_of (sizes_of k) honest) limit count outs end) same h)))
 
-  lines_here : (e : Result (Vec Texts) RunFault) → EndsHere e → AreLines files (file_texts 1 texts)
+  lines_here : (e : Result (Vec Texts) MapFault) → EndsHere e → AreLines files (file_texts 1 texts)
   lines_here (Ok bundles) h = lines_before l config.limit files h.passes texts (worked_all l config.limit files h.passes outs texts h.worked given)
   lines_here (Err fault) h = let w = h.0 in lines_before l config.limit files w.passes texts (worked_all l config.limit files w.passes outs texts w.worked given)
 
   pub lines_of_files : Ends → AreLines files (file_texts 1 texts)
   lines_of_files h = lines_here end (ends_here h)
 
-  ran_here : (e : Result (Vec Texts) RunFault) (old new : Option (List ℕ)) → EndsHere e → IsTrue honest → Collected e (λ bundles. Writes (all_of bundles.items) old new (file_texts 1 texts))
+  ran_here : (e : Result (Vec Texts) MapFault) (old new : Option (List ℕ)) → EndsHere e → IsTrue honest → Collected e (λ bundles. Writes (all_of bundles.items) old new (file_texts 1 texts))
       → (text : List ℕ) × Ran (MayReply config.buckets config.limit) files text × Appends old new text
   ran_here (Ok bundles) old new h is_honest w =
       let are = w.are in (

@@ -9,7 +9,7 @@ use Rattle.table_core.proofs.Logs.{history-append}
 use Rattle.command_file.specs.declared.command.Command.{Command}
 use Rattle.command_file.specs.declared.command.Command.TheVariants.{Map, Table}
 use Rattle.command_file.specs.declared.command.MapCommand.{MapCommand}
-use Rattle.run_lines.specs.declared.refusal.Refusal.{Refusal}
+use Rattle.run_lines.specs.declared.refusal.LineRefusal.{LineRefusal}
 use Rattle.run_lines.specs.Calls.{Asked, operation_of}
 use Rattle.run_lines.specs.Replies.{line_of}
 use Rattle.run_lines.proofs.Replying.{Step}
@@ -28,7 +28,7 @@ past p o w xs before ys pre is more =
     calls_kept p xs before pre (omega (arith, ap length more, ap length split, length-append (calls_of p before) (o ∷ []), length-append (calls_of p xs) (o ∷ [])))
 
 module _ (l : Limits) (limit : ℕ) where
-  number_stays : (old new : View) (c : MapCommand) (r : Result (Option (List ℕ)) Refusal) → AnswersWith l limit old new c r → (new.number ≡ old.number) × IsPrefix old.front new.front
+  number_stays : (old new : View) (c : MapCommand) (r : Result (Option (List ℕ)) LineRefusal) → AnswersWith l limit old new c r → (new.number ≡ old.number) × IsPrefix old.front new.front
   number_stays old new c (Ok answer) h = (h.finished.call.number, h.finished.call.grows)
   number_stays old new c (Err why) h = (h.goes.number, h.goes.grows)
 
@@ -36,7 +36,7 @@ module _ (l : Limits) (limit : ℕ) where
   stays old new held later (Map c) line h = number_stays old new c h.0 h.2
   stays old new held later (Table c) line h = (h.0.number, h.0.grows)
 
-  answered : IsTrue l.honest → (old new : View) (held later : Option (List ℕ)) (c : MapCommand) (r : Result (Option (List ℕ)) Refusal) → AnswersWith l limit old new c r → later ≡ held_behind c r held
+  answered : IsTrue l.honest → (old new : View) (held later : Option (List ℕ)) (c : MapCommand) (r : Result (Option (List ℕ)) LineRefusal) → AnswersWith l limit old new c r → later ≡ held_behind c r held
       → Step (MayReply l.buckets limit) (history old.front) (history new.front) old.number held (Map c) (line_of r) later
   answered honest old new held later c (Ok answer) h behind =
       let o : Asked = operation_of c in

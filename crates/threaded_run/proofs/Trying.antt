@@ -8,8 +8,8 @@ use Rattle.version_words.specs.Views.{Goes}
 use Rattle.version_words.proofs.Fronts.{prefix_self}
 use Rattle.hash_table.proofs.Fronts.{goes_self}
 use Rattle.far_object.specs.Encodings.{enc_text}
-use Rattle.far_map.specs.declared.refusal.Refusal.{Refusal as MapRefusal}
-use Rattle.far_map.specs.declared.refusal.Refusal.TheVariants as map
+use Rattle.far_map.specs.declared.refusal.MapRefusal.{MapRefusal as MapRefusal}
+use Rattle.far_map.specs.declared.refusal.MapRefusal.TheVariants as map
 use Rattle.far_map.specs.declared.refusal.Lack.TheVariants as lack
 use Rattle.far_map.specs.Answers.{AnswersBy, held_in, IsMade, IsDone as IsDoneBy, IsRefused as IsRefusedBy}
 use Rattle.command_file.specs.declared.command.Command.{Command}
@@ -17,8 +17,8 @@ use Rattle.command_file.specs.declared.command.Command.TheVariants.{Map, Table}
 use Rattle.command_file.specs.declared.command.MapCommand.{MapCommand}
 use Rattle.command_file.specs.declared.command.MapCommand.TheVariants.{Hold}
 use Rattle.command_file.specs.declared.command.MapCommand.TheVariants as command
-use Rattle.run_lines.specs.declared.refusal.Refusal.{Refusal}
-use Rattle.run_lines.specs.declared.refusal.Refusal.TheVariants as refusal
+use Rattle.run_lines.specs.declared.refusal.LineRefusal.{LineRefusal}
+use Rattle.run_lines.specs.declared.refusal.LineRefusal.TheVariants as refusal
 use Rattle.run_lines.specs.Calls.{Asked, operation_of}
 use Rattle.run_lines.specs.Replies.{text_of, refusal_text, TellsTable, held_past}
 use Rattle.command_file.specs.declared.command.TableCommand.{TableCommand}
@@ -27,7 +27,7 @@ use Rattle.threaded_run.proofs.TooLong.{too_long_in, too_long_there}
 
 module _ (l : Limits) (limit : ℕ) where
   -- a refusal of which nothing else is said
-  free : (old new : View) (c : MapCommand) (why : Refusal) → ((log : Log) → MayReply l.buckets limit (history log) c (Err why)) → Goes old new → IsRefused l limit old new c why
+  free : (old new : View) (c : MapCommand) (why : LineRefusal) → ((log : Log) → MayReply l.buckets limit (history log) c (Err why)) → Goes old new → IsRefused l limit old new c why
   free old new c why may goes = record { goes = goes; seen = λ _. (old.front, prefix_self old.front, goes.grows, may old.front) }
 
   refused : (old new : View) (c : MapCommand) (why : MapRefusal) → IsRefusedBy enc_text l limit old new (operation_of c) why → IsRefused l limit old new c (said why)

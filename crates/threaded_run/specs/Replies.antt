@@ -7,15 +7,15 @@ use Rattle.table_core.specs.Maps.{map_of}
 use Rattle.table_core.specs.Logs.{history}
 use Rattle.version_words.specs.Views.{PassView, Goes}
 use Rattle.hash_table.specs.Calls.{SeenInCall, IsFinished}
-use Rattle.far_map.specs.declared.refusal.Refusal.{Refusal as MapRefusal}
-use Rattle.far_map.specs.declared.refusal.Refusal.TheVariants as map
+use Rattle.far_map.specs.declared.refusal.MapRefusal.{MapRefusal as MapRefusal}
+use Rattle.far_map.specs.declared.refusal.MapRefusal.TheVariants as map
 use Rattle.far_map.specs.declared.refusal.Lack.TheVariants as lack
 use Rattle.command_file.specs.declared.command.Command.{Command}
 use Rattle.command_file.specs.declared.command.Command.TheVariants.{Map, Table}
 use Rattle.command_file.specs.declared.command.MapCommand.{MapCommand}
 use Rattle.command_file.specs.declared.command.MapCommand.TheVariants.{Hold}
-use Rattle.run_lines.specs.declared.refusal.Refusal.{Refusal}
-use Rattle.run_lines.specs.declared.refusal.Refusal.TheVariants as refusal
+use Rattle.run_lines.specs.declared.refusal.LineRefusal.{LineRefusal}
+use Rattle.run_lines.specs.declared.refusal.LineRefusal.TheVariants as refusal
 use Rattle.run_lines.specs.Calls.{Call, operation_of, IsTooLong}
 use Rattle.run_lines.specs.Replies.{line_of, IsTableLine, held_by}
 
@@ -30,7 +30,7 @@ IsHold (Hold k) = ⊤
 IsHold _ = ⊥
 
 -- what a command may be replied behind these calls: it is answered where its object is not too long there, and refused as too long where it is; `held already` is a hold's, and what is damaged comes over no honest device; of the other refusals nothing is said
-abbrev pub MayReply : ℕ → ℕ → List Call → MapCommand → Result (Option (List ℕ)) Refusal → Type 0
+abbrev pub MayReply : ℕ → ℕ → List Call → MapCommand → Result (Option (List ℕ)) LineRefusal → Type 0
 MayReply buckets limit before c (Ok answer) = IsTooLong buckets limit (map_of enc_text enc_text before) (operation_of c) → ⊥
 MayReply buckets limit before c (Err refusal.TooLong) = IsTooLong buckets limit (map_of enc_text enc_text before) (operation_of c)
 MayReply buckets limit before c (Err refusal.HeldAlready) = IsHold c
@@ -38,7 +38,7 @@ MayReply buckets limit before c (Err refusal.Damaged) = ⊥
 MayReply buckets limit before c (Err _) = ⊤
 
 -- the reply for a refusal of the map
-abbrev pub said : MapRefusal → Refusal
+abbrev pub said : MapRefusal → LineRefusal
 said map.Memory = refusal.Memory
 said map.TooLong = refusal.TooLong
 said map.NamesSpent = refusal.NamesSpent
@@ -53,7 +53,7 @@ shown shows None = None
 shown shows (Some h) = shows h
 
 -- what is held behind a command on the map, whatever it was replied
-abbrev pub held_behind : MapCommand → Result (Option (List ℕ)) Refusal → Option (List ℕ) → Option (List ℕ)
+abbrev pub held_behind : MapCommand → Result (Option (List ℕ)) LineRefusal → Option (List ℕ) → Option (List ℕ)
 held_behind c (Ok answer) held = held_by c answer held
 held_behind c (Err why) held = held
 
@@ -64,18 +64,18 @@ module _ (l : Limits) (limit : ℕ) where
     pub may : IsTrue l.honest → (before : Log) (last : Event (List ℕ) (List ℕ)) → new.front ≡ before ++ last ∷ [] → MayReply l.buckets limit (history before) c (Ok answer)
 
   -- the pass made no call, and at a log that was seen meanwhile the command may be refused so
-  pub record IsRefused (old new : View) (c : MapCommand) (why : Refusal) : Type 0 where
+  pub record IsRefused (old new : View) (c : MapCommand) (why : LineRefusal) : Type 0 where
     pub goes : Goes old new
     pub seen : IsTrue l.honest → SeenInCall old new (λ log. MayReply l.buckets limit (history log) c (Err why))
 
   -- the pass made the command's call and was answered, or was refused and made none
-  abbrev pub AnswersWith : View → View → MapCommand → Result (Option (List ℕ)) Refusal → Type 0
+  abbrev pub AnswersWith : View → View → MapCommand → Result (Option (List ℕ)) LineRefusal → Type 0
   AnswersWith old new c (Ok answer) = IsDone old new c answer
   AnswersWith old new c (Err why) = IsRefused old new c why
 
   -- a command was run where the first value was held, and the second behind it, and this is its line: one that asks the map was answered or refused, and one that asks the table made no call
   abbrev pub RunsTo : View → View → Option (List ℕ) → Option (List ℕ) → Command → List ℕ → Type 0
-  RunsTo old new held later (Map c) line = (r : Result (Option (List ℕ)) Refusal) × (line ≡ line_of r) × AnswersWith old new c r × (later ≡ held_behind c r held)
+  RunsTo old new held later (Map c) line = (r : Result (Option (List ℕ)) LineRefusal) × (line ≡ line_of r) × AnswersWith old new c r × (later ≡ held_behind c r held)
   RunsTo old new held later (Table c) line = Goes old new × IsTableLine c held line later
 
   -- the same, and then the pass went on and made no call

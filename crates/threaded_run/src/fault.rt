@@ -4,9 +4,9 @@ ghost use Rattle.threaded_run.specs.declared.fault.WorkFault.TheVariants.{Memory
 ghost use Rattle.far_map.specs.Faults.{IsEarlyFault};
 ghost use Rattle.threaded_run.specs.Runs.{IsEarly};
 
-use far_map::RunFault;
+use far_map::MapFault;
 use far_object::Memory;
-use run_lines::Refusal;
+use run_lines::LineRefusal;
 use thiserror::Error;
 
 /// Why a run ended early.
@@ -29,7 +29,7 @@ pub enum ThreadedFault {
     Write,
     /// The contents can't be read. The lines before `contents` were written.
     #[error("contents: {0}")]
-    Contents(Refusal),
+    Contents(LineRefusal),
 }
 
 /// Why a worker gave up.
@@ -58,14 +58,14 @@ pub(crate) fn of_work(fault: WorkFault) -> ThreadedFault
 }
 
 /// The same, where the map's run ended before its workers did.
-pub(crate) fn of_run(fault: RunFault) -> ThreadedFault
+pub(crate) fn of_run(fault: MapFault) -> ThreadedFault
     requires { IsEarlyFault None fault }
     ensures { IsEarly result }
 {
     match fault {
-        RunFault::PassesSpent => ThreadedFault::Passes,
-        RunFault::Device => ThreadedFault::Device,
-        RunFault::Memory => ThreadedFault::Memory,
+        MapFault::PassesSpent => ThreadedFault::Passes,
+        MapFault::Device => ThreadedFault::Device,
+        MapFault::Memory => ThreadedFault::Memory,
         _ => unreachable!(),
     }
 }

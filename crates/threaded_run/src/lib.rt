@@ -2,17 +2,17 @@
 //!
 //! # One command, from its file to its line
 //!
-//! `top.rt` hands the files to the map as work (`worker.rt`): a worker asks the gate, runs the command by its session
-//! (`running.rt`), and tells the gate. At the end the lines are written, and behind them what the map held (`finishing.rt`).
+//! `run.rt` hands the files to the map as work (`worker.rt`): a worker asks the gate, runs the command by its session
+//! (`command.rt`), and tells the gate. At the end the lines are written, and behind them what the map held (`finish.rt`).
 #![tactic(auto)]
 
+mod command;
 mod fault;
-mod finishing;
+mod finish;
 mod gate;
-mod running;
-mod top;
+mod run;
 mod worker;
 
 pub use fault::ThreadedFault;
 pub use gate::{Gate, OpenGate};
-pub use top::run_files;
+pub use run::run_files;

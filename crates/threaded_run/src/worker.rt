@@ -4,9 +4,9 @@ ghost use Rattle.version_words.specs.Views.{calls};
 ghost use Rattle.threaded_run.specs.Replies.{shown};
 ghost use Rattle.threaded_run.specs.Runs.{EndedIs};
 
+use crate::command::run_at;
 use crate::fault::WorkFault;
 use crate::gate::GateKeeper;
-use crate::running::run_at;
 use command_file::Script;
 use far_map::{Calls, Text, Work};
 use std::alloc::Global;

@@ -12,7 +12,7 @@ mod name;
 mod naming;
 mod pass;
 mod rule;
-mod shut;
+mod shut_right;
 mod sizes;
 mod spare;
 mod tally;

@@ -6,7 +6,7 @@ ghost use Rattle.version_words.specs.Views.{IsName};
 
 use crate::mark::Mark;
 use crate::naming::Naming;
-use crate::shut::Shut;
+use crate::shut_right::Shut;
 use crate::spare::Spare;
 use crate::tally::Tally;
 use far_object::FarObject;

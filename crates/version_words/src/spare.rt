@@ -10,7 +10,7 @@ ghost use Rattle.version_words.specs.Shuts.{IsShut};
 use crate::mark::Mark;
 use crate::naming::Naming;
 use crate::pass::Pass;
-use crate::shut::Shut;
+use crate::shut_right::Shut;
 use far_object::FarObject;
 use std::marker::Model;
 

@@ -28,14 +28,14 @@ use crossbeam_utils::CachePadded;
 use far_object::FarObject;
 use logbook::Word;
 
-mod asking;
-mod entering;
-mod gathering;
-mod installing;
+mod all_passes;
+mod installation;
 mod naming;
 mod opening;
+mod passes;
+mod steps;
 
-pub use installing::Installed;
+pub use installation::Installed;
 pub use opening::Opened;
 
 type RowWord<K, V> = Word<Entry<K, V>, Answer<Entry<K, V>>, Law<K, V>>;
@@ -85,7 +85,7 @@ impl<K: FarObject, V: FarObject, J: Naming> Words<K, V, J> {
         ensures counts { Counts mark.new pass.new.slot name.new.slot }
     {
         let word = self.word(k);
-        let mut offer = offer::<K, V, u32, asking::Entering>(&mark.seen, pass, name, &0);
+        let mut offer = offer::<K, V, u32, steps::Entering>(&mark.seen, pass, name, &0);
         let found = word.load::<Look<K, V>, Traded<K, V>>(&mut mark.seen, &mut offer);
         take_back(offer.into_gain(), pass, name);
         found
@@ -110,7 +110,7 @@ impl<K: FarObject, V: FarObject, J: Naming> Words<K, V, J> {
         ensures counts { Counts mark.new pass.new.slot name.new.slot }
     {
         let word = self.word(k);
-        let mut offer = offer::<K, V, u32, asking::Entering>(&mark.seen, pass, name, &0);
+        let mut offer = offer::<K, V, u32, steps::Entering>(&mark.seen, pass, name, &0);
         let mut pen = mark.seen.no_pen();
         let found = word.compare_exchange::<Look<K, V>, Traded<K, V>>(
             0,

@@ -5,18 +5,18 @@
 ghost use Rattle.std.specs.Prelude.{◌<◌, ◌≤◌, length};
 ghost use Rattle.wordcount.specs.Frames.{least_frames};
 
-mod asked;
-mod counting;
+mod command_line;
+mod counter;
 mod counts;
 mod pieces;
 mod top;
 mod words;
 
 use anyhow::{Result, bail};
-use asked::{Asked, TooFew, command};
-use counting::Counting;
+use command_line::{CommandLine, TooFew, command};
+use counter::Counting;
 use far_device::{Device, FakeDevice};
-use far_map::{RunFault, Settings, run_through};
+use far_map::{MapFault, Settings, run_through};
 use file_device::FolderFault;
 use pieces::Pieces;
 use std::cmp::Reverse;
@@ -40,7 +40,7 @@ const DEVICES: u32 = 4;
 const MOST_FOLDERS: usize = 64;
 
 /// The first words with their counts.
-fn count<D, R>(rt: &R, asked: &Asked, files: &[&str], devices: Vec<D>) -> Result<Top>
+fn count<D, R>(rt: &R, asked: &CommandLine, files: &[&str], devices: Vec<D>) -> Result<Top>
 where
     D: Device + Send,
     R: Files<File = File> + AllocGlobal + Threads + Wait + Sync,
@@ -60,7 +60,7 @@ where
     }
     match ended {
         Ok(()) => Ok(top),
-        Err(RunFault::Stopped) => bail!("memory"),
+        Err(MapFault::Stopped) => bail!("memory"),
         Err(fault) => bail!("the counts could not be read: {fault}"),
     }
 }
@@ -76,7 +76,7 @@ fn write<W: Write>(out: &mut W, words: &[Counted]) -> io::Result<()> {
 }
 
 /// Counts over these devices, and prints the most frequent words, and on standard error how many there are.
-fn print_top<D, R>(rt: &R, asked: &Asked, files: &[&str], devices: Vec<D>) -> Result<()>
+fn print_top<D, R>(rt: &R, asked: &CommandLine, files: &[&str], devices: Vec<D>) -> Result<()>
 where
     D: Device + Send,
     R: Files<File = File> + AllocGlobal + Print + Eprint + Threads + Wait + Sync,
@@ -91,7 +91,7 @@ where
 }
 
 /// The same over devices in the process.
-fn print_in_process<R>(rt: &R, asked: &Asked, files: &[&str]) -> Result<()>
+fn print_in_process<R>(rt: &R, asked: &CommandLine, files: &[&str]) -> Result<()>
 where
     R: Files<File = File> + AllocGlobal + Print + Eprint + Threads + Wait + Sync,
     requires enough { least_frames asked.now.threads ≤ asked.now.frames }
@@ -108,7 +108,7 @@ where
 fn print_far<R>(
     rt: &R,
     host: HostRuntime,
-    asked: &Asked,
+    asked: &CommandLine,
     files: &[&str],
     folders: &[&str],
 ) -> Result<u8>
@@ -150,7 +150,7 @@ where
     let command = command(rt.alloc())?;
     match command.try_get_matches_from(words) {
         Ok(matches) => {
-            let asked = match Asked::of(&matches) {
+            let asked = match CommandLine::of(&matches) {
                 Ok(asked) => asked,
                 Err(fault) => {
                     tell_too_few(rt, fault)?;

@@ -1,7 +1,7 @@
 //! One thread's calls on a table.
 
 use super::Table;
-use crate::timing::Runner;
+use crate::stopwatch::Runner;
 use anyhow::{Result, bail};
 use far_object::Text;
 use hash_table::{Caller, Refusal};

@@ -5,7 +5,7 @@ ghost use Rattle.far_object.specs.Encodings.{enc_u64};
 ghost use Rattle.table_core.specs.Logs.{word};
 ghost use Rattle.version_words.specs.Rows.{limits_of};
 
-use crate::timing::{MOST_THREADS, Runner};
+use crate::stopwatch::{MOST_THREADS, Runner};
 use crate::words::Unvouched;
 use anyhow::{Result, bail};
 use far_object::{Object, bucket_of};

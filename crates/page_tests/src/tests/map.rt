@@ -1,6 +1,6 @@
 //! The program that `docs/CALLING.md` shows.
 use far_device::FakeDevice;
-use far_map::{Calls, Refusal, Settings, Stats, Text, Work, run, text};
+use far_map::{Calls, MapRefusal, Settings, Stats, Text, Work, run, text};
 use std::alloc::Global;
 use std::sync::Wait;
 
@@ -8,7 +8,7 @@ use std::sync::Wait;
 struct Planets;
 
 impl Work<Text> for Planets {
-    type Out = Result<Stats, Refusal>;
+    type Out = Result<Stats, MapRefusal>;
 
     fn work<S: Calls<Text>, R: Wait>(
         &self,
@@ -16,7 +16,7 @@ impl Work<Text> for Planets {
         alloc: Global,
         worker: u32,
         me: &mut S,
-    ) -> Result<Stats, Refusal> {
+    ) -> Result<Stats, MapRefusal> {
         let (planet, moon) = (text(alloc, b"planet")?, text(alloc, b"moon")?);
         if worker == 0 {
             me.put(rt, &planet, &text(alloc, b"Saturn")?)?;

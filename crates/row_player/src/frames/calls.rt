@@ -1,7 +1,7 @@
 //! The calls of a case of frames.
+use super::other_reader::read_by_another;
 use super::readers::read_and_reclaim;
-use super::reading::read_by_another;
-use super::shared::share;
+use super::threads::share;
 use super::user::User;
 use crate::replies::{byte, named, no_call, number, refused, room, small};
 use crate::rows::object;

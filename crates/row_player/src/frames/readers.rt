@@ -1,7 +1,7 @@
 //! One frame that two threads read, and then three while a fourth reclaims its version.
 ghost use Rattle.std.specs.Prelude.{◌≡◌, false};
 
-use super::shared::{Shown, look};
+use super::threads::{Shown, look};
 use super::user::User;
 use super::versions::{Filled, fill, reclaimed};
 use crate::replies::refused;
@@ -17,20 +17,20 @@ const RECLAIMS: u32 = 1_000_000_000;
 
 /// How often a reader asks for which version.
 #[derive(Clone, Copy)]
-struct Asked {
+struct Look {
     name: u64,
     value: u8,
     looks: u32,
 }
 
-impl Asked {
+impl Look {
     fn shown(self) -> Shown {
         (0, self.name, Some(self.value))
     }
 }
 
 /// How often the frame showed no such version, or another one.
-fn missed_looks<J: Naming>(frames: &Frames<Text, Text, J>, asked: Asked) -> u32 {
+fn missed_looks<J: Naming>(frames: &Frames<Text, Text, J>, asked: Look) -> u32 {
     let mut missed = 0u32;
     for _ in 0..asked.looks {
         if look(frames, 0, asked.name) != Some(asked.shown()) {
@@ -49,7 +49,7 @@ fn is_other(shown: Option<Shown>, wanted: Shown) -> bool {
 }
 
 /// How often the frame showed another version than the one that was asked for.
-fn wrong_looks<J: Naming>(frames: &Frames<Text, Text, J>, asked: Asked) -> u32 {
+fn wrong_looks<J: Naming>(frames: &Frames<Text, Text, J>, asked: Look) -> u32 {
     let mut wrong = 0u32;
     for _ in 0..asked.looks {
         if is_other(look(frames, 0, asked.name), asked.shown()) {
@@ -111,7 +111,7 @@ fn one_version<J: Naming + Send + Sync, R: Threads + Sync>(
     rt: &R,
     frames: &Frames<Text, Text, J>,
     spare: Spare<Text, Text, J>,
-    asked: Asked,
+    asked: Look,
 ) -> Seen {
     let find = || missed_looks(frames, asked);
     let missed = join(rt, find, find);
@@ -142,7 +142,7 @@ fn one_round<J: Naming + Send + Sync, R: Threads + Sync>(
     if frame != 0 {
         return None;
     }
-    Some(one_version(rt, user.frames, spare, Asked { name, value, looks }))
+    Some(one_version(rt, user.frames, spare, Look { name, value, looks }))
 }
 
 /// So many versions come into the frame 0, one after another, and each is read and reclaimed. Replies what was seen of all.

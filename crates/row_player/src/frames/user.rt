@@ -1,8 +1,8 @@
 //! One caller of a row of words and of frames, and what it does to frames.
 ghost use Rattle.std.specs.Prelude.{◌≡◌, false};
 
-use super::held::{Open, Taken};
-use crate::held::{Drawn, Unused, place_in, take};
+use super::holdings::{Open, Taken};
+use crate::holdings::{Drawn, Unused, place_in, take};
 use crate::replies::refused;
 use crate::rows::one_pair;
 use anyhow::{Result, bail};

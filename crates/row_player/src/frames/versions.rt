@@ -2,7 +2,7 @@
 ghost use Rattle.std.specs.Prelude.{◌≡◌, ◌<◌, ◌^◌, false};
 
 use super::user::User;
-use crate::held::{Drawn, Numbered, draw, give_up, take};
+use crate::holdings::{Drawn, Numbered, draw, give_up, take};
 use crate::replies::refused;
 use crate::rows::object;
 use anyhow::{Result, bail};

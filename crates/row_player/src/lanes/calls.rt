@@ -1,8 +1,8 @@
 //! The calls of a case of lanes.
-use super::reading::read_by_another;
-use super::shared::share;
+use super::gates::write_beside;
+use super::other_reader::read_by_another;
+use super::threads::share;
 use super::user::User;
-use super::waiting::write_beside;
 use crate::replies::{byte, named, no_call, number, room, small};
 use anyhow::{Result, bail};
 use case_files::{Line, Playing};

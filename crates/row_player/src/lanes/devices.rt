@@ -1,6 +1,6 @@
 //! The devices that a case of lanes may ask for.
 
-use super::waiting::{Gate, GatedDevice};
+use super::gates::{Gate, GatedDevice};
 use far_device::{CannedDevice, FakeDevice, FaultyDevice, LyingDevice, WatchedDevice};
 use std::alloc::Global;
 use std::sync::Arc;
@@ -8,7 +8,7 @@ use std::sync::atomic::AtomicU64;
 
 /// What is asked for.
 #[derive(Clone, Copy)]
-pub struct Asked<'l> {
+pub struct DeviceSettings<'l> {
     /// How many devices there are.
     pub count: u64,
     /// The call of each device that fails, counted from 1, or 0.
@@ -42,7 +42,11 @@ impl Signs {
 /// Devices in the process, of which a call fails.
 pub type MemoryDevice = WatchedDevice<FaultyDevice<FakeDevice>>;
 
-pub fn memory_devices(alloc: Global, asked: Asked<'_>, signs: &Signs) -> Option<Vec<MemoryDevice>> {
+pub fn memory_devices(
+    alloc: Global,
+    asked: DeviceSettings<'_>,
+    signs: &Signs,
+) -> Option<Vec<MemoryDevice>> {
     let mut devices = Vec::new(alloc);
     for _ in 0..asked.count {
         let writes = Arc::new(alloc, AtomicU64::new(0)).ok()?;
@@ -56,7 +60,10 @@ pub fn memory_devices(alloc: Global, asked: Asked<'_>, signs: &Signs) -> Option<
 }
 
 /// Devices whose readings lack their last byte.
-pub fn lying_devices(alloc: Global, asked: Asked<'_>) -> Option<Vec<LyingDevice<FakeDevice>>> {
+pub fn lying_devices(
+    alloc: Global,
+    asked: DeviceSettings<'_>,
+) -> Option<Vec<LyingDevice<FakeDevice>>> {
     let mut devices = Vec::new(alloc);
     for _ in 0..asked.count {
         devices.push(LyingDevice::new(FakeDevice::new(alloc))).ok()?;
@@ -65,7 +72,10 @@ pub fn lying_devices(alloc: Global, asked: Asked<'_>) -> Option<Vec<LyingDevice<
 }
 
 /// Devices whose readings give always the same bytes.
-pub fn canned_devices(alloc: Global, asked: Asked<'_>) -> Option<Vec<CannedDevice<FakeDevice>>> {
+pub fn canned_devices(
+    alloc: Global,
+    asked: DeviceSettings<'_>,
+) -> Option<Vec<CannedDevice<FakeDevice>>> {
     let mut devices = Vec::new(alloc);
     for _ in 0..asked.count {
         let bytes = Vec::from_slice(alloc, asked.bytes).ok()?;
@@ -79,7 +89,7 @@ pub fn canned_devices(alloc: Global, asked: Asked<'_>) -> Option<Vec<CannedDevic
 /// Devices of which the odd ones stay in a write until the gate is open.
 pub fn gated_devices(
     alloc: Global,
-    asked: Asked<'_>,
+    asked: DeviceSettings<'_>,
     signs: &Signs,
 ) -> Option<Vec<GatedDevice<FakeDevice>>> {
     let mut devices = Vec::new(alloc);

@@ -1,5 +1,5 @@
 //! Devices over disks in the process, which keep labels, and of which a write or read fails.
-use super::devices::{Asked, Signs};
+use super::devices::{DeviceSettings, Signs};
 use anyhow::{Result, bail};
 use file_device::{Disk, DiskFault, FileDevice, MemoryDisk, Slot, Step as Stage};
 use std::alloc::Global;
@@ -59,7 +59,7 @@ impl Disk for FailingDisk {
 pub fn disk_devices<R: RandomSource>(
     rt: &R,
     alloc: Global,
-    asked: Asked<'_>,
+    asked: DeviceSettings<'_>,
     signs: &Signs,
 ) -> Result<Option<Vec<FileDevice<FailingDisk>>>> {
     let mut devices = Vec::new(alloc);

@@ -2,8 +2,10 @@
 ghost use Rattle.std.specs.Prelude.{◌≡◌, false};
 ghost use Rattle.version_words.specs.Rows.{limits_of};
 
-use super::broken::broken_devices;
-use super::devices::{Asked, Signs, canned_devices, gated_devices, lying_devices, memory_devices};
+use super::broken_device::broken_devices;
+use super::devices::{
+    DeviceSettings, Signs, canned_devices, gated_devices, lying_devices, memory_devices,
+};
 use super::disk::disk_devices;
 use super::store::Lanes;
 use super::user::User;
@@ -46,8 +48,8 @@ fn kind(opening: &Line) -> &str {
 }
 
 /// What the opening asks for. What the devices of its kind don't take is left unread.
-fn asked(opening: &Line) -> Result<Asked<'_>> {
-    let mut asked = Asked {
+fn asked(opening: &Line) -> Result<DeviceSettings<'_>> {
+    let mut asked = DeviceSettings {
         count: named(opening, "devices", 64, 1)?,
         fails_at: 0,
         fails_at_once: 0,
@@ -73,7 +75,7 @@ fn asked(opening: &Line) -> Result<Asked<'_>> {
 fn play_over<R>(
     rt: &R,
     alloc: Global,
-    asked: Asked<'_>,
+    asked: DeviceSettings<'_>,
     signs: Signs,
     opening: &Line,
     playing: &mut Playing<'_>,

@@ -2,7 +2,7 @@
 ghost use Rattle.std.specs.Prelude.{◌≡◌};
 ghost use Rattle.table_core.specs.BucketWords.{place_of, far_place};
 
-use crate::held::Drawn;
+use crate::holdings::Drawn;
 use anyhow::{Result, bail};
 use far_device::Device;
 use far_object::{Format, Text};

@@ -3,7 +3,7 @@ ghost use Rattle.std.specs.Prelude.{◌≡◌, false};
 
 use super::devices::Signs;
 use super::store::Lanes;
-use crate::held::{Drawn, Numbered, draw, place_in, take};
+use crate::holdings::{Drawn, Numbered, draw, place_in, take};
 use crate::replies::refused;
 use crate::rows::object;
 use anyhow::{Result, bail};

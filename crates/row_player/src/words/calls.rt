@@ -1,6 +1,6 @@
 //! The calls of a case of words. The thread that a line names is the pass that makes the call.
-use super::installs::{Asked, Over};
-use super::shared::{send, share};
+use super::installs::{Over, Request};
+use super::threads::{send, share};
 use super::user::User;
 use crate::replies::{named, no_call, number, room, word};
 use anyhow::{Result, bail};
@@ -38,14 +38,14 @@ fn place_at(line: &Line, place: usize) -> Result<u32> {
 }
 
 /// What stands behind the name of an install or a check.
-fn asked(line: &Line) -> Result<Asked<'_>> {
+fn asked(line: &Line) -> Result<Request<'_>> {
     let key = word(line, 2)?;
     match line.text_at(1) {
-        Some("get") => Ok(Asked::Get(key)),
-        Some("put") => Ok(Asked::Put(key, word(line, 3)?)),
-        Some("remove") => Ok(Asked::Remove(key)),
-        Some("put_if") => Ok(Asked::PutIf(key, line.named("expected"), word(line, 3)?)),
-        Some("move") => Ok(Asked::Move(key)),
+        Some("get") => Ok(Request::Get(key)),
+        Some("put") => Ok(Request::Put(key, word(line, 3)?)),
+        Some("remove") => Ok(Request::Remove(key)),
+        Some("put_if") => Ok(Request::PutIf(key, line.named("expected"), word(line, 3)?)),
+        Some("move") => Ok(Request::Move(key)),
         _ => bail!("get, put, remove, put_if or move"),
     }
 }

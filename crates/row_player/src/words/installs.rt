@@ -5,9 +5,9 @@ ghost use Rattle.table_core.specs.BucketWords.{name_of};
 ghost use Rattle.version_words.specs.Views.{IsOfBucket, MovesObject, has_object, operation_of, probed};
 ghost use Rattle.row_player.specs.Moves.{Moves};
 
-use super::held::{Caller, Sight};
+use super::holdings::{Caller, Sight};
 use super::user::{User, caller_at, pair, sight_of};
-use crate::held::{Numbered, Unused, take};
+use crate::holdings::{Numbered, Unused, take};
 use crate::replies::refused;
 use anyhow::{Result, bail};
 use far_object::{Text, bucket_of};
@@ -16,7 +16,7 @@ use version_words::{Change, Moved, Name, Naming, Probe, Spare, Words};
 
 /// What a line asks to be installed or checked. Keys and values are bytes.
 #[derive(Clone, Copy)]
-pub enum Asked<'l> {
+pub enum Request<'l> {
     Get(&'l [u8]),
     Put(&'l [u8], &'l [u8]),
     Remove(&'l [u8]),
@@ -26,14 +26,14 @@ pub enum Asked<'l> {
     Move(&'l [u8]),
 }
 
-impl<'l> Asked<'l> {
+impl<'l> Request<'l> {
     pub fn key(self) -> &'l [u8] {
         match self {
-            Asked::Get(key)
-            | Asked::Put(key, _)
-            | Asked::Remove(key)
-            | Asked::PutIf(key, _, _)
-            | Asked::Move(key) => key,
+            Request::Get(key)
+            | Request::Put(key, _)
+            | Request::Remove(key)
+            | Request::PutIf(key, _, _)
+            | Request::Move(key) => key,
         }
     }
 }
@@ -47,10 +47,10 @@ struct Texts {
 }
 
 /// None where memory is refused.
-fn texts_of(alloc: std::alloc::Global, asked: Asked<'_>) -> Result<Option<Texts>> {
+fn texts_of(alloc: std::alloc::Global, asked: Request<'_>) -> Result<Option<Texts>> {
     let (expected, value): (Option<&[u8]>, &[u8]) = match asked {
-        Asked::Put(_, value) => (None, value),
-        Asked::PutIf(_, expected, value) => (expected, value),
+        Request::Put(_, value) => (None, value),
+        Request::PutIf(_, expected, value) => (expected, value),
         _ => (None, b""),
     };
     let Some((key, value)) = pair(alloc, asked.key(), value)? else {
@@ -183,7 +183,7 @@ fn install_asked<J: Naming>(
     sight: &Sight<J>,
     unused: Unused<J>,
     place: u32,
-    asked: Asked<'_>,
+    asked: Request<'_>,
     texts: &Texts,
 ) -> Result<Installs<J>> {
     let bucket = bucket_of(&texts.key, words.buckets());
@@ -192,22 +192,22 @@ fn install_asked<J: Naming>(
         bail!("{mistake}");
     }
     match asked {
-        Asked::Put(_, _) => {
+        Request::Put(_, _) => {
             let name = unused.into_name();
             let put = Change::Put(&texts.key, &texts.value);
             Ok(install(words, caller, sight, name, place, &put))
         }
-        Asked::Remove(_) => {
+        Request::Remove(_) => {
             let name = unused.into_name();
             let remove = Change::Remove(&texts.key);
             Ok(install(words, caller, sight, name, place, &remove))
         }
-        Asked::PutIf(_, _, _) => {
+        Request::PutIf(_, _, _) => {
             let name = unused.into_name();
             let put_if = Change::PutIf(&texts.key, texts.expected.as_ref(), &texts.value);
             Ok(install(words, caller, sight, name, place, &put_if))
         }
-        Asked::Move(_) if moves(sight.word, place) => {
+        Request::Move(_) if moves(sight.word, place) => {
             let name = unused.into_name();
             Ok(install(words, caller, sight, name, place, &Change::Move))
         }
@@ -223,16 +223,16 @@ fn check_asked<J: Naming>(
     words: &Words<Text, Text, J>,
     caller: &mut Caller<J>,
     sight: &Sight<J>,
-    asked: Asked<'_>,
+    asked: Request<'_>,
     texts: &Texts,
 ) -> Result<bool> {
     if sight.bucket != bucket_of(&texts.key, words.buckets()) {
         bail!("the word is of another bucket than the key");
     }
     match asked {
-        Asked::Get(_) => Ok(check(words, caller, sight, &Probe::Get(&texts.key))),
-        Asked::Remove(_) => Ok(check(words, caller, sight, &Probe::Remove(&texts.key))),
-        Asked::PutIf(_, _, _) => {
+        Request::Get(_) => Ok(check(words, caller, sight, &Probe::Get(&texts.key))),
+        Request::Remove(_) => Ok(check(words, caller, sight, &Probe::Remove(&texts.key))),
+        Request::PutIf(_, _, _) => {
             let put_if = Probe::PutIf(&texts.key, texts.expected.as_ref(), &texts.value);
             Ok(check(words, caller, sight, &put_if))
         }
@@ -254,7 +254,7 @@ impl<J: Naming> User<J> {
     pub fn install(
         &mut self,
         pass: u64,
-        asked: Asked<'_>,
+        asked: Request<'_>,
         over: Over,
         out: &mut String,
     ) -> Result<()> {
@@ -299,7 +299,13 @@ impl<J: Naming> User<J> {
     }
 
     /// Makes the check that the line asks for. Replies whether the word still stands.
-    pub fn check(&mut self, pass: u64, asked: Asked<'_>, old: u64, out: &mut String) -> Result<()> {
+    pub fn check(
+        &mut self,
+        pass: u64,
+        asked: Request<'_>,
+        old: u64,
+        out: &mut String,
+    ) -> Result<()> {
         let Some(texts) = texts_of(self.alloc, asked)? else {
             return refused(out);
         };

@@ -1,8 +1,8 @@
 //! The callers of a row of words, each with its pass.
 ghost use Rattle.std.specs.Prelude.{◌≡◌, ◌<◌, false};
 
-use super::held::{Caller, Label, Sight};
-use crate::held::{Unused, give_up, take};
+use super::holdings::{Caller, Label, Sight};
+use crate::holdings::{Unused, give_up, take};
 use crate::replies::refused;
 use anyhow::{Result, bail};
 use far_object::{Object, Text, bucket_of};

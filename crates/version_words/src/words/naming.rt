@@ -8,7 +8,7 @@ ghost use Rattle.version_words.specs.Views.{EndsWith, Goes, WasSeen, AreOfBucket
 ghost use Rattle.version_words.specs.Faults.{IsNameFault};
 
 use super::Words;
-use super::asking::{Drawing, Drawn};
+use super::steps::{Drawing, Drawn};
 use crate::fault::NameFault;
 use crate::name::Name;
 use crate::naming::Naming;

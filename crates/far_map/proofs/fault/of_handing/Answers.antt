@@ -1,6 +1,6 @@
 use Rattle.far_object.specs.Encodings.{enc_text}
 use Rattle.hash_table.specs.Closes.{IsHandFault}
-use Rattle.hash_table.specs.declared.handing.HandFault.TheVariants.{Close}
+use Rattle.hash_table.specs.declared.close_through.HandFault.TheVariants.{Close}
 use Rattle.far_map.proofs.Working.{handing_fault}
 use Rattle.far_map.proofs.fault.of_handing.Goals as goal
 

@@ -1,7 +1,7 @@
 use Rattle.std.proofs.Common.{◌≡◌, ◌<◌, ◌≤◌, ◌+◌, ◌-◌, true, false, inl, inr, ℕ, List, [], ◌∷◌, ◌++◌, length, drop, replicate, refl, sym, ap, subst, ◌∙◌, arith, append-nil, length-append}
 use Rattle.std.proofs.lemmas.List.{length-map, drop_all}
 use Rattle.std.specs.List.{flat_map}
-use Rattle.far_map.specs.declared.refusal.Refusal.TheVariants as refusal
+use Rattle.far_map.specs.declared.refusal.MapRefusal.TheVariants as refusal
 use Rattle.resp.specs.Replies.{Token, Count, Failure, token}
 use Rattle.far_server.specs.Bounds.{longest, too_large}
 use Rattle.far_server.specs.Refusing.{text_of}
@@ -16,8 +16,8 @@ use Rattle.far_server.proofs.transaction.execute.Goals as goal
 pub loop-at-init : goal.loop-at-init
 loop-at-init g c =
     let l = g.S.Calls.limits in
-    let digest = c.args.around.now.settings.now.digest_keys in
-    let v = c.args.around.now.settings.now.bounds in
+    let digest = c.args.context.now.settings.now.digest_keys in
+    let v = c.args.context.now.settings.now.bounds in
     let old = c.args.reply.now.items in
     let new = c.push_count.new.out.items in
     let all = waiting c.args.queue.now in
@@ -37,8 +37,8 @@ loop-at-preserved g c =
     let inv = c.loop-at.invariant in
     let i = c.loop-at.at in
     let l = g.S.Calls.limits in
-    let digest = c.args.around.now.settings.now.digest_keys in
-    let v = c.args.around.now.settings.now.bounds in
+    let digest = c.args.context.now.settings.now.digest_keys in
+    let v = c.args.context.now.settings.now.bounds in
     let all = waiting c.args.queue.now in
     let before = g.S.Calls.shown c.args.me.now in
     let mid = g.S.Calls.shown c.loop-at.me in
@@ -78,8 +78,8 @@ returns-then-not-may_grow_to-clause-ran g c =
     let inv = c.loop-at.invariant in
     let i = c.loop-at.at in
     let l = g.S.Calls.limits in
-    let digest = c.args.around.now.settings.now.digest_keys in
-    let v = c.args.around.now.settings.now.bounds in
+    let digest = c.args.context.now.settings.now.digest_keys in
+    let v = c.args.context.now.settings.now.bounds in
     let all = waiting c.args.queue.now in
     let mid = g.S.Calls.shown c.loop-at.me in
     let each = inv.3.0 in
@@ -103,8 +103,8 @@ returns-then-not-has_room_for_short-clause-ran g c =
     let inv = c.loop-at.invariant in
     let i = c.loop-at.at in
     let l = g.S.Calls.limits in
-    let digest = c.args.around.now.settings.now.digest_keys in
-    let v = c.args.around.now.settings.now.bounds in
+    let digest = c.args.context.now.settings.now.digest_keys in
+    let v = c.args.context.now.settings.now.bounds in
     let all = waiting c.args.queue.now in
     let mid = g.S.Calls.shown c.loop-at.me in
     let each = inv.3.0 in
@@ -125,8 +125,8 @@ pub returns-clause-ran : goal.returns-clause-ran
 returns-clause-ran g c =
     let inv = c.loop-at.invariant in
     let l = g.S.Calls.limits in
-    let digest = c.args.around.now.settings.now.digest_keys in
-    let v = c.args.around.now.settings.now.bounds in
+    let digest = c.args.context.now.settings.now.digest_keys in
+    let v = c.args.context.now.settings.now.bounds in
     let all = waiting c.args.queue.now in
     let before = g.S.Calls.shown c.args.me.now in
     let mid = g.S.Calls.shown c.loop-at.me in

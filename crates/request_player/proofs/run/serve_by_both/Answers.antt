@@ -1,9 +1,9 @@
 use Rattle.std.proofs.Common.{[], sym, subst}
 use Rattle.resp.specs.declared.limits.Limits.{Limits}
-use Rattle.lanes.specs.Calls.{step_marks}
-use Rattle.lanes.specs.Slots.{Views, none_seen}
-use Rattle.lanes.specs.Standing.{Standing, GoesOnBy}
-use Rattle.lanes.proofs.Resuming.{begins}
+use Rattle.request_loop.specs.Calls.{step_marks}
+use Rattle.request_loop.specs.Slots.{Views, none_seen}
+use Rattle.request_loop.specs.Standing.{Standing, GoesOnBy}
+use Rattle.request_loop.proofs.Resuming.{begins}
 use Rattle.request_player.proofs.run.serve_by_both.Goals as goal
 
 pub serve_on-requires : goal.serve_on-requires

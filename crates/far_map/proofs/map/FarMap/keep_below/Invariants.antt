@@ -3,4 +3,4 @@ use Rattle.far_map.specs.Spares.{LosesNone}
 use Rattle.far_map.proofs.map.FarMap.keep_below.Given as goal
 
 abbrev pub invariant-loop : goal.invariant-loop
-invariant-loop g l = Goes l.fn.seated.caller.pass l.seated.caller.pass × LosesNone l.fn.seated.caller.limbo l.fn.seated.seat l.seated.caller.limbo l.seated.seat
+invariant-loop g l = Goes l.fn.session_state.caller.pass l.session_state.caller.pass × LosesNone l.fn.session_state.caller.limbo l.fn.session_state.seat l.session_state.caller.limbo l.session_state.seat

@@ -7,13 +7,13 @@ use Rattle.far_server.proofs.server.ServerKeptService.answer.Goals as goal
 
 pub returns-in-Ok : goal.returns-in-Ok
 returns-in-Ok g c =
-    let settings = c.args.self.now.around.now.settings.now in
+    let settings = c.args.self.now.context.now.settings.now in
     let e : Known = unknown settings.password in
     let n : ℕ = c.args.connection in
     let was : List (ℕ × Connection) = c.args.self.now.kept.connections.entries in
     let same = c.behind.ensures.connections ∙ c.tell.ensures.connections in
     let a = c.in-Ok.ensures.answered in
-    let T : List (ℕ × Connection) → Type 0 = λ cs. IsAdmission (known_at was n e).passed (known_at cs n e).passed c.behind.result in
+    let T : List (ℕ × Connection) → Type 0 = λ cs. IsAdmission (known_at was n e).is_authenticated (known_at cs n e).is_authenticated c.behind.result in
     let told = subst T (sym same) (c.behind.ensures.told _ _ (c.in-Ok.ensures.told e)) in
     let A : List (ℕ × Connection) → Session → Type 0 = λ cs s. IsAnswered g.S.Calls.limits settings.digest_keys settings.password settings.bounds (known_at was n e) (known_at cs n e) (arguments_in c.args.bytes.now c.args.spans.now) (g.S.Calls.shown c.args.self.now.me.now) s a.0 in
     let C : List (ℕ × Connection) → Type 0 = λ cs. A cs (g.S.Calls.shown c.answer_at.new.me) in

@@ -1,5 +1,0 @@
-use Rattle.std.proofs.Common.{length}
-use Rattle.far_map.proofs.closing.+tell_all.Given as goal
-
-abbrev pub decreases-tell_all : goal.decreases-tell_all
-decreases-tell_all g l = length l.callers.now

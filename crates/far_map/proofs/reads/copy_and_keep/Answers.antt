@@ -1,0 +1,12 @@
+use Rattle.table_core.specs.declared.operation.Operation.TheVariants.{Get}
+use Rattle.far_map.proofs.Trying.{answers_on}
+use Rattle.far_map.proofs.Losses.{loses_trans, came}
+use Rattle.far_map.proofs.reads.copy_and_keep.Goals as goal
+
+pub returns-clause-answers : goal.returns-clause-answers
+returns-clause-answers g c =
+    answers_on g.V.FarObject.enc g.J.Naming.limits c.args.map.now.table.limit c.args.session_state.now.caller.pass c.copy_value-copied.new.caller.pass c.after_call.new.session_state.caller.pass (Get c.args.key.now) c.copy_value-copied.result
+    c.copy_value-copied.ensures.answers c.after_call.ensures.goes
+
+pub returns-clause-none_lost : goal.returns-clause-none_lost
+returns-clause-none_lost g c = loses_trans _ _ _ _ _ _ (came _ _ _ c.copy_value-copied.ensures.limbo) c.after_call.ensures.none_lost

@@ -1,0 +1,143 @@
+-- Stints of a worker, one behind the other.
+use Rattle.std.proofs.Common.{◌≡◌, ℕ, false, List, [], ◌++◌, Option, Ok, Err, refl, sym, subst, append-nil}
+use Rattle.std.specs.Io.KnownBytes.{Consumes, Appends}
+use Rattle.table_core.specs.declared.limits.Limits.{Limits}
+use Rattle.resp.specs.declared.limits.Limits.{Limits as LimitsOfRequests}
+use Rattle.request_loop.specs.declared.wire.Wire.{Wire}
+use Rattle.request_loop.specs.Marks.{Mark}
+use Rattle.request_loop.specs.Calls.{Exchange, step_marks}
+use Rattle.request_loop.specs.Slots.{Views, none_seen}
+use Rattle.request_loop.specs.Packets.{packets_bytes, WireTells}
+use Rattle.request_loop.specs.Standing.{Standing, GoesOnBy}
+use Rattle.request_loop.proofs.Resuming.{begins, settles}
+use Rattle.request_loop.proofs.Known.{wire_told}
+use Rattle.far_server.specs.Sessions.{Session}
+use Rattle.far_server.specs.Answers.{unknown}
+use Rattle.far_server.specs.Services.{WorkerView, worker_view, Acts}
+use Rattle.far_server.specs.Left.{LeftView, HasStood}
+use Rattle.far_server.specs.Serving.{HasServed, StandsFrom, Knows, IsGoing, GoesOn, Stands, IsTermOfWorker, ServesOn}
+use Rattle.far_server.specs.declared.settings.Bounds.{Bounds}
+use Rattle.stored_keys.specs.declared.DigestKeys.{DigestKeys}
+use Rattle.far_server.specs.declared.settings.ServerSettings.{ServerSettings}
+use Rattle.far_server.specs.declared.worker_end.WorkerEnd.{WorkerEnd}
+use Rattle.far_server.specs.declared.worker_end.WorkerEnd.TheVariants as worker_end
+use Rattle.far_server.specs.declared.states.WorkerState.{WorkerState}
+use Rattle.far_server.specs.declared.states.WorkerState.TheVariants as state
+
+module _ {In Out : Type 0} (remaining : In → Option (List ℕ)) (contents : Out → Option (List ℕ)) where
+  -- nothing came yet
+  pub new_stood : (wire : Wire In Out) (views : Views) → views ≡ none_seen → WireTells remaining contents wire wire [] [] → HasStood remaining contents wire views
+  new_stood wire views none told =
+      let P : Views → Type 0 = λ v. Standing (WireTells remaining contents) wire.limits wire wire v [] in
+      (wire, [], subst P (sym none) (begins (WireTells remaining contents) wire.limits wire told))
+
+  -- where a worker had stood it stands again behind the steps of a service
+  pub still_stood : {X : Type 0} (does : X → _ → X → Type 0) (old new : Wire In Out) (x y : X) (before after : Views) → new.limits ≡ old.limits → HasStood remaining contents old before
+      → GoesOnBy (WireTells remaining contents) does old.limits old new x y before after → HasStood remaining contents new after
+  still_stood does old new x y before after same stood goes =
+      let went = goes stood.0 stood.1 stood.2 in
+      let P : LimitsOfRequests → Type 0 = λ l. Standing (WireTells remaining contents) l stood.0 new after (stood.1 ++ step_marks went.0) in
+      (stood.0, stood.1 ++ step_marks went.0, subst P (sym same) went.2)
+
+  -- where no more comes all requests are answered
+  pub has_served : (limits : LimitsOfRequests) (start now : Wire In Out) (views : Views) (past : List (Mark Exchange)) (input : In) (output : Out) → now.broken ≡ false → input ≡ now.input → output ≡ now.output
+      → Standing (WireTells remaining contents) limits start now views past → HasServed remaining contents limits start.input input start.output output past
+  has_served limits start now views past input output whole in_is out_is stood =
+      let s = settles (WireTells remaining contents) limits start now views past stood in
+      let t = wire_told remaining contents start now s.came s.sent whole s.told in
+      let C : In → Type 0 = λ i. Consumes (remaining start.input) (remaining i) (packets_bytes s.came) in
+      let A : Out → Type 0 = λ o. Appends (contents start.output) (contents o) (packets_bytes s.sent) in
+      record { came = s.came; sent = s.sent; consumed = subst C (sym in_is) t.0; appended = subst A (sym out_is) t.1; each = s.each; left = s.left; once = s.once }
+
+  module _ (l : Limits) (digest : DigestKeys) (password : Option (List ℕ)) (bounds : Bounds) (old new : Session) (left : LeftView In Out) (wire : Wire In Out) (views : Views) (y : WorkerView) (ended : y.session ≡ new)
+      (goes : GoesOnBy (WireTells remaining contents) (Acts l digest password bounds) left.wire.limits left.wire wire (worker_view password old left.connections) y left.views views) where
+    -- the worker left again
+    pub leaves_so : (after : LeftView In Out) → after.wire ≡ wire → after.views ≡ views → y ≡ worker_view password y.session after.connections → wire.limits ≡ left.wire.limits
+        → IsGoing remaining contents l digest password bounds old new left (state.Left after)
+    leaves_so after wire_is views_is knows same = record {
+      last = y;
+      ended = ended;
+      knows = knows;
+      went_on = λ start past stood.
+          let went = goes start past stood in
+          let marks = past ++ step_marks went.0 in
+          let P : Wire In Out → Type 0 = λ w. (w.limits ≡ left.wire.limits) × Standing (WireTells remaining contents) left.wire.limits start w after.views marks in
+          let Q : Views → Type 0 = λ v. Standing (WireTells remaining contents) left.wire.limits start wire v marks in
+          (went.0, went.1, subst P (sym wire_is) (same, subst Q (sym views_is) went.2));
+    }
+
+    -- its requests were at their end
+    pub ends_so : (input : In) (output : Out) → wire.broken ≡ false → input ≡ wire.input → output ≡ wire.output → IsGoing remaining contents l digest password bounds old new left (state.Ended (worker_end.Served (Ok (input, output))))
+    ends_so input output whole in_is out_is = record {
+      last = y;
+      ended = ended;
+      knows = tt;
+      went_on = λ start past stood.
+          let went = goes start past stood in
+          (went.0, went.1, has_served left.wire.limits start wire views (past ++ step_marks went.0) input output whole in_is out_is went.2);
+    }
+
+  module _ (Opens : In → Out → Type 0) where
+    stands_kept : (limits : LimitsOfRequests) (start : Wire In Out) (after : WorkerState In Out) (past : List (Mark Exchange)) → Opens start.input start.output → StandsFrom remaining contents limits start after past → Stands remaining contents Opens limits after past
+    stands_kept limits start state.Fresh past opened s = absurd s
+    stands_kept limits start (state.Left left) past opened s = (start, opened, s)
+    stands_kept limits start (state.Ended end) past opened s = (start, opened, s)
+
+    -- where a worker stood before is where what it kept says
+    abbrev pub Begins : LimitsOfRequests → WorkerState In Out → LeftView In Out → Type 0
+    Begins limits before left = (past : List (Mark Exchange)) → Stands remaining contents Opens limits before past
+        → (start : Wire In Out) × Opens start.input start.output × (left.wire.limits ≡ limits) × Standing (WireTells remaining contents) left.wire.limits start left.wire left.views past
+
+    -- one that has not begun
+    pub fresh_begins : (limits : LimitsOfRequests) (left : LeftView In Out) (input : In) (output : Out) → Opens input output → (left.wire.input ≡ input) × (left.wire.output ≡ output) → left.wire.limits ≡ limits → left.views ≡ none_seen
+        → WireTells remaining contents left.wire left.wire [] [] → Begins limits state.Fresh left
+    fresh_begins limits left input output opened parts limits_are none told past is =
+        let I : In → Type 0 = λ i. Opens i output in
+        let O : Out → Type 0 = λ o. Opens left.wire.input o in
+        let P : Views → Type 0 = λ v. Standing (WireTells remaining contents) left.wire.limits left.wire left.wire v [] in
+        let Q : List (Mark Exchange) → Type 0 = λ p. Standing (WireTells remaining contents) left.wire.limits left.wire left.wire left.views p in
+        (left.wire, subst O (sym parts.1) (subst I (sym parts.0) opened), limits_are, subst Q (sym is) (subst P (sym none) (begins (WireTells remaining contents) left.wire.limits left.wire told)))
+
+    -- one that had left
+    pub left_begins : (limits : LimitsOfRequests) (left : LeftView In Out) → Begins limits (state.Left left) left
+    left_begins limits left past s =
+        let P : LimitsOfRequests → Type 0 = λ r. Standing (WireTells remaining contents) r s.0 left.wire left.views past in
+        (s.0, s.1, s.2.0, subst P (sym s.2.0) s.2.1)
+
+    module _ (l : Limits) (settings : ServerSettings) (old new : Session) (before : WorkerState In Out) (left : LeftView In Out)
+        (from : Begins settings.requests before left) (knew : Knows l settings.digest_keys settings.password settings.bounds before (worker_view settings.password old left.connections)) where
+      is_term : (after : WorkerState In Out) → IsGoing remaining contents l settings.digest_keys settings.password settings.bounds old new left after → IsTermOfWorker remaining contents Opens l settings old new before after
+      is_term after going = record {
+        first = worker_view settings.password old left.connections;
+        last = going.last;
+        begun = refl;
+        ended = going.ended;
+        knew = knew;
+        knows = going.knows;
+        went_on = λ past stood.
+            let b = from past stood in
+            let went = going.went_on b.0 past b.3 in
+            let marks = past ++ step_marks went.0 in
+            let S : LimitsOfRequests → Type 0 = λ r. StandsFrom remaining contents r b.0 after marks in
+            (went.0, went.1, stands_kept settings.requests b.0 after marks b.1 (subst S b.2 went.2));
+      }
+
+      pub serves_so : (after : WorkerState In Out) → GoesOn remaining contents l settings.digest_keys settings.password settings.bounds old new left after → ServesOn remaining contents Opens l settings old new before after
+      serves_so state.Fresh going = is_term state.Fresh going
+      serves_so (state.Left kept) going = is_term (state.Left kept) going
+      serves_so (state.Ended (worker_end.Served (Ok parts))) going = is_term (state.Ended (worker_end.Served (Ok parts))) going
+      serves_so (state.Ended (worker_end.Served (Err why))) going = tt
+      serves_so (state.Ended worker_end.Sweep) going = is_term (state.Ended worker_end.Sweep) going
+
+    module _ (l : Limits) (settings : ServerSettings) (old : Session) where
+      over : (end : WorkerEnd In Out) → IsTermOfWorker remaining contents Opens l settings old old (state.Ended end) (state.Ended end)
+      over end =
+          let worker : WorkerView = record { session = old; connections = λ c. unknown settings.password } in
+          let P : List (Mark Exchange) → Type 0 = λ p. Stands remaining contents Opens settings.requests (state.Ended end) p in
+          record { first = worker; last = worker; begun = refl; ended = refl; knew = tt; knows = tt; went_on = λ past s. ([], refl, subst P (sym (append-nil past)) s) }
+
+      -- one that has ended makes no call
+      pub stays_over : (end : WorkerEnd In Out) → ServesOn remaining contents Opens l settings old old (state.Ended end) (state.Ended end)
+      stays_over (worker_end.Served (Ok parts)) = over (worker_end.Served (Ok parts))
+      stays_over (worker_end.Served (Err why)) = tt
+      stays_over worker_end.Sweep = over worker_end.Sweep

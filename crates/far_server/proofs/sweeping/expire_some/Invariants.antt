@@ -1,6 +1,0 @@
-use Rattle.std.proofs.Common.{Bool}
-use Rattle.far_server.specs.Sweeps.{Sweeps}
-use Rattle.far_server.proofs.sweeping.expire_some.Given as goal
-
-abbrev pub invariant-loop : goal.invariant-loop
-invariant-loop g l = (evicts : Bool) → Sweeps g.S.Calls.limits evicts (g.S.Calls.shown l.fn.me) (g.S.Calls.shown l.me)

@@ -1,5 +1,0 @@
-use Rattle.far_server.specs.Sweeps.{Sweeps}
-use Rattle.far_server.proofs.sweeping.sweep.Given as goal
-
-abbrev pub invariant-loop : goal.invariant-loop
-invariant-loop g l = Sweeps g.S.Calls.limits l.fn.around.settings.now.options.evicts (g.S.Calls.shown l.fn.me) (g.S.Calls.shown l.me)

@@ -1,6 +1,0 @@
-use Rattle.std.proofs.Common.{◌≡◌}
-use Rattle.far_server.specs.Serving.{all_ended}
-use Rattle.far_server.proofs.top.ends_of.Given as goal
-
-abbrev pub invariant-loop-state : goal.invariant-loop-state
-invariant-loop-state g l = l.yielded ≡ all_ended l.ends.items

@@ -1,0 +1,235 @@
+//! Runs a command, by the module that carries it out.
+ghost use Rattle.std.specs.Prelude.{◌≡◌, ◌++◌, ℕ, List, OnOk, OnErr, IfOk};
+ghost use Rattle.std.specs.List.{flat_map};
+ghost use Rattle.resp.specs.Replies.{Token, token};
+ghost use Rattle.commands.specs.Arguments.{listed};
+ghost use Rattle.commands.specs.Commands.{Spells};
+ghost use Rattle.version_words.specs.Views.{Goes};
+ghost use Rattle.far_server.specs.Runs.{IsOfKeys, IsOther, IsRunAs, IsRequest};
+
+use crate::all_keys::{answer_flush, answer_scan};
+use crate::connection::Connection;
+use crate::context::{ServerContext, Workspace};
+use crate::info::{answer_server, keys};
+use crate::one_key::{Asking, answer_key};
+use crate::one_reply::{
+    push_one_failure, push_one_fault, push_one_number, push_one_simple, push_one_string,
+};
+use crate::random_key::answer_random_key;
+use crate::refusal::text_of;
+use crate::reserve::has_room_for;
+use crate::several_keys::{count_keys, get_keys, set_pairs};
+use commands::{Arguments, Command, CommandFault, OfKeys, OfNothing, ServerCommand};
+use far_blob::Blob;
+use far_map::{Calls, MapRefusal};
+use key_commands::{KeyCommand, on_one_key};
+use std::alloc::{AllocError, Global};
+use std::rt::Clock;
+use std::sync::Wait;
+use stored_keys::DigestKeys;
+
+/// A command on these keys: DEL, UNLINK, EXISTS, TOUCH or MGET.
+fn run_keys<S: Calls<Blob>, R: Wait>(
+    rt: &R,
+    alloc: Global,
+    me: &mut S,
+    of: OfKeys,
+    keys: Arguments<'_>,
+    digest_keys: DigestKeys,
+    now: u64,
+    most: u32,
+    limit: usize,
+    workspace: &mut Workspace,
+    reply: &mut Vec<u8>,
+) -> Result<(), AllocError>
+    ensures { OnOk result ((rs : List Token) × (reply.new.items ≡ reply.old.items ++ flat_map token rs) × IsOfKeys S.limits digest_keys now most limit of (listed keys.entry) (S.shown me.old) (S.shown me.new) rs) }
+{
+    let deletes = Asking {
+        command: KeyCommand::Delete,
+        digest_keys,
+        now,
+        most,
+    };
+    let looks = Asking {
+        command: KeyCommand::Exists,
+        digest_keys,
+        now,
+        most,
+    };
+    let gets = Asking {
+        command: KeyCommand::Get,
+        digest_keys,
+        now,
+        most,
+    };
+    match of {
+        OfKeys::Del => count_keys(rt, alloc, me, keys, deletes, workspace, reply),
+        OfKeys::Unlink => count_keys(rt, alloc, me, keys, deletes, workspace, reply),
+        OfKeys::Exists => count_keys(rt, alloc, me, keys, looks, workspace, reply),
+        OfKeys::Touch => count_keys(rt, alloc, me, keys, looks, workspace, reply),
+        OfKeys::MGet => get_keys(rt, alloc, me, keys, gets, limit, workspace, reply),
+    }
+}
+
+/// Answers a command that changes no key. If memory is refused for the reply, `reply` is as before.
+fn answer_at_hand<S: Calls<Blob>, C: Clock, R: Wait>(
+    context: &ServerContext<'_, C, R>,
+    me: &mut S,
+    connection: &mut Connection,
+    workspace: &mut Workspace,
+    command: Command<'_>,
+    now: u64,
+    reply: &mut Vec<u8>,
+) -> Result<(), AllocError>
+    ensures goes { Goes (S.shown me.old).pass (S.shown me.new).pass }
+    ensures said { OnOk result ((rs : List Token) × (reply.new.items ≡ reply.old.items ++ flat_map token rs)) }
+    ensures kept { OnErr result (reply.new.items ≡ reply.old.items) }
+    ensures queue { connection.new.queue ≡ connection.old.queue }
+{
+    match command {
+        Command::Nothing(OfNothing::DbSize) => push_one_number(reply, keys(context)),
+        Command::Nothing(OfNothing::RandomKey) => answer_random_key(
+            context, me, workspace, now, reply,
+        ),
+        Command::Ping(None) => push_one_simple(reply, b"PONG"),
+        Command::Ping(Some(text)) => push_one_string(reply, text),
+        Command::Echo(text) => push_one_string(reply, text),
+        Command::Server(command) => answer_server(context, me, connection, command, now, reply),
+        _ => push_one_simple(reply, b"OK"),
+    }
+}
+
+/// The same. If memory is refused for the reply, or for the room that it has to leave free, the reply is that
+/// error.
+fn answer_or_refuse<S: Calls<Blob>, C: Clock, R: Wait>(
+    context: &ServerContext<'_, C, R>,
+    me: &mut S,
+    connection: &mut Connection,
+    workspace: &mut Workspace,
+    command: Command<'_>,
+    now: u64,
+    reply: &mut Vec<u8>,
+) -> Result<(), AllocError>
+    ensures goes { Goes (S.shown me.old).pass (S.shown me.new).pass }
+    ensures said { OnOk result ((rs : List Token) × (reply.new.items ≡ reply.old.items ++ flat_map token rs)) }
+    ensures queue { connection.new.queue ≡ connection.old.queue }
+{
+    let before = reply.len();
+    match answer_at_hand(context, me, connection, workspace, command, now, reply) {
+        Ok(()) => {
+            if has_room_for(workspace.beside, reply) {
+                return Ok(());
+            }
+            reply.truncate(before);
+        }
+        Err(_) => {}
+    }
+    push_one_failure(reply, text_of(MapRefusal::Memory))
+}
+
+/// Runs a command on several keys, or on none.
+fn run_other<S: Calls<Blob>, C: Clock, R: Wait>(
+    context: &ServerContext<'_, C, R>,
+    me: &mut S,
+    connection: &mut Connection,
+    workspace: &mut Workspace,
+    command: Command<'_>,
+    now: u64,
+    limit: usize,
+    reply: &mut Vec<u8>,
+) -> Result<(), AllocError>
+    ensures ran { OnOk result ((rs : List Token) × (reply.new.items ≡ reply.old.items ++ flat_map token rs) × IsOther S.limits context.now.settings.now.digest_keys now context.now.settings.now.bounds.longest_value limit command.entry (S.shown me.old) (S.shown me.new) rs) }
+    ensures queue { connection.new.queue ≡ connection.old.queue }
+{
+    let (rt, alloc) = (context.rt, context.alloc);
+    let most = context.settings.bounds.longest_value;
+    let digest_keys = context.settings.digest_keys;
+    match command {
+        Command::Keys(of, keys) => run_keys(
+            rt,
+            alloc,
+            me,
+            of,
+            keys,
+            digest_keys,
+            now,
+            most,
+            limit,
+            workspace,
+            reply,
+        ),
+        Command::SetMany(pairs) => set_pairs(
+            rt,
+            alloc,
+            me,
+            pairs,
+            digest_keys,
+            now,
+            most,
+            workspace,
+            reply,
+        ),
+        Command::Server(ServerCommand::Scan(scan)) => {
+            answer_scan(rt, alloc, me, scan, now, workspace.beside, reply)
+        }
+        Command::Server(ServerCommand::Flush) => answer_flush(rt, alloc, me, workspace, reply),
+        _ => answer_or_refuse(context, me, connection, workspace, command, now, reply),
+    }
+}
+
+/// Runs a command: on one key, or another one.
+fn run_command<S: Calls<Blob>, C: Clock, R: Wait>(
+    context: &ServerContext<'_, C, R>,
+    me: &mut S,
+    connection: &mut Connection,
+    workspace: &mut Workspace,
+    command: Command<'_>,
+    now: u64,
+    limit: usize,
+    reply: &mut Vec<u8>,
+) -> Result<(), AllocError>
+    ensures ran { OnOk result ((rs : List Token) × (reply.new.items ≡ reply.old.items ++ flat_map token rs) × IsRunAs S.limits context.now.settings.now.digest_keys now context.now.settings.now.bounds.longest_value limit command.entry (S.shown me.old) (S.shown me.new) rs) }
+    ensures queue { connection.new.queue ≡ connection.old.queue }
+{
+    match on_one_key(command) {
+        Some((key, command)) => {
+            let most = context.settings.bounds.longest_value;
+            let asking = Asking {
+                command,
+                digest_keys: context.settings.digest_keys,
+                now,
+                most,
+            };
+            answer_key(context.rt, context.alloc, me, key, asking, workspace, reply)
+        }
+        None => run_other(
+            context, me, connection, workspace, command, now, limit, reply,
+        ),
+    }
+}
+
+/// Runs a request that was read. The reply is that of its command, or the fault that Redis would find first.
+/// `limit` is how many bytes the reply may have.
+pub(crate) fn run<S: Calls<Blob>, C: Clock, R: Wait>(
+    context: &ServerContext<'_, C, R>,
+    me: &mut S,
+    connection: &mut Connection,
+    workspace: &mut Workspace,
+    request: Arguments<'_>,
+    asked: Result<Command<'_>, CommandFault<'_>>,
+    now: u64,
+    limit: usize,
+    reply: &mut Vec<u8>,
+) -> Result<(), AllocError>
+    requires { IfOk asked (λ c. Spells (listed request) c) }
+    ensures ran { OnOk result ((rs : List Token) × (reply.new.items ≡ reply.old.items ++ flat_map token rs) × IsRequest S.limits context.now.settings.now.digest_keys context.now.settings.now.bounds.longest_value limit (listed request.entry) (S.shown me.old) (S.shown me.new) rs) }
+    ensures queue { connection.new.queue ≡ connection.old.queue }
+{
+    let _ = request;
+    match asked {
+        Ok(command) => run_command(
+            context, me, connection, workspace, command, now, limit, reply,
+        ),
+        Err(fault) => push_one_fault(reply, fault, workspace.beside),
+    }
+}

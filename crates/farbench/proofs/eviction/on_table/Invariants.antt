@@ -1,0 +1,5 @@
+use Rattle.farbench.proofs.eviction.on_table.Given as goal
+
+-- the queue that was just opened
+abbrev pub ghosts-over_queue : goal.ghosts-over_queue
+ghosts-over_queue g a = record { table = a.queue.table }

@@ -1,0 +1,26 @@
+use denote.Param.Send.{sendable}
+use Rattle.std.proofs.Common.{OnOk, Global, map, string_bytes, subst}
+use Rattle.std.proofs.Crossing as vecs
+use Rattle.std.proofs.MapsCrossing as maps
+use Rattle.file_device.proofs.Sent as file
+use Rattle.resp_device.proofs.Sent as resp
+use Rattle.farrun.specs.Runs.{WasOpenedFor}
+use Rattle.farrun.proofs.run.run_asked.Goals as goal
+
+pub run_over-requires-send-D : goal.run_over-requires-send-D
+run_over-requires-send-D g c κs within = search (sendable, vecs.crosses, maps.crosses, resp.device_send) depth 40 fits 100000
+
+pub returns-in-Ok-clause-opened : goal.returns-in-Ok-clause-opened
+returns-in-Ok-clause-opened g c =
+    subst (λ words. OnOk c.run_over.result (WasOpenedFor (map (string_bytes {Z = Global}) words))) c.as_slice-words.ensures.value c.run_over.ensures.opened
+
+pub returns-then-is_empty-clause-opened : goal.returns-then-is_empty-clause-opened
+returns-then-is_empty-clause-opened g c =
+    subst (λ words. OnOk c.run_over-then-is_empty.result (WasOpenedFor (map (string_bytes {Z = Global}) words))) c.as_slice-words.ensures.value c.run_over-then-is_empty.ensures.opened
+
+pub run_over-requires-in-Ok-open_lanes-2-send-D : goal.run_over-requires-in-Ok-open_lanes-2-send-D
+run_over-requires-in-Ok-open_lanes-2-send-D g c κs within = search (sendable, vecs.crosses, maps.crosses, file.device_send) depth 40 fits 100000
+
+pub returns-in-Ok-open_lanes-2-clause-opened : goal.returns-in-Ok-open_lanes-2-clause-opened
+returns-in-Ok-open_lanes-2-clause-opened g c =
+    subst (λ words. OnOk c.run_over-in-Ok-open_lanes-2.result (WasOpenedFor (map (string_bytes {Z = Global}) words))) c.as_slice-words.ensures.value c.run_over-in-Ok-open_lanes-2.ensures.opened

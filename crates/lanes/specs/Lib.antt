@@ -1,8 +1,0 @@
-pub mod Marks
-pub mod Calls
-pub mod Lanes
-pub mod Served
-pub mod Slots
-pub mod Standing
-pub mod Turns
-pub mod Frames
