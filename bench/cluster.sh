@@ -6,7 +6,7 @@
 # not given, and no other is there meanwhile. cluster.py prints a markdown table of the medians. --quick tries it in half a minute.
 #
 # It needs nutcracker, redis-cli, redis-benchmark and rustc. nutcracker has one thread, each farserve four, one that keeps frames
-# free, and the front's. All data is in memory.
+# free, and the gateway's. All data is in memory.
 set -euo pipefail
 
 bench=$(cd "$(dirname "$(readlink -f "${BASH_SOURCE[0]}")")" && pwd)

@@ -106,7 +106,7 @@ def free_port():
 @contextlib.contextmanager
 def farserve(memory, folder):
     with Farserve(folder, memory=f"{memory}m") as server:
-        yield Running("resp", server.port(), [server.pid("farserve"), server.pid("front")], folder)
+        yield Running("resp", server.port(), [server.pid("farserve"), server.pid("gateway")], folder)
 
 
 @contextlib.contextmanager

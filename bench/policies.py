@@ -20,7 +20,7 @@ KEY = 16
 @contextlib.contextmanager
 def farserve(memory, policy, folder):
     with Farserve(folder, "--policy", policy, memory=f"{memory}m", far=None) as server:
-        yield Running("resp", server.port(), [server.pid("farserve"), server.pid("front")], folder)
+        yield Running("resp", server.port(), [server.pid("farserve"), server.pid("gateway")], folder)
 
 
 @contextlib.contextmanager

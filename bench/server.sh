@@ -7,7 +7,7 @@
 # docs/server.svg shows the calls. All data is in memory. --quick tries it in a minute, and draws into a file that it names.
 #
 # It needs redis-server, redis-benchmark, redis-cli and rustc. farserve has four threads, one that keeps frames free, and the
-# front's; redis-server has one.
+# gateway's; redis-server has one.
 set -euo pipefail
 
 bench=$(cd "$(dirname "$(readlink -f "${BASH_SOURCE[0]}")")" && pwd)

@@ -4,7 +4,7 @@ Builds are in out/ of the checkout, and in ${XDG_CACHE_HOME:-~/.cache}/fazhitta,
 written. A build's name is its kind, the sum of its sources, and the kit or compiler that made it:
 
     fartable-proved-0123456789abcdef-rattle-kit-13f_logic_dac8208d650f15bf
-    farserve-unproved-.., farserve-unproved-checked-.., front-..
+    farserve-unproved-.., farserve-unproved-checked-.., gateway-..
 """
 import contextlib
 import fcntl
@@ -235,14 +235,14 @@ def maker_of(program):
     return re.sub(rf".*-[0-9a-f]{{{DIGITS}}}-", "", program.name).replace("_", " ")
 
 
-class Front(Buildable):
+class Gateway(Buildable):
     """The part of the server that has its sockets, which rustc builds. Any compiler's build of the sources is taken."""
 
     def __init__(self):
-        super().__init__("front", Sources(["front"]))
+        super().__init__("gateway", Sources(["gateway"]))
 
     def built(self):
-        return self.find("front")
+        return self.find("gateway")
 
     def needs(self):
         if shutil.which("rustc"):
@@ -251,13 +251,13 @@ class Front(Buildable):
 
     def build(self):
         line = subprocess.run(["rustc", "-V"], stdin=subprocess.DEVNULL, stdout=subprocess.PIPE, errors="replace").stdout
-        return self.make_build("front", line.strip() or "rustc", "building it; this takes some seconds", self.compile)
+        return self.make_build("gateway", line.strip() or "rustc", "building it; this takes some seconds", self.compile)
 
     def compile(self, part):
-        words = ["rustc", "-O", "--edition", "2021", "-o", part, ROOT / "front/main.rs"]
+        words = ["rustc", "-O", "--edition", "2021", "-o", part, ROOT / "gateway/main.rs"]
         if subprocess.run(words, stdin=subprocess.DEVNULL, stdout=subprocess.PIPE).returncode:
-            raise Unbuilt("rustc can't build the front")
+            raise Unbuilt("rustc can't build the gateway")
 
     def version(self):
         program = self.built()
-        return f"front: {f'{place_of(program)}, by {maker_of(program)}' if program else 'none yet; a run builds it'}"
+        return f"gateway: {f'{place_of(program)}, by {maker_of(program)}' if program else 'none yet; a run builds it'}"

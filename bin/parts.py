@@ -6,7 +6,7 @@ import select
 import signal
 import subprocess
 
-# How long a part is waited for that was told to end, in seconds. The front has one second for replies.
+# How long a part is waited for that was told to end, in seconds. The gateway has one second for replies.
 PATIENCE = 5
 # Seconds after the end of one part in which the end of another, or a signal, counts as one with it.
 MOMENT = 0.2

@@ -1,6 +1,6 @@
 """The server's launcher, which bin/farserve starts: it finds or makes both programs, starts them, and ends them at a signal.
 
-The server is two programs: the proved one, which has no sockets, and the front, which joins connections to its pipes.
+The server is two programs: the proved one, which has no sockets, and the gateway, which joins connections to its pipes.
 """
 import contextlib
 import os
@@ -9,7 +9,7 @@ import signal
 import sys
 
 import options
-from builds import Front, Missing, Program
+from builds import Gateway, Missing, Program
 from parts import MOMENT, SIGNALS, Interrupted, Part, Signalled, Signals
 from runtime_folder import runtime_folder
 from unproved import Unbuilt
@@ -81,7 +81,7 @@ class Server:
                     os.mkfifo(f"{self.folder}/{name}", 0o600)
 
     def fail(self, ended):
-        # A signal to the whole group may have ended the front before it came here.
+        # A signal to the whole group may have ended the gateway before it came here.
         if self.signals.come_within(MOMENT):
             raise Signalled
         # What ended one may be the end of the other, which is seen after it.
@@ -101,9 +101,9 @@ class Server:
             text += piece
         return text
 
-    def serve(self, program, front, words):
+    def serve(self, program, gateway, words):
         self.make_pipes(words)
-        # A signal to the whole group, as a terminal sends it, is not to end it before the front.
+        # A signal to the whole group, as a terminal sends it, is not to end it before the gateway.
         server = self.start("server", [program, *words, "--pipes", self.folder], SIGNALS, malloc_for(words))
         told = self.told(server, b"\0\0")
         if not told.endswith(b"\0\0"):
@@ -114,30 +114,30 @@ class Server:
         words += ["--server-pid", str(server.process.pid)]
         for lane in range(int(count)):
             words += ["--lane", f"{self.folder}/requests{lane}", f"{self.folder}/replies{lane}"]
-        write(self.told(self.start("front", [front, *words]), b"\n").decode())
+        write(self.told(self.start("gateway", [gateway, *words]), b"\n").decode())
         self.fail(self.signals.wait(self.parts))
 
     def end(self):
-        """Ends the front, and then the server. Gives the front's status, 0 where there is none."""
+        """Ends the gateway, and then the server. Gives the gateway's status, 0 where there is none."""
         statuses = [it.end(signal.SIGTERM) for it in self.parts[1:]]
         for it in self.parts[:1]:
             it.end(signal.SIGKILL)
         return max(statuses, default=0)
 
 
-def serve(program, front, words, signals):
+def serve(program, gateway, words, signals):
     """Serves until a signal comes."""
     with runtime_folder() as folder:
         server = Server(folder, signals)
         try:
-            server.serve(program, front, words)
+            server.serve(program, gateway, words)
         except Signalled:
             pass
         finally:
             status = server.end()
-    # A signal may end the front before it takes signals itself.
+    # A signal may end the gateway before it takes signals itself.
     if status > 0:
-        raise Failed(1, f"the front has ended with status {status}")
+        raise Failed(1, f"the gateway has ended with status {status}")
 
 
 def check_needs(needing):
@@ -147,12 +147,12 @@ def check_needs(needing):
         raise Missing(f"building it needs {' and '.join(needs)}")
 
 
-def build_missing(server, front, is_proved):
+def build_missing(server, gateway, is_proved):
     """Gives the paths of both programs, of which one at least has to be built."""
-    program, gateway = None if is_proved else server.built(), front.built()
-    check_needs([*[server] * (not program), *[front] * (not gateway)])
+    program, gateway = None if is_proved else server.built(), gateway.built()
+    check_needs([*[server] * (not program), *[gateway] * (not gateway)])
     # The short one first, as it may fail too.
-    gateway = gateway or front.build()
+    gateway = gateway or gateway.build()
     if is_proved:
         return server.give_proved(), gateway
     return program or server.build_unproved(), gateway
@@ -160,14 +160,14 @@ def build_missing(server, front, is_proved):
 
 def give_programs(words, is_proved, signals):
     """Gives the paths of both programs, which are built first if they have to be."""
-    server, front = Program("farserve"), Front()
-    program, gateway = server.built(), front.built()
+    server, gateway = Program("farserve"), Gateway()
+    program, gateway = server.built(), gateway.built()
     if not (program and gateway):
         options.judge("farserve", words)
     if is_proved or not (program and gateway):
         with signals.interrupting():
             try:
-                program, gateway = build_missing(server, front, is_proved)
+                program, gateway = build_missing(server, gateway, is_proved)
             except OSError as why:
                 raise Unbuilt(why) from None
     server.tell_of(program)
@@ -176,15 +176,15 @@ def give_programs(words, is_proved, signals):
 
 def run(words, signals):
     if words[:1] == ["--version"]:
-        write(f"{Program('farserve').version()}\n{Front().version()}\n")
+        write(f"{Program('farserve').version()}\n{Gateway().version()}\n")
         return 0
     is_proved = words[:1] == ["--proved"]
     words = words[1:] if is_proved else words
     try:
-        program, front = give_programs(words, is_proved, signals)
+        program, gateway = give_programs(words, is_proved, signals)
         if words or not is_proved:
             signals.check()
-            serve(program, front, words, signals)
+            serve(program, gateway, words, signals)
     except options.Answered as answered:
         return answered.tell()
     except Signalled:

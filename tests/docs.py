@@ -1,6 +1,6 @@
 """Tries the links of the docs, what they name in backticks, and how long their sentences are: docs.py.
 
-In README.md, CONTRIBUTING.md, CHANGELOG.md, docs/ and the READMEs of the crates, the tests, the front and the examples, but for what stands
+In README.md, CONTRIBUTING.md, CHANGELOG.md, docs/ and the READMEs of the crates, the tests, the gateway and the examples, but for what stands
 between lines of ```:
 
 - the file of a relative link is there, and where it names a place, so is the heading;
@@ -19,7 +19,7 @@ from functools import cache
 from pathlib import Path
 
 ROOT = Path(__file__).resolve().parent.parent
-PAGES = ("README.md", "CONTRIBUTING.md", "CHANGELOG.md", "docs/*.md", "crates/README.md", "crates/*/README.md", "front/README.md",
+PAGES = ("README.md", "CONTRIBUTING.md", "CHANGELOG.md", "docs/*.md", "crates/README.md", "crates/*/README.md", "gateway/README.md",
          "examples/*/README.md", "tests/*/README.md", "tests/*/*/README.md")
 FOLDERS = {"src", "specs", "proofs", "must-fail", "long-edits", *(it.name for it in [*ROOT.iterdir(), *ROOT.glob("crates/*")])}
 FILE = re.compile(r"\.(rt|antt|md|sh|py|c|rs|txt|edit|svg)$")

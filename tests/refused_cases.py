@@ -60,8 +60,8 @@ def is_want(path, said):
         return False
     expected, found = told.groups()
     # What stands in place of a part of the reply may have more words than that part.
-    front, want, back = found.partition(WANT)
-    return found == CLOSED or (want != "" and expected.startswith(front) and (WANT in back or expected.endswith(back)))
+    gateway, want, back = found.partition(WANT)
+    return found == CLOSED or (want != "" and expected.startswith(gateway) and (WANT in back or expected.endswith(back)))
 
 
 def judge(path, status, said):

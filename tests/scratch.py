@@ -34,12 +34,12 @@ def hashed(text, start=0):
 
 def groups(count, pairs):
     """So many lists of so many keys of one bucket, each of another bucket."""
-    front, buckets, found = hashed((255).to_bytes(2, "big") + PREFIX.encode()), {}, []
+    gateway, buckets, found = hashed((255).to_bytes(2, "big") + PREFIX.encode()), {}, []
     number = 0
     while len(found) < count:
         key = f"{PREFIX}{number:08}"
         number += 1
-        group = buckets.setdefault(hashed(key[len(PREFIX):].encode(), front) % BUCKETS, [])
+        group = buckets.setdefault(hashed(key[len(PREFIX):].encode(), gateway) % BUCKETS, [])
         if len(group) < pairs:
             group.append(key)
             if len(group) == pairs:

@@ -136,7 +136,7 @@ def a_signal_ends_it(tried, _):
             with tried.start() as server:
                 client = server.client()
                 assert client.ask("SET", "k", "1") == OK
-                both = [server.pid("front"), server.pid("farserve")]
+                both = [server.pid("gateway"), server.pid("farserve")]
                 client.send(request("GET", "k") * 1000)
                 if to_all:
                     os.killpg(server.process.pid, name)
@@ -150,9 +150,9 @@ def a_signal_ends_it(tried, _):
 
 
 def who_dies_is_named(tried, _):
-    for name, told in (("front", "the front has ended with status -9"), ("farserve", "the server has ended with status -9")):
+    for name, told in (("gateway", "the gateway has ended with status -9"), ("farserve", "the server has ended with status -9")):
         with tried.start() as server:
-            client, other = server.client(), "front" if name == "farserve" else "farserve"
+            client, other = server.client(), "gateway" if name == "farserve" else "farserve"
             assert client.ask("PING") == PONG
             other = server.pid(other)
             os.kill(server.pid(name), signal.SIGKILL)
@@ -171,15 +171,15 @@ def who_dies_is_named(tried, _):
 INSTEAD = """import sys
 sys.path.insert(0, sys.argv[1])
 import serve
-front = serve.Front()
-front = front.built() or front.build()
-serve.give_programs = lambda *_: (sys.argv[2], front)
+gateway = serve.Gateway()
+gateway = gateway.built() or gateway.build()
+serve.give_programs = lambda *_: (sys.argv[2], gateway)
 sys.exit(serve.main([]))
 """
 
 
 def who_dies_early_is_named(tried, _):
-    """The server fails once it has told the front's words, and before the pipes are open."""
+    """The server fails once it has told the gateway's words, and before the pipes are open."""
     program = Path(tried.work) / "program"
     program.write_text("#!/bin/sh\nprintf '1\\0--port\\0000\\0\\0'\nsleep 0.5\nexit 3\n")
     program.chmod(0o700)

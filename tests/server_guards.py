@@ -95,7 +95,7 @@ def who_never_reads_harms_nobody(tried, _):
     with tried.start() as server:
         lazy, other = server.client(), server.client()
         assert lazy.ask("PING") == PONG and other.ask("SET", "large", b"x" * 60000) == OK
-        before = 0 if tried.is_redis else server.files("front")
+        before = 0 if tried.is_redis else server.files("gateway")
         lazy.socket.settimeout(1)
         with contextlib.suppress(OSError):
             for _ in range(40):
@@ -104,7 +104,7 @@ def who_never_reads_harms_nobody(tried, _):
         server.answers()
         if not tried.is_redis:
             # Its replies pass what may wait for a client.
-            until(lambda: server.files("front") < before, "the end of who never reads")
+            until(lambda: server.files("gateway") < before, "the end of who never reads")
             assert lazy.is_ended(), "it is not closed"
         lazy.close()
         assert other.ask("PING") == PONG

@@ -18,7 +18,7 @@ LARGE = 1_000_000
 
 def peaks(server):
     """The most bytes of the program and of the gateway that were resident, each at its own time."""
-    return server.peak("farserve") + server.peak("front")
+    return server.peak("farserve") + server.peak("gateway")
 
 
 def each(count, work):

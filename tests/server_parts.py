@@ -213,7 +213,7 @@ class Farserve(Process):
         return self
 
     def pid(self, name):
-        """The process of `front` or `farserve`, the program."""
+        """The process of `gateway` or `farserve`, the program."""
         for pid in children(self.process.pid):
             with contextlib.suppress(OSError):
                 if os.path.basename(os.readlink(f"/proc/{pid}/exe")).startswith(name):
@@ -221,7 +221,7 @@ class Farserve(Process):
         raise AssertionError(f"there is no process {name}")
 
     def peak(self, name="farserve"):
-        """The most bytes of the process of `front` or `farserve` that were resident at once."""
+        """The most bytes of the process of `gateway` or `farserve` that were resident at once."""
         status = Path(f"/proc/{self.pid(name)}/status").read_text()
         return int(status.partition("VmHWM:")[2].split()[0]) << 10
 
@@ -231,7 +231,7 @@ class Farserve(Process):
         return sum(map(int, fields[11:13])) / os.sysconf("SC_CLK_TCK")
 
     def files(self, name):
-        """How many files the process of `front` or `farserve` has open."""
+        """How many files the process of `gateway` or `farserve` has open."""
         return len(os.listdir(f"/proc/{self.pid(name)}/fd"))
 
     def scratch(self):

@@ -131,13 +131,13 @@ def who_never_reads_gets_little_before_a_password(tried, _):
     with guarded(tried, "--auth-timeout", 0) as server:
         lazy = server.client()
         assert lazy.ask("PING") == NOAUTH
-        before = server.files("front")
+        before = server.files("gateway")
         with contextlib.suppress(ConnectionResetError, BrokenPipeError):
             # Their replies are 64 MiB, more than the system keeps, and no more than may wait for one that gave the password.
             for _ in range(400):
                 lazy.send(request("PING") * 4900)
-        until(lambda: server.files("front") < before, "the end of who never reads")
-        memory = Path(f"/proc/{server.pid('front')}/statm").read_text().split()[1]
+        until(lambda: server.files("gateway") < before, "the end of who never reads")
+        memory = Path(f"/proc/{server.pid('gateway')}/statm").read_text().split()[1]
         assert int(memory) * 4096 < 24 * MEBIBYTE, memory
         with Client(server.address) as client:
             assert client.ask("AUTH", PASSWORD) == OK

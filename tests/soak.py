@@ -2,7 +2,7 @@
 
 LOAD is the program of bench/load, FOLDER has the scratch files. Over the last half of the lines these count as flat:
 
-- resident memory of the program and of the front, and the bytes on disk: the line of least squares rises over that half by less
+- resident memory of the program and of the gateway, and the bytes on disk: the line of least squares rises over that half by less
   than 3 % of the mean or half a MiB, as a system short of memory takes pages of programs and gives them back;
 - open files of each: always as many;
 - p99 of the gets of small values: its median in the last quarter is at most 1.5 times that in the third.
@@ -37,8 +37,8 @@ LANES = 4
 # Bytes of values that have all sizes of the loads' and checkers' buckets, and how many of each a client sets.
 SIZES = [300 << step for step in range(9)]
 SIZED = 8
-GROWING = ("program, MiB", "front, MiB", "disk, MiB")
-FILES = ("its files", "front's files")
+GROWING = ("program, MiB", "gateway, MiB", "disk, MiB")
+FILES = ("its files", "gateway's files")
 COLUMNS = ("minute", *GROWING, *FILES, "far objects", "clients", "calls/s", "p99, µs", "hits, %", "checked/s", "lost", "evicted", "errors",
            "renewals", "pause, ms")
 
@@ -86,15 +86,15 @@ class Soak:
 
     def look(self):
         """What stands in a line of the servers' processes, files and INFO, while all are connected."""
-        program, front = self.server.pid("farserve"), self.server.pid("front")
+        program, gateway = self.server.pid("farserve"), self.server.pid("gateway")
         lost = sum(it.lost for it in self.checkers)
         told = self.control.info()
         if lost > int(told["evicted_keys"]):
             raise Failed(f"{lost} values are lost, and {told['evicted_keys']} were evicted")
         if {told["renewal_lost_pairs"], told["renewal_lost_buckets"]} != {"0"}:
             raise Failed(f"a renewal lost {told['renewal_lost_pairs']} pairs and {told['renewal_lost_buckets']} buckets")
-        return {"program, MiB": resident(program), "front, MiB": resident(front), "disk, MiB": int(told["far_bytes"]) / MEBIBYTE,
-                "its files": self.server.files("farserve"), "front's files": self.server.files("front"),
+        return {"program, MiB": resident(program), "gateway, MiB": resident(gateway), "disk, MiB": int(told["far_bytes"]) / MEBIBYTE,
+                "its files": self.server.files("farserve"), "gateway's files": self.server.files("gateway"),
                 "far objects": int(told["far_objects"]), "clients": int(told["connected_clients"]), "lost": lost, "evicted": int(told["evicted_keys"]), "renewals": int(told["renewals"]), "pause, ms": int(told["renewal_last_ms"])}
 
     def line(self):

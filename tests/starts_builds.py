@@ -24,7 +24,7 @@ def two_starts_at_once_make_one_build(tried, _):
             process.terminate()
             process.communicate(timeout=PATIENCE)
     assert [it.returncode for it in both] == [0, 0]
-    assert copy.built() == ["farserve with checks", "fartable with checks", "front"], copy.built()
+    assert copy.built() == ["farserve with checks", "fartable with checks", "gateway"], copy.built()
 
 
 def a_path_may_have_spaces(tried, is_long):
@@ -138,7 +138,7 @@ def what_is_built_needs_neither_kit_nor_compiler(tried, _):
             copy.lacks("rt", "rustc")
     assert f"takes this build by {kit}" in copy.table()
     assert f"kit: none in PATH; the build is by {kit}" in copy.run("fartable", "--version").stdout
-    assert copy.built() == ["farserve with checks", "fartable with checks", "front"], copy.built()
+    assert copy.built() == ["farserve with checks", "fartable with checks", "gateway"], copy.built()
     # Of other sources it is not taken.
     (copy.path / "crates/fartable/src/main.rt").open("a").write("\n")
     assert copy.run("fartable", 4, 2, 4096, "-").returncode == 127

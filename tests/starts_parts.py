@@ -11,7 +11,7 @@ sys.path.insert(0, str(ROOT / "bin"))
 import builds
 
 # What a checkout has for its programs.
-PARTS = ["bin", "crates", "front", "crates.txt", "HANDLES"]
+PARTS = ["bin", "crates", "gateway", "crates.txt", "HANDLES"]
 # What only a real build needs.
 LEFT_OUT = ["proofs", "specs", "must-fail", "long-edits", "README.md"]
 # Commands that launchers need, beside rt and rustc.
@@ -35,9 +35,9 @@ if [ "$1" = -V ]; then
     exit
 fi
 while [ "$1" != -o ]; do shift; done
-echo front >>"$BUILDS"
+echo gateway >>"$BUILDS"
 sleep "${SECONDS_OF_RUSTC:-0.3}"
-cp "$BUILT/front" "$2"
+cp "$BUILT/gateway" "$2"
 """
 
 
@@ -55,8 +55,8 @@ class Tried:
         self.built.mkdir()
         for name in ("fartable", "farrun", "wordcount", "farserve"):
             shutil.copy(program(name), self.built / name)
-        front = builds.Front()
-        shutil.copy(front.built() or front.build(), self.built / "front")
+        gateway = builds.Gateway()
+        shutil.copy(gateway.built() or gateway.build(), self.built / "gateway")
         self.runtime = self.folder()
         os.environ["XDG_RUNTIME_DIR"] = str(self.runtime)
         # Others than the owner come here too.

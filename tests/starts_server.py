@@ -40,18 +40,18 @@ def a_built_server_is_soon_ready(tried, _):
 
 
 def a_signal_to_all_ends_a_server_well(tried, is_long):
-    """Also if the front ends before the signal comes to the launcher."""
+    """Also if the gateway ends before the signal comes to the launcher."""
     times = 100 if is_long else 8
     for at in range(times):
         name = (signal.SIGINT, signal.SIGTERM)[at % 2]
         with Farserve(tried.work, far=None) as server:
             os.killpg(server.process.pid, name)
             assert server.process.wait(PATIENCE) == 0, server.text()
-    # The front has it a little sooner. (Others may use the machine, so that little is much: of some times one has to be well.)
+    # The gateway has it a little sooner. (Others may use the machine, so that little is much: of some times one has to be well.)
     statuses = []
     while 0 not in statuses and len(statuses) < 5:
         with Farserve(tried.work, far=None) as server:
-            os.kill(server.pid("front"), name)
+            os.kill(server.pid("gateway"), name)
             time.sleep(0.05)
             server.process.send_signal(name)
             statuses.append(server.process.wait(PATIENCE))

@@ -5,8 +5,8 @@ use Rattle.far_map.specs.declared.refusal.MapRefusal.TheVariants as refusal
 
 abbrev pub text_of : MapRefusal → List ℕ
 text_of refusal.TooLong = codes "ERR bucket is full"
-text_of (refusal.Full what) = codes "OOM command not allowed: no frame can be emptied"
-text_of refusal.NamesSpent = codes "ERR far map has no names left"
+text_of (refusal.Full what) = codes "OOM command not allowed: nothing can be swapped out"
+text_of refusal.NamesSpent = codes "ERR the map is being renewed, try again"
 text_of refusal.Device = codes "ERR far device failed"
 text_of refusal.Damaged = codes "ERR far device gave back damaged bytes"
 text_of refusal.Memory = codes "OOM command not allowed: out of memory"
@@ -21,7 +21,7 @@ no_room = codes "OOM command not allowed when used memory > 'maxmemory'."
 
 -- where others were faster each time
 abbrev pub overtaken : List ℕ
-overtaken = codes "ERR the key is changed by others all the time"
+overtaken = codes "ERR the key is under contention, try again"
 
 -- where a key has more bytes than one that is stored
 abbrev pub key_too_long : List ℕ

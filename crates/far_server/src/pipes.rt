@@ -10,7 +10,7 @@ use thiserror::Error;
 #[derive(Clone, Copy, Debug, PartialEq, Eq, Error)]
 pub enum PipesFault {
     /// The system could not open one of them.
-    #[error("the pipes of a lane cannot be opened")]
+    #[error("the pipes of a worker cannot be opened")]
     Io,
     /// An allocation failed.
     #[error("memory")]

@@ -6,7 +6,7 @@ ghost use Rattle.far_server.specs.Refusing.{IsTold, text_of};
 use far_map::MapRefusal;
 
 /// The reply if others changed the key at each of many tries.
-pub(crate) const OVERTAKEN: &[u8] = b"ERR the key is changed by others all the time";
+pub(crate) const OVERTAKEN: &[u8] = b"ERR the key is under contention, try again";
 
 /// The reply if memory is full, and objects can't be swapped out.
 pub(crate) const NO_ROOM: &[u8] = b"OOM command not allowed when used memory > 'maxmemory'.";
@@ -33,8 +33,8 @@ pub(crate) fn text_of(why: MapRefusal) -> &'static [u8]
 {
     match why {
         MapRefusal::TooLong => b"ERR bucket is full",
-        MapRefusal::Full(_) => b"OOM command not allowed: no frame can be emptied",
-        MapRefusal::NamesSpent => b"ERR far map has no names left",
+        MapRefusal::Full(_) => b"OOM command not allowed: nothing can be swapped out",
+        MapRefusal::NamesSpent => b"ERR the map is being renewed, try again",
         MapRefusal::Device => b"ERR far device failed",
         MapRefusal::Damaged => b"ERR far device gave back damaged bytes",
         MapRefusal::Memory => b"OOM command not allowed: out of memory",

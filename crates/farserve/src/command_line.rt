@@ -205,7 +205,7 @@ fn with_addresses<'a>(alloc: Global, command: Command<'a>) -> Result<Command<'a>
         alloc,
         "pipes",
         "DIR",
-        "The folder of the pipes to the front",
+        "The folder of the pipes to the gateway",
     );
     let names = text(
         alloc,

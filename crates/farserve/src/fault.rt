@@ -91,7 +91,7 @@ impl Display for FarserveFault<'_> {
                 f,
                 "--memory {text}: too little for so many buckets and threads, and for values of --value-limit: {least}m would do"
             ),
-            FarserveFault::Pipes => f.write_str("it has no front; bin/farserve starts both"),
+            FarserveFault::Pipes => f.write_str("it has no gateway; bin/farserve starts both"),
             FarserveFault::Unread(path, fault) => write!(f, "--password-file {path}: {fault}"),
             FarserveFault::Empty(path) => write!(
                 f,
@@ -116,7 +116,7 @@ impl Display for FarserveFault<'_> {
             FarserveFault::Memory => f.write_str("memory"),
             FarserveFault::Write => f.write_str("standard output can't be written"),
             FarserveFault::Run(fault) => write!(f, "the map could not be run: {fault}"),
-            FarserveFault::Worker(fault) => write!(f, "a lane has ended: {fault}"),
+            FarserveFault::Worker(fault) => write!(f, "a worker has ended: {fault}"),
         }
     }
 }

@@ -115,7 +115,7 @@ fn far_field<'f>(facts: &'f mut Facts, name: &str) -> Option<&'f mut u64> {
 
 fn set_fact(facts: &mut Facts, name: &str, number: u64) -> Option<()> {
     match name {
-        "lanes" => facts.workers = u32::try_from(number).ok()?,
+        "workers" => facts.workers = u32::try_from(number).ok()?,
         "port" => facts.port = u32::try_from(number).ok()?,
         "buckets" => facts.buckets = u32::try_from(number).ok()?,
         "frames" => facts.frames = u32::try_from(number).ok()?,
@@ -137,7 +137,7 @@ fn set_option(options: &mut Options, name: &str, number: u64) -> Option<()> {
         "timeout" => options.timeout = number,
         "longest_value" => options.longest_value = number,
         "port" => options.port = u32::try_from(number).ok()?,
-        "lanes" => options.workers = u32::try_from(number).ok()?,
+        "workers" => options.workers = u32::try_from(number).ok()?,
         _ => return None,
     }
     Some(())

@@ -109,7 +109,7 @@ fn push_server(facts: &Facts, text: &mut Vec<u8>) -> Result<(), AllocError> {
             ("uptime_in_seconds", up / SECOND),
             ("uptime_in_days", up / DAY),
             ("io_threads_active", u64::from(facts.workers > 1)),
-            ("lanes", u64::from(facts.workers)),
+            ("workers", u64::from(facts.workers)),
         ],
     )
 }

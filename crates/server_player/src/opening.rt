@@ -103,7 +103,7 @@ fn settings(line: &Line, workers: u32) -> Result<ServerSettings> {
 impl Opening {
     /// What a line says. What it does not say is as in tests/cases/server/README.md.
     pub fn of(line: &Line) -> Result<Opening> {
-        let workers = number(line, "lanes", 1, MOST_WORKERS)?.min(MOST_WORKERS) as u32;
+        let workers = number(line, "workers", 1, MOST_WORKERS)?.min(MOST_WORKERS) as u32;
         Ok(Opening {
             settings: settings(line, workers)?,
             pipes: small(line, "pipes", workers)?,

@@ -1,12 +1,12 @@
-"""Trials of front.py: clients that the lane has not let in."""
+"""Trials of gateway.py: clients that the worker has not let in."""
 import contextlib
 import random
 import socket
 import time
 
-from front_guarded import (ARGUMENTS, AUTH, BYTES, INVALID, LINE, LONG, MANY, NOAUTH, OK, PASSWORD, RESET, WRONG, Guarded, guarded,
+from gateway_guarded import (ARGUMENTS, AUTH, BYTES, INVALID, LINE, LONG, MANY, NOAUTH, OK, PASSWORD, RESET, WRONG, Guarded, guarded,
                            request, request_at)
-from front_parts import (CLOSE, DATA, LET_IN, LET_OUT, MEBIBYTE, NOTE, OPEN, PATIENCE, Front, asked, frame, is_closed, received,
+from gateway_parts import (CLOSE, DATA, LET_IN, LET_OUT, MEBIBYTE, NOTE, OPEN, PATIENCE, Gateway, asked, frame, is_closed, received,
                          until)
 
 
@@ -25,8 +25,8 @@ def is_told(client, sent, reply, cuts=()):
 def requests_within_the_limits_pass_at_once(work, _):
     most = request(*[b"x" * BYTES] * ARGUMENTS)
     line = b"x" * BYTES + b"\n"
-    with guarded(work) as (front, lane):
-        client = front.client()
+    with guarded(work) as (gateway, worker):
+        client = gateway.client()
         for sent in (request(b"GET", b"k"), b"GET k\r\n", most, line, b"\n\r\n*0\r\n*-1\r\n*-77\r\n" + request(b"PING"), most + line):
             client.sendall(sent)
             want = NOAUTH * (sent.count(b"x" * BYTES + b"\n") + (b"*10" in sent) or 1)
@@ -36,10 +36,10 @@ def requests_within_the_limits_pass_at_once(work, _):
             client.sendall(bytes([byte]))
             time.sleep(0.002)
         assert received(client, len(NOAUTH)) == NOAUTH
-        assert lane.notes() == [], "the lane was asked"
+        assert worker.notes() == [], "the worker was asked"
         # A part of a request is passed on too.
         client.sendall(b"*2\r\n$4\r\nPI")
-        until(lambda: lane.halves[0] == b"*2\r\n$4\r\nPI", "a part of a request")
+        until(lambda: worker.halves[0] == b"*2\r\n$4\r\nPI", "a part of a request")
 
 
 def requests_beyond_the_limits_are_told(work, _):
@@ -50,90 +50,90 @@ def requests_beyond_the_limits_are_told(work, _):
                (request(b"SET", b"k", b"x" * 20000) + request(b"PING"), LONG)]
     before = [(b"", b""), (request(b"GET", b"k") * 3, NOAUTH * 3), (b"PING\r\n", NOAUTH), (request(b"AUTH", b"wrong"), WRONG),
               (request(b"SLEEP", b"0.1") + request(b"AUTH", b"wrong") + request(b"PING"), WRONG + NOAUTH)]
-    with guarded(work, lanes=2) as (front, _):
-        other = front.client()
+    with guarded(work, workers=2) as (gateway, _):
+        other = gateway.client()
         for sent, error in beyond:
             for first, replies in before:
-                is_told(front.client(), first + sent, replies + error)
+                is_told(gateway.client(), first + sent, replies + error)
                 whole = first + sent
-                is_told(front.client(), whole, replies + error, sorted(random.sample(range(1, len(whole)), 3)))
+                is_told(gateway.client(), whole, replies + error, sorted(random.sample(range(1, len(whole)), 3)))
         asked(other, b"PING", NOAUTH)
-        until(lambda: sum(len(it.halves) for it in front.lanes) == 1, "all closes")
+        until(lambda: sum(len(it.halves) for it in gateway.workers) == 1, "all closes")
 
 
 def what_is_no_request_is_told_by_the_lane(work, _):
-    with guarded(work) as (front, lane):
+    with guarded(work) as (gateway, worker):
         for sent in (b"*x\r\n", b"*1\r\n!4\r\n", b"*2\r\n$-1\r\n", b"*1\r\n$x\r\n" + b"y" * 100_000):
-            is_told(front.client(), request(b"PING") + sent, NOAUTH + INVALID)
-        # What the lane takes all the same has its end.
-        lane.take = lambda connection, data: None
+            is_told(gateway.client(), request(b"PING") + sent, NOAUTH + INVALID)
+        # What the worker takes all the same has its end.
+        worker.take = lambda connection, data: None
         for rest in (b"\n" + b"y" * 100, b"y" * 2000):
-            is_told(front.client(), b"*2x" + rest, b"-ERR Protocol error\r\n")
+            is_told(gateway.client(), b"*2x" + rest, b"-ERR Protocol error\r\n")
 
 
 def a_password_in_the_same_packet_lets_in(work, _):
     long, many, line = request(b"SET", b"k", b"x" * 20000), request(*[b"y"] * 12), b"SET " + b"z" * 30000 + b"\n"
-    with guarded(work) as (front, lane):
+    with guarded(work) as (gateway, worker):
         for sent, reply in ((long, b":20001\r\n"), (many, b":11\r\n"), (line, b":30000\r\n")):
             for first in (AUTH, request(b"PING") + request(b"SLEEP", b"0.02") + AUTH):
                 for cuts in ((), (len(first),), *(sorted(random.sample(range(1, len(first) + 40), 2)) for _ in range(3))):
-                    client, whole = front.client(), first + sent + long + request(b"QUIT")
+                    client, whole = gateway.client(), first + sent + long + request(b"QUIT")
                     is_told(client, whole, NOAUTH * (b"PING" in first) + OK + reply + b":20001\r\n" + OK, cuts)
-        client = front.client()
+        client = gateway.client()
         client.sendall(AUTH + request(b"SET", b"k", b"x" * 2 * MEBIBYTE) + long * 100)
         want = OK + b":%d\r\n" % (2 * MEBIBYTE + 1) + b":20001\r\n" * 100
         assert received(client, len(want)) == want
-        # What is held is handed over once the lane has answered, and not before.
-        lane.answers = False
-        client = front.client()
+        # What is held is handed over once the worker has answered, and not before.
+        worker.answers = False
+        client = gateway.client()
         client.sendall(AUTH + long)
         assert received(client, len(OK)) == OK
-        until(lambda: lane.notes_held, "the question")
-        assert lane.notes_held == [b"sync %d" % lane.last]
+        until(lambda: worker.notes_held, "the question")
+        assert worker.notes_held == [b"sync %d" % worker.last]
         time.sleep(0.1)
-        assert lane.frames[-1][0] == NOTE and front.rests(), "it is busy while it waits"
-        lane.send(b"".join(frame(NOTE, 0, it) for it in (b"", b"synced", b"synced x", b"synced 999", b"later 1", b"\xff" * 4096)))
-        lane.send(frame(NOTE, 0, b"synced %d" % lane.last))
+        assert worker.frames[-1][0] == NOTE and gateway.rests(), "it is busy while it waits"
+        worker.send(b"".join(frame(NOTE, 0, it) for it in (b"", b"synced", b"synced x", b"synced 999", b"later 1", b"\xff" * 4096)))
+        worker.send(frame(NOTE, 0, b"synced %d" % worker.last))
         assert received(client, 8) == b":20001\r\n"
 
 
 def who_goes_while_the_lane_is_asked_is_forgotten(work, _):
-    with guarded(work) as (front, lane):
-        lane.answers = False
+    with guarded(work) as (gateway, worker):
+        worker.answers = False
         for turn in range(20):
-            client = front.client()
+            client = gateway.client()
             client.sendall(request(b"PING") + b"*11\r\n")
             assert received(client, len(NOAUTH)) == NOAUTH
-            until(lambda: len(lane.notes_held) == turn + 1, "the question")
-            front.clients.remove(client)
+            until(lambda: len(worker.notes_held) == turn + 1, "the question")
+            gateway.clients.remove(client)
             client.close()
-        lane.answers = True
-        for text in lane.notes_held:
-            lane.take_note(text)
-        until(lambda: not lane.halves, "all closes")
-        asked(front.client(), b"PING", NOAUTH)
+        worker.answers = True
+        for text in worker.notes_held:
+            worker.take_note(text)
+        until(lambda: not worker.halves, "all closes")
+        asked(gateway.client(), b"PING", NOAUTH)
 
 
 def nothing_comes_behind_a_close(work, _):
-    with guarded(work) as (front, lane):
-        lane.answers = lane.closes = False
-        client = front.client()
+    with guarded(work) as (gateway, worker):
+        worker.answers = worker.closes = False
+        client = gateway.client()
         client.sendall(AUTH + request(b"SET", b"k", b"x" * 20000))
         assert received(client, len(OK)) == OK
-        until(lambda: lane.notes_held, "the question")
-        front.process.terminate()
-        until(lambda: lane.withheld, "the close")
-        lane.send(frame(NOTE, 0, b"synced 0"))
+        until(lambda: worker.notes_held, "the question")
+        gateway.process.terminate()
+        until(lambda: worker.withheld, "the close")
+        worker.send(frame(NOTE, 0, b"synced 0"))
         time.sleep(0.1)
-        assert lane.frames[-1] == (CLOSE, 0, b""), lane.frames[-1][:2]
-        lane.send(frame(CLOSE, 0))
-        assert is_closed(client) and front.ended(0) == ""
+        assert worker.frames[-1] == (CLOSE, 0, b""), worker.frames[-1][:2]
+        worker.send(frame(CLOSE, 0))
+        assert is_closed(client) and gateway.ended(0) == ""
 
 
 def who_is_let_out_is_a_stranger_again(work, _):
     long = request(b"SET", b"k", b"x" * 20000)
-    with guarded(work) as (front, lane):
-        client = front.client()
+    with guarded(work) as (gateway, worker):
+        client = gateway.client()
         for _ in range(3):
             client.sendall(AUTH + long)
             assert received(client, 13) == OK + b":20001\r\n"
@@ -146,25 +146,25 @@ def who_is_let_out_is_a_stranger_again(work, _):
 
 
 def who_comes_too_early_is_served(work, _):
-    """A lane without a password, whose leave comes behind the client's first bytes."""
-    with Front(work, kind=Guarded) as front:
-        lane = front.lanes[0]
-        lane.reads.clear()
-        lane.welcome = lambda connection: lane.obey_words(connection, b"AUTH", PASSWORD)
-        pong_client = front.client()
-        client = front.client()
+    """A worker without a password, whose leave comes behind the client's first bytes."""
+    with Gateway(work, kind=Guarded) as gateway:
+        worker = gateway.workers[0]
+        worker.reads.clear()
+        worker.welcome = lambda connection: worker.obey_words(connection, b"AUTH", PASSWORD)
+        pong_client = gateway.client()
+        client = gateway.client()
         client.sendall(request(b"SET", b"k", b"x" * 70000) * 3 + request(*[b"y"] * 5000))
         pong_client.sendall(b"PING\n")
         time.sleep(0.2)
-        lane.reads.set()
+        worker.reads.set()
         assert received(client, 36) == OK + b":70001\r\n" * 3 + b":4999\r\n"
         assert received(pong_client, 9) == OK + b":0\r\n"
 
 
 def who_is_not_let_in_in_time_is_closed(work, _):
-    with guarded(work, "--auth-timeout", "1") as (front, lane):
+    with guarded(work, "--auth-timeout", "1") as (gateway, worker):
         began = time.monotonic()
-        silent, busy, friend, ended, half = [front.client() for _ in range(5)]
+        silent, busy, friend, ended, half = [gateway.client() for _ in range(5)]
         asked(friend, AUTH[:-1], OK)
         ended.shutdown(socket.SHUT_WR)
         half.sendall(AUTH[:-3])
@@ -181,17 +181,17 @@ def who_is_not_let_in_in_time_is_closed(work, _):
         asked(friend, b"RESET", b"+RESET\r\n")
         asked(friend, b"PING", NOAUTH)
         assert is_closed(friend) and time.monotonic() - began >= 1
-        until(lambda: not lane.halves, "all closes")
-        # A lane that is late is not the client's fault.
-        patient, late = front.client(), front.client()
+        until(lambda: not worker.halves, "all closes")
+        # A worker that is late is not the client's fault.
+        patient, late = gateway.client(), gateway.client()
         patient.sendall(request(b"SLEEP", b"3"))
         time.sleep(0.1)
         late.sendall(AUTH)
         assert received(late, len(OK)) == OK
         assert is_closed(patient)
         asked(late, b"PING", b":0\r\n")
-    with guarded(work, "--auth-timeout", "0") as (front, _), guarded(work) as (other, _):
-        clients = front.client(), other.client()
+    with guarded(work, "--auth-timeout", "0") as (gateway, _), guarded(work) as (other, _):
+        clients = gateway.client(), other.client()
         time.sleep(2.2)
         for client in clients:
             asked(client, b"PING", NOAUTH)
@@ -208,66 +208,66 @@ def is_closed_now(client):
 
 
 def little_waits_for_a_stranger(work, _):
-    with guarded(work) as (front, lane):
-        friend, stranger = front.client(), front.client()
+    with guarded(work) as (gateway, worker):
+        friend, stranger = gateway.client(), gateway.client()
         asked(friend, AUTH[:-1], OK)
         for number in (0, 1):
-            lane.send(frame(DATA, number, b"x" * 12 * MEBIBYTE))
-        until(lambda: (CLOSE, 1, b"") in lane.frames, "the close of who doesn't read")
+            worker.send(frame(DATA, number, b"x" * 12 * MEBIBYTE))
+        until(lambda: (CLOSE, 1, b"") in worker.frames, "the close of who doesn't read")
         assert received(friend, 12 * MEBIBYTE) == b"x" * 12 * MEBIBYTE
         with contextlib.suppress(ConnectionResetError):
             assert len(received(stranger, 12 * MEBIBYTE)) < 12 * MEBIBYTE
-        # What waited for one that was let in is owed, and what the lane sends until it is asked. 1,024 bytes more may wait.
+        # What waited for one that was let in is owed, and what the worker sends until it is asked. 1,024 bytes more may wait.
         for number, more in ((2, 0), (3, 1)):
-            client = front.client()
+            client = gateway.client()
             asked(client, AUTH[:-1], OK)
-            lane.send(frame(DATA, number, b"x" * 9 * MEBIBYTE))
-            lane.gathered = b"x" * (number * 40000)
+            worker.send(frame(DATA, number, b"x" * 9 * MEBIBYTE))
+            worker.gathered = b"x" * (number * 40000)
             client.sendall(RESET)
-            until(lambda: b"sync %d" % number in lane.notes(), "the question")
+            until(lambda: b"sync %d" % number in worker.notes(), "the question")
             asked(friend, b"PING", b":0\r\n")
-            lane.send(frame(DATA, number, b"y" * 1024) + frame(DATA, number, b"z" * more))
+            worker.send(frame(DATA, number, b"y" * 1024) + frame(DATA, number, b"z" * more))
             asked(friend, b"PING", b":0\r\n")
             if more:
-                until(lambda: (CLOSE, number, b"") in lane.frames, "the close")
+                until(lambda: (CLOSE, number, b"") in worker.frames, "the close")
             else:
-                assert received(client, 9 * MEBIBYTE + len(lane.gathered) + 1032)[-1025:] == b"\n" + b"y" * 1024
+                assert received(client, 9 * MEBIBYTE + len(worker.gathered) + 1032)[-1025:] == b"\n" + b"y" * 1024
                 asked(client, b"PING", NOAUTH)
 
 
 def addresses_are_told(work, _):
     path = f"{work}/{'a' * (60 - len(work))}.socket"
-    with guarded(work, unix=path) as (front, lane):
-        client, local = front.client(), front.client(unix=True)
+    with guarded(work, unix=path) as (gateway, worker):
+        client, local = gateway.client(), gateway.client(unix=True)
         for it in (client, local):
             asked(it, b"PING", NOAUTH)
-        opened = [data for kind, _, data in lane.frames if kind == OPEN]
+        opened = [data for kind, _, data in worker.frames if kind == OPEN]
         assert sorted(opened) == sorted([b"%s:%d" % (client.getsockname()[0].encode(), client.getsockname()[1]),
                                          (path + ":0").encode()[:64]]), opened
     with contextlib.suppress(OSError):
         socket.create_server(("::1", 0), family=socket.AF_INET6).close()
-        with guarded(work, "--bind", "::1") as (front, lane):
-            with socket.create_connection(("::1", int(front.address.rpartition(":")[2]))) as client:
+        with guarded(work, "--bind", "::1") as (gateway, worker):
+            with socket.create_connection(("::1", int(gateway.address.rpartition(":")[2]))) as client:
                 asked(client, b"PING", NOAUTH)
-                assert lane.frames[0] == (OPEN, 0, b"[::1]:%d" % client.getsockname()[1]), lane.frames[0]
+                assert worker.frames[0] == (OPEN, 0, b"[::1]:%d" % client.getsockname()[1]), worker.frames[0]
 
 
 def packets_come_in_pieces(work, _):
-    with guarded(work) as (front, lane):
-        client = front.client()
+    with guarded(work) as (gateway, worker):
+        client = gateway.client()
         client.sendall(b"*11\r\n")
-        until(lambda: lane.notes(), "the question")
+        until(lambda: worker.notes(), "the question")
         assert received(client, len(MANY)) == MANY
-        lane.answers = False
-        client = front.client()
+        worker.answers = False
+        client = gateway.client()
         client.sendall(request(b"PING") + request(b"SET", b"k", b"x" * 20000))
         assert received(client, len(NOAUTH)) == NOAUTH
-        until(lambda: lane.notes_held, "the question")
-        lane.was_in.add(1)
-        # Being let out asks the lane once more.
+        until(lambda: worker.notes_held, "the question")
+        worker.was_in.add(1)
+        # Being let out asks the worker once more.
         packets = [(LET_IN, 1), (NOTE, 0, b"x" * 4096), (LET_OUT, 1), (LET_IN, 1), (NOTE, 0, b"synced 1"), (NOTE, 0, b"synced 1")]
         for byte in b"".join(frame(*it) for it in packets):
-            lane.send(bytes([byte]))
+            worker.send(bytes([byte]))
             time.sleep(0.0002)
         assert received(client, len(NOAUTH)) == NOAUTH
 
@@ -313,12 +313,12 @@ def strangers_of_any_kind_are_answered(work, clients):
 
     seed = random.randrange(1 << 32)
     random.seed(seed)
-    with guarded(work, lanes=2) as (front, _):
+    with guarded(work, workers=2) as (gateway, _):
         for _ in range(clients):
             asked_of = [drawn() for _ in range(random.randrange(1, 8))]
             want, is_ended = answers(asked_of)
             sent = b"".join(asked_of)
-            client = front.client()
+            client = gateway.client()
             cuts = sorted(random.randrange(len(sent) + 1) for _ in range(random.choice([0, 0, 1, 5])))
             # Who is told of a limit may be reset while it sends on, and may then miss its end.
             with contextlib.suppress(ConnectionResetError, BrokenPipeError):
@@ -332,7 +332,7 @@ def strangers_of_any_kind_are_answered(work, clients):
                     told += part
             told = bytes(told)
             assert told == want or is_ended and want.startswith(told), (seed, cuts, [it[:30] for it in asked_of], told, want)
-            front.clients.remove(client)
+            gateway.clients.remove(client)
             client.close()
 
 

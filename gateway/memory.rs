@@ -19,14 +19,14 @@ const MOST: u64 = 1 << 40;
 #[derive(Clone, Copy)]
 pub enum Half {
     Gateway,
-    Lanes,
+    Workers,
 }
 
 /// Bytes that are taken.
 #[derive(Clone, Copy, Default, PartialEq, Debug)]
 pub struct Taken {
     gateway: u64,
-    lanes: u64,
+    workers: u64,
 }
 
 /// A client: the place of its worker, and its number.
@@ -53,14 +53,14 @@ impl Taken {
     pub fn of(&self, half: Half) -> u64 {
         match half {
             Half::Gateway => self.gateway,
-            Half::Lanes => self.lanes,
+            Half::Workers => self.workers,
         }
     }
 
     fn of_mut(&mut self, half: Half) -> &mut u64 {
         match half {
             Half::Gateway => &mut self.gateway,
-            Half::Lanes => &mut self.lanes,
+            Half::Workers => &mut self.workers,
         }
     }
 }
@@ -81,10 +81,10 @@ impl Memory {
     /// The workers hold this many bytes for a client now. If these are fewer than before, its request has
     /// ended, and another client may go on.
     pub fn hold(&mut self, who: Who, client: &mut Taken, bytes: u64) {
-        if bytes < client.lanes {
+        if bytes < client.workers {
             self.pass(who);
         }
-        self.count(client, Half::Lanes, bytes);
+        self.count(client, Half::Workers, bytes);
     }
 
     /// This client is no longer the one that goes on.
@@ -95,7 +95,7 @@ impl Memory {
     /// Whether input of a client may be taken now. If the workers hold more than a quarter of their half,
     /// only one client with a long request goes on.
     pub fn may_go_on(&mut self, who: Who, client: Taken, now: Instant) -> bool {
-        if client.lanes <= SMALL || self.sum.lanes <= self.most / 4 {
+        if client.workers <= SMALL || self.sum.workers <= self.most / 4 {
             return true;
         }
         let goes = self.first.is_none_or(|(first, since)| first == who || now - since >= PATIENCE);
@@ -107,16 +107,16 @@ impl Memory {
 
     /// A half in which more is taken than may be. None if there is none.
     pub fn above(&self) -> Option<Half> {
-        [Half::Gateway, Half::Lanes].into_iter().find(|half| self.sum.of(*half) > self.most)
+        [Half::Gateway, Half::Workers].into_iter().find(|half| self.sum.of(*half) > self.most)
     }
 
     pub fn sum(&self) -> u64 {
-        self.sum.gateway + self.sum.lanes
+        self.sum.gateway + self.sum.workers
     }
 
     /// Whether the sums are those of these clients.
     pub fn is_sum_of(&self, clients: impl Iterator<Item = Taken>) -> bool {
-        let add = |sum: Taken, it: Taken| Taken { gateway: sum.gateway + it.gateway, lanes: sum.lanes + it.lanes };
+        let add = |sum: Taken, it: Taken| Taken { gateway: sum.gateway + it.gateway, workers: sum.workers + it.workers };
         clients.fold(Taken::default(), add) == self.sum
     }
 }

@@ -1,4 +1,4 @@
-"""What front.py tries the front with: a front in a process, lanes in threads, and clients."""
+"""What gateway.py tries the gateway with: a gateway in a process, workers in threads, and clients."""
 import contextlib
 import os
 import resource
@@ -12,7 +12,7 @@ from pathlib import Path
 DATA, OPEN, CLOSE, WAKE, LET_IN, LET_OUT, NOTE, HOLDS = range(8)
 HEAD = struct.Struct(">BQI")
 MEBIBYTE = 1 << 20
-# Figures that the first lane is told whenever they change.
+# Figures that the first worker is told whenever they change.
 FIGURES = (b"clients_memory ", b"clients_closed ", b"resident_bytes ")
 # How long anything may take that has to come, also on a machine that has much else to do.
 PATIENCE = 60
@@ -36,8 +36,8 @@ def resident(pid):
     return int(Path(f"/proc/{pid}/statm").read_text().split()[1]) * os.sysconf("SC_PAGE_SIZE")
 
 
-class Lane(threading.Thread):
-    """A lane that answers a line with a command: it keeps the packets that came, and can wait with reading and with closes. It lets
+class Worker(threading.Thread):
+    """A worker that answers a line with a command: it keeps the packets that came, and can wait with reading and with closes. It lets
     each client in at once."""
 
     def __init__(self, folder, number, replies_first):
@@ -154,22 +154,22 @@ class Lane(threading.Thread):
         return [data for kind, _, data in list(self.frames) if kind == NOTE]
 
 
-class Front:
-    """A front in a process, with as many lanes, of a class."""
+class Gateway:
+    """A gateway in a process, with as many workers, of a class."""
 
     made = 0
 
-    def __init__(self, work, *words, lanes=1, limits=(), port="0", unix=False, kind=Lane):
-        Front.made += 1
-        self.folder = Path(work) / f"trial{Front.made}"
+    def __init__(self, work, *words, workers=1, limits=(), port="0", unix=False, kind=Worker):
+        Gateway.made += 1
+        self.folder = Path(work) / f"trial{Gateway.made}"
         self.folder.mkdir()
-        self.lanes = [kind(self.folder, number, replies_first=number % 2 == 1) for number in range(lanes)]
+        self.workers = [kind(self.folder, number, replies_first=number % 2 == 1) for number in range(workers)]
         self.path = Path(unix) if isinstance(unix, (str, Path)) else self.folder / "socket"
-        command = [Path(work) / "front", *words]
+        command = [Path(work) / "gateway", *words]
         command += ["--port", port] if port else []
         command += ["--unix", self.path] if unix else []
-        for lane in self.lanes:
-            command += ["--lane", *lane.paths]
+        for worker in self.workers:
+            command += ["--worker", *worker.paths]
 
         def limit():
             for which, value in limits:
@@ -180,9 +180,9 @@ class Front:
         self.clients = []
 
     def open_lanes(self):
-        for lane in reversed(self.lanes):
-            lane.open()
-            lane.start()
+        for worker in reversed(self.workers):
+            worker.open()
+            worker.start()
 
     def __enter__(self):
         threading.Thread(target=self.open_lanes, daemon=True).start()
@@ -203,8 +203,8 @@ class Front:
         self.process.stderr.close()
         for client in self.clients:
             client.close()
-        for lane in self.lanes:
-            lane.reads.set()
+        for worker in self.workers:
+            worker.reads.set()
 
     def client(self, unix=False):
         client = socket.socket(socket.AF_UNIX if unix else socket.AF_INET)
@@ -215,7 +215,7 @@ class Front:
         return client
 
     def ended(self, status):
-        """Gives what standard error has, once the front has ended with this status."""
+        """Gives what standard error has, once the gateway has ended with this status."""
         assert self.process.wait(PATIENCE) == status, self.process.returncode
         return self.process.stderr.read().decode()
 
@@ -229,8 +229,8 @@ class Front:
         return 1024 * int(status.partition("VmHWM:")[2].split()[0])
 
     def figure(self, name):
-        """The last value that the first lane was told."""
-        return next((value for _, value in reversed(self.lanes[0].figures[name])), 0)
+        """The last value that the first worker was told."""
+        return next((value for _, value in reversed(self.workers[0].figures[name])), 0)
 
     def rests(self, times=8):
         """Says whether it takes next to no processor time in a while, once it has done what it still had to do."""

@@ -1,4 +1,4 @@
-//! The gateway. It joins TCP connections and a Unix socket to the pipes of the server's workers (`lane`), and
+//! The gateway. It joins TCP connections and a Unix socket to the pipes of the server's workers (`worker`), and
 //! the pipes of the server's devices to a far store (`link`).
 //!
 //! One thread does this. It waits in `Epoll::wait`, and otherwise only for 10 ms when the system refuses a
@@ -8,23 +8,23 @@
 mod channel;
 mod client;
 mod figures;
-mod frame;
-mod lane;
+mod packet;
+mod worker;
 mod link;
 mod listener;
 mod memory;
 mod resident;
 mod shared;
 mod store;
-mod stranger;
+mod unauthenticated;
 mod system;
 mod turns;
 mod words;
 
 use figures::Figure;
 use client::BASE;
-use frame::PLACE;
-use lane::Lane;
+use packet::PLACE;
+use worker::Worker;
 use link::Link;
 use listener::{listen_at, Listener};
 use resident::Resident;
@@ -68,12 +68,12 @@ fn main() -> ExitCode {
     let options = match Options::read(env::args_os().skip(1)) {
         Ok(options) => options,
         Err(fault) => {
-            eprintln!("front: {fault}\n{USAGE}");
+            eprintln!("gateway: {fault}\n{USAGE}");
             return ExitCode::from(2);
         }
     };
     if let Err(fault) = serve(&options) {
-        eprintln!("front: {fault}");
+        eprintln!("gateway: {fault}");
         return ExitCode::FAILURE;
     }
     ExitCode::SUCCESS
@@ -91,10 +91,10 @@ fn of<T>(what: impl Display, result: io::Result<T>) -> Result<T, String> {
 fn serve(options: &Options) -> Result<(), String> {
     let epoll = of("events", Epoll::new())?;
     let signals = of("signals", system::ends().and_then(|it| epoll.watch(&it, 0, INPUT, SIGNALS).map(|()| it)))?;
-    let mut front = Front {
+    let mut gateway = Gateway {
         signals,
         listeners: Vec::new(),
-        lanes: Vec::new(),
+        workers: Vec::new(),
         store: far_store(options)?,
         links: Vec::new(),
         shared: Shared::new(epoll, options),
@@ -109,14 +109,14 @@ fn serve(options: &Options) -> Result<(), String> {
         let address = SocketAddr::new(options.bind, port);
         let listener = of(address, TcpListener::bind(address))?;
         ready += &format!(" {}", of(address, listener.local_addr())?);
-        front.listeners.push(Listener { file: listener.into(), path: None });
+        gateway.listeners.push(Listener { file: listener.into(), path: None });
     }
     if let Some(path) = &options.unix {
         let file = of(path.display(), listen_at(path))?.into();
-        front.listeners.push(Listener { file, path: Some(path.clone()) });
+        gateway.listeners.push(Listener { file, path: Some(path.clone()) });
         ready += &format!(" {}", path.display());
     }
-    let ended = front.run(options, &ready);
+    let ended = gateway.run(options, &ready);
     let _ = options.unix.iter().try_for_each(fs::remove_file);
     ended
 }
@@ -133,18 +133,18 @@ fn far_store(options: &Options) -> Result<Option<Store>, String> {
 /// the limit of open files makes them fewer.
 fn room_for(options: &Options) -> Result<usize, String> {
     let files = of("files", system::raise_files())?;
-    let room = files.saturating_sub(FILES + 2 * options.lanes.len() + LINK_FILES * options.far_links.len());
+    let room = files.saturating_sub(FILES + 2 * options.workers.len() + LINK_FILES * options.far_links.len());
     if room < options.connections {
-        eprintln!("front: {room} connections at most, since {files} files may be open");
+        eprintln!("gateway: {room} connections at most, since {files} files may be open");
     }
     Ok(room.min(options.connections).min(options.clients_memory / 2 / BASE))
 }
 
 /// All that the main thread works with.
-struct Front {
+struct Gateway {
     signals: File,
     listeners: Vec<Listener>,
-    lanes: Vec<Lane>,
+    workers: Vec<Worker>,
     store: Option<Store>,
     /// Their tokens follow those of the workers.
     links: Vec<Link>,
@@ -159,7 +159,7 @@ struct Front {
     figures: [Figure; 4],
 }
 
-impl Front {
+impl Gateway {
     /// Reaches the store, opens the pipes, reports that it is ready, and serves until a signal arrives.
     fn run(&mut self, options: &Options, ready: &str) -> Result<(), String> {
         let Some(spares) = self.reach_store(options)? else { return Ok(()) };
@@ -181,8 +181,8 @@ impl Front {
             if self.shared.now - swept >= SWEEP {
                 swept = self.shared.now;
                 self.resident = resident.bytes();
-                self.lanes.iter_mut().for_each(|it| it.close_late(idle, &mut self.shared));
-                debug_assert!(self.shared.memory.is_sum_of(self.lanes.iter().flat_map(Lane::taken)));
+                self.workers.iter_mut().for_each(|it| it.close_late(idle, &mut self.shared));
+                debug_assert!(self.shared.memory.is_sum_of(self.workers.iter().flat_map(Worker::taken)));
             }
         }
         self.stop();
@@ -191,7 +191,7 @@ impl Front {
 
     /// How long to wait for events.
     fn patience(&self) -> Duration {
-        if self.lanes.iter().any(Lane::is_blind) {
+        if self.workers.iter().any(Worker::is_blind) {
             LOOK
         } else {
             SWEEP
@@ -227,9 +227,9 @@ impl Front {
     /// Opens the pipes, in whatever order the server opens them. False if a signal arrived first.
     fn open_pipes(&mut self, options: &Options, spares: Vec<File>) -> Result<bool, String> {
         // Pairs of a pipe for input and one for output. A worker's requests are output, a device's are input.
-        let lanes = options.lanes.iter().map(|(requests, replies)| (replies, requests));
+        let workers = options.workers.iter().map(|(requests, replies)| (replies, requests));
         let links = options.far_links.iter().map(|(requests, replies)| (requests, replies));
-        let paths: Vec<_> = lanes.chain(links).collect();
+        let paths: Vec<_> = workers.chain(links).collect();
         for path in paths.iter().flat_map(|(input, output)| [input, output]) {
             if !of(path.display(), fs::metadata(path))?.file_type().is_fifo() {
                 return Err(format!("{}: it is no pipe", path.display()));
@@ -254,8 +254,8 @@ impl Front {
             }
         }
         let mut pairs = inputs.into_iter().zip(outputs.into_iter().flatten()).enumerate();
-        for (place, (replies, requests)) in pairs.by_ref().take(options.lanes.len()) {
-            self.lanes.push(of("events", Lane::new(place, requests, replies, &self.shared.epoll))?);
+        for (place, (replies, requests)) in pairs.by_ref().take(options.workers.len()) {
+            self.workers.push(of("events", Worker::new(place, requests, replies, &self.shared.epoll))?);
         }
         for ((place, (requests, replies)), spare) in pairs.zip(spares) {
             self.links.push(of("events", Link::new(place, requests, replies, spare, &self.shared))?);
@@ -285,9 +285,9 @@ impl Front {
     /// Handles an event of a worker or of a link.
     fn see(&mut self, place: usize, token: u64, flags: u32) -> Result<(), String> {
         let shared = &mut self.shared;
-        match place.checked_sub(self.lanes.len()) {
+        match place.checked_sub(self.workers.len()) {
             None => {
-                of(format_args!("lane {place} has ended"), self.lanes[place].see(token, flags, shared))?;
+                of(format_args!("worker {place} has ended"), self.workers[place].see(token, flags, shared))?;
                 self.close_greatest();
                 Ok(())
             }
@@ -298,11 +298,11 @@ impl Front {
     /// Sends to the workers, the devices and the store what is there for them.
     fn hand_over(&mut self) -> Result<(), String> {
         self.tell_figures();
-        self.hand_over_to_lanes()?;
+        self.hand_over_to_workers()?;
         self.shared.wakes = false;
         // Input that is held of a client counts too, and its worker has to learn at once that it was closed.
         while self.close_greatest() {
-            self.hand_over_to_lanes()?;
+            self.hand_over_to_workers()?;
         }
         let Some(store) = &self.store else { return Ok(()) };
         for (number, link) in self.links.iter_mut().enumerate() {
@@ -314,9 +314,9 @@ impl Front {
         Ok(())
     }
 
-    fn hand_over_to_lanes(&mut self) -> Result<(), String> {
-        for (place, lane) in self.lanes.iter_mut().enumerate() {
-            of(format_args!("lane {place} has ended"), lane.hand_over(&mut self.shared))?;
+    fn hand_over_to_workers(&mut self) -> Result<(), String> {
+        for (place, worker) in self.workers.iter_mut().enumerate() {
+            of(format_args!("worker {place} has ended"), worker.hand_over(&mut self.shared))?;
         }
         Ok(())
     }
@@ -326,11 +326,11 @@ impl Front {
     fn close_greatest(&mut self) -> bool {
         let closed = self.shared.memory.closed;
         while let Some(half) = self.shared.memory.above() {
-            let each = self.lanes.iter().enumerate();
+            let each = self.workers.iter().enumerate();
             let greatest = each.filter_map(|(place, it)| it.greatest(half).map(|it| (it, place))).max();
             let Some(((_, number), place)) = greatest else { break };
             self.shared.memory.closed += 1;
-            self.lanes[place].drop_client(number, &mut self.shared);
+            self.workers[place].drop_client(number, &mut self.shared);
         }
         self.shared.memory.closed > closed
     }
@@ -340,7 +340,7 @@ impl Front {
         let (memory, now) = (&self.shared.memory, self.shared.now);
         let values = [self.refused, memory.closed, memory.sum(), self.resident];
         for (figure, value) in self.figures.iter_mut().zip(values) {
-            if figure.is_due(value, now) && self.lanes[0].tell(format_args!("{} {value}", figure.name)).is_ok() {
+            if figure.is_due(value, now) && self.workers[0].tell(format_args!("{} {value}", figure.name)).is_ok() {
                 figure.tell(value, now);
             }
         }
@@ -359,11 +359,11 @@ impl Front {
         match self.listeners[listener].accept() {
             Ok((socket, address)) => {
                 let taken = match self.shared.clients < self.connections {
-                    true => self.lanes[self.next].take_client(socket, address.bytes(), &mut self.shared),
+                    true => self.workers[self.next].take_client(socket, address.bytes(), &mut self.shared),
                     false => Err(socket),
                 };
                 match taken {
-                    Ok(()) => self.next = (self.next + 1) % self.lanes.len(),
+                    Ok(()) => self.next = (self.next + 1) % self.workers.len(),
                     Err(socket) => self.refuse(socket),
                 }
             }
@@ -385,12 +385,12 @@ impl Front {
     /// owes nothing.
     fn stop(&mut self) {
         self.listeners.clear();
-        self.lanes.iter_mut().for_each(|it| it.end_inputs(&mut self.shared));
+        self.workers.iter_mut().for_each(|it| it.end_inputs(&mut self.shared));
         // Further signals change nothing.
         let _ = self.shared.epoll.watch(&self.signals, INPUT, 0, SIGNALS);
         let end = Instant::now() + END;
         let mut stands = self.hand_over().is_ok();
-        while stands && self.lanes.iter().any(Lane::has_clients) {
+        while stands && self.workers.iter().any(Worker::has_clients) {
             let left = end.saturating_duration_since(Instant::now());
             stands = !left.is_zero() && self.turn(left).is_ok();
         }

@@ -1,4 +1,4 @@
-"""Tries the front, with lanes and devices here in the place of a server's: front.py FOLDER CLIENTS [TRIAL]...
+"""Tries the gateway, with workers and devices here in the place of a server's: gateway.py FOLDER CLIENTS [TRIAL]...
 
 FOLDER has the program, and a TRIAL is the name of one of the functions here and in the files beside it, or I/N for each Nth from
 the Ith on; all are made where none is named.
@@ -13,22 +13,22 @@ import subprocess
 import sys
 import time
 
-import front_ends
-import front_link_ends
-import front_links
-import front_memory
-import front_refused
-import front_strangers
-import front_turns
-from front_parts import (CLOSE, DATA, LET_IN, LET_OUT, MEBIBYTE, NOTE, OPEN, PATIENCE, WAKE, Front, asked, fill, frame, is_closed,
+import gateway_ends
+import gateway_link_ends
+import gateway_links
+import gateway_memory
+import gateway_refused
+import gateway_strangers
+import gateway_turns
+from gateway_parts import (CLOSE, DATA, LET_IN, LET_OUT, MEBIBYTE, NOTE, OPEN, PATIENCE, WAKE, Gateway, asked, fill, frame, is_closed,
                          pong, received, sender, until)
 
 
 def each_client_gets_its_own(work, clients):
-    with Front(work, lanes=3) as front:
-        all_of = [front.client() for _ in range(clients)]
-        until(lambda: sum(it.count(OPEN) for it in front.lanes) == clients, "all opens")
-        counts = [it.count(OPEN) for it in front.lanes]
+    with Gateway(work, workers=3) as gateway:
+        all_of = [gateway.client() for _ in range(clients)]
+        until(lambda: sum(it.count(OPEN) for it in gateway.workers) == clients, "all opens")
+        counts = [it.count(OPEN) for it in gateway.workers]
         assert max(counts) - min(counts) <= 1, f"not dealt in turn: {counts}"
         for turn in range(3):
             random.shuffle(all_of)
@@ -42,13 +42,13 @@ def each_client_gets_its_own(work, clients):
 
 
 def bytes_come_one_by_one_and_many_at_once(work, _):
-    with Front(work) as front:
-        client = front.client()
+    with Gateway(work) as gateway:
+        client = gateway.client()
         for byte in b"ECHO in pieces\n":
             client.sendall(bytes([byte]))
         assert received(client, 10) == b"in pieces\n"
         for byte in frame(DATA, 0, b"so too") + frame(DATA, 0) + frame(DATA, 0, b" the other way"):
-            front.lanes[0].send(bytes([byte]))
+            gateway.workers[0].send(bytes([byte]))
             time.sleep(0.002)
         assert received(client, 20) == b"so too the other way"
         lines = [b"ECHO %d %s\n" % (at, b"y" * random.randrange(3000)) for at in range(2000)]
@@ -57,43 +57,43 @@ def bytes_come_one_by_one_and_many_at_once(work, _):
             want = b"".join(it[5:] for it in lines)
             assert received(client, len(want)) == want
         asked(client, b"BIG %d" % (9 * MEBIBYTE), b"x" * 9 * MEBIBYTE)
-        assert front.rests()
+        assert gateway.rests()
 
 
 def who_does_not_read_is_closed_alone(work, _):
-    with Front(work, "--output-limit", str(8 * MEBIBYTE)) as front:
-        lazy, other = front.client(), front.client()
+    with Gateway(work, "--output-limit", str(8 * MEBIBYTE)) as gateway:
+        lazy, other = gateway.client(), gateway.client()
         lazy.sendall(b"BIG %d\n" % (6 * MEBIBYTE))
         pong(other)
-        assert front.rests(), "it waits for who doesn't read"
+        assert gateway.rests(), "it waits for who doesn't read"
         for _ in range(20):
             with contextlib.suppress(OSError):
                 lazy.sendall(b"BIG %d\n" % MEBIBYTE)
             pong(other)
-        until(lambda: (CLOSE, 0, b"") in front.lanes[0].frames, "the close of who doesn't read")
-        assert front.memory() < 24 * MEBIBYTE, front.memory()
+        until(lambda: (CLOSE, 0, b"") in gateway.workers[0].frames, "the close of who doesn't read")
+        assert gateway.memory() < 24 * MEBIBYTE, gateway.memory()
         told = 0
         with contextlib.suppress(ConnectionResetError):
             while part := lazy.recv(MEBIBYTE):
                 told += len(part)
         assert told < 20 * MEBIBYTE, told
-        pong(front.client())
+        pong(gateway.client())
 
 
 def who_reads_late_gets_all(work, _):
-    with Front(work, "--clients-memory", str(256 * MEBIBYTE)) as front:
-        late = front.client()
+    with Gateway(work, "--clients-memory", str(256 * MEBIBYTE)) as gateway:
+        late = gateway.client()
         late.sendall(b"BIG %d\n" % (20 * MEBIBYTE) + b"ECHO end\n")
-        pong(front.client())
+        pong(gateway.client())
         assert received(late, 20 * MEBIBYTE) == b"x" * 20 * MEBIBYTE
         assert received(late, 4) == b"end\n"
         late.sendall(b"BIG %d\n" % (20 * MEBIBYTE))
-        pong(front.client())
-        # The front finds more for the client, and behind that its socket with room again.
-        front.process.send_signal(signal.SIGSTOP)
-        front.lanes[0].send(frame(DATA, 0, b"tail"))
+        pong(gateway.client())
+        # The gateway finds more for the client, and behind that its socket with room again.
+        gateway.process.send_signal(signal.SIGSTOP)
+        gateway.workers[0].send(frame(DATA, 0, b"tail"))
         part = received(late, 2 * MEBIBYTE)
-        front.process.send_signal(signal.SIGCONT)
+        gateway.process.send_signal(signal.SIGCONT)
         assert part + received(late, 18 * MEBIBYTE + 4) == b"x" * 20 * MEBIBYTE + b"tail"
         lines = b"".join(b"ECHO %d %s\n" % (at, b"y" * 60000) for at in range(600))
         with sender(late, lines):
@@ -104,155 +104,155 @@ def who_reads_late_gets_all(work, _):
 
 
 def a_busy_lane_stops_its_senders(work, _):
-    with Front(work, lanes=2) as front:
-        greedy, other, beside = front.client(), front.client(), front.client()
+    with Gateway(work, workers=2) as gateway:
+        greedy, other, beside = gateway.client(), gateway.client(), gateway.client()
         pong(beside)
-        front.lanes[0].reads.clear()
-        beside.sendall(b"ECHO wakes the lane, which then waits\n")
+        gateway.workers[0].reads.clear()
+        beside.sendall(b"ECHO wakes the worker, which then waits\n")
         data = b"".join(b"ECHO %d %s\n" % (at, b"z" * 60000) for at in range(1000))
         sent = fill(greedy, data, 1)
-        assert front.memory() < 16 * MEBIBYTE, front.memory()
+        assert gateway.memory() < 16 * MEBIBYTE, gateway.memory()
         pong(other)
-        assert front.rests(), "it waits for a busy lane"
-        front.lanes[0].reads.set()
+        assert gateway.rests(), "it waits for a busy worker"
+        gateway.workers[0].reads.set()
         want = data.replace(b"ECHO ", b"")
         with sender(greedy, data[sent:]):
             assert received(greedy, len(want)) == want
-        assert received(beside, 32) == b"wakes the lane, which then waits"
+        assert received(beside, 32) == b"wakes the worker, which then waits"
 
 
 def numbers_are_never_used_again(work, clients):
-    with Front(work) as front:
-        lane = front.lanes[0]
-        first, second = front.client(), front.client()
+    with Gateway(work) as gateway:
+        worker = gateway.workers[0]
+        first, second = gateway.client(), gateway.client()
         pong(first)
         pong(second)
-        lane.closes = False
+        worker.closes = False
         first.close()
-        until(lambda: lane.withheld == [0], "the close of the first")
-        pong(front.client())
-        lane.send(frame(DATA, 0, b"for who has gone") + frame(CLOSE, 0) + frame(CLOSE, 0) + frame(DATA, 0, b"for nobody"))
+        until(lambda: worker.withheld == [0], "the close of the first")
+        pong(gateway.client())
+        worker.send(frame(DATA, 0, b"for who has gone") + frame(CLOSE, 0) + frame(CLOSE, 0) + frame(DATA, 0, b"for nobody"))
         pong(second)
-        fresh = front.client()
+        fresh = gateway.client()
         pong(fresh)
         for kind in (LET_IN, LET_OUT, CLOSE):
-            lane.send(frame(kind, 0) + frame(kind, 77) + frame(kind, 2**64 - 1))
-        lane.send(frame(DATA, 77, b"of no number yet") + frame(NOTE, 0, b"synced 0") + frame(NOTE, 0, b"synced 2"))
+            worker.send(frame(kind, 0) + frame(kind, 77) + frame(kind, 2**64 - 1))
+        worker.send(frame(DATA, 77, b"of no number yet") + frame(NOTE, 0, b"synced 0") + frame(NOTE, 0, b"synced 2"))
         pong(fresh)
-        lane.closes = True
-        memory, count = front.memory(), min(10 * clients, 20_000)
+        worker.closes = True
+        memory, count = gateway.memory(), min(10 * clients, 20_000)
         for _ in range(count):
-            with socket.create_connection(("127.0.0.1", int(front.address.rpartition(":")[2]))) as client:
+            with socket.create_connection(("127.0.0.1", int(gateway.address.rpartition(":")[2]))) as client:
                 pong(client)
-        opened = [number for kind, number, _ in lane.frames if kind == OPEN]
+        opened = [number for kind, number, _ in worker.frames if kind == OPEN]
         assert opened == list(range(4 + count)), "numbers are not drawn in order"
-        until(lambda: len(lane.halves) == 3, "all closes")
-        assert front.memory() < memory + MEBIBYTE, "who has gone is still there"
+        until(lambda: len(worker.halves) == 3, "all closes")
+        assert gateway.memory() < memory + MEBIBYTE, "who has gone is still there"
 
 
 def a_lane_closes_once_all_is_out(work, _):
-    with Front(work) as front:
-        lane, client = front.lanes[0], front.client()
+    with Gateway(work) as gateway:
+        worker, client = gateway.workers[0], gateway.client()
         client.sendall(b"BIG %d\nQUIT\nPING\nPING\n" % (12 * MEBIBYTE))
-        until(lambda: (CLOSE, 0, b"") in lane.frames, "the answer to the close")
-        pong(front.client())
+        until(lambda: (CLOSE, 0, b"") in worker.frames, "the answer to the close")
+        pong(gateway.client())
         assert received(client, 12 * MEBIBYTE + 6) == b"x" * 12 * MEBIBYTE + b"+OK\r\n"
         assert is_closed(client)
-        assert lane.frames.count((CLOSE, 0, b"")) == 1
-        client = front.client()
+        assert worker.frames.count((CLOSE, 0, b"")) == 1
+        client = gateway.client()
         pong(client)
-        number = lane.frames[-1][1]
-        # The front finds the close first, and then what the client has sent meanwhile.
-        front.process.send_signal(signal.SIGSTOP)
-        lane.closing.add(number)
-        lane.send(frame(DATA, number, b"bye") + frame(CLOSE, number))
+        number = worker.frames[-1][1]
+        # The gateway finds the close first, and then what the client has sent meanwhile.
+        gateway.process.send_signal(signal.SIGSTOP)
+        worker.closing.add(number)
+        worker.send(frame(DATA, number, b"bye") + frame(CLOSE, number))
         client.sendall(b"PING\n")
-        front.process.send_signal(signal.SIGCONT)
+        gateway.process.send_signal(signal.SIGCONT)
         assert received(client, 4) == b"bye", "it was reset"
 
 
 def who_ends_its_input_gets_what_it_is_owed(work, _):
-    with Front(work) as front:
-        client = front.client()
+    with Gateway(work) as gateway:
+        client = gateway.client()
         client.sendall(b"LATE 0.2\nBIG %d\nECHO last\n" % (9 * MEBIBYTE))
         client.shutdown(socket.SHUT_WR)
         want = b"late\n" + b"x" * 9 * MEBIBYTE + b"last\n"
         assert received(client, len(want)) == want
         assert is_closed(client)
-        until(lambda: not front.lanes[0].halves, "the close")
-        front.lanes[0].closes = False
-        front.client().shutdown(socket.SHUT_WR)
-        until(lambda: front.lanes[0].withheld, "another close")
-        assert front.rests(), "it waits for a close"
+        until(lambda: not gateway.workers[0].halves, "the close")
+        gateway.workers[0].closes = False
+        gateway.client().shutdown(socket.SHUT_WR)
+        until(lambda: gateway.workers[0].withheld, "another close")
+        assert gateway.rests(), "it waits for a close"
 
 
 def a_wake_goes_to_every_lane(work, _):
-    with Front(work, lanes=3) as front:
-        clients = [front.client() for _ in range(3)]
+    with Gateway(work, workers=3) as gateway:
+        clients = [gateway.client() for _ in range(3)]
         for client in clients:
             pong(client)
         clients[1].sendall(b"WAKE\n")
-        until(lambda: all(it.count(WAKE) for it in front.lanes), "a wake for each")
+        until(lambda: all(it.count(WAKE) for it in gateway.workers), "a wake for each")
         for client in clients * 3:
             pong(client)
-        assert all(it.frames.count((WAKE, 0, b"")) == it.count(WAKE) == 1 for it in front.lanes), "more than one wake"
-        front.lanes[0].reads.clear()
+        assert all(it.frames.count((WAKE, 0, b"")) == it.count(WAKE) == 1 for it in gateway.workers), "more than one wake"
+        gateway.workers[0].reads.clear()
         fill(clients[0], b"NOTHING\n" * 8192, 1000)
         clients[1].sendall(b"WAKE\n" * 2000)
-        until(lambda: all(it.count(WAKE) > 1 for it in front.lanes[1:]), "more wakes")
+        until(lambda: all(it.count(WAKE) > 1 for it in gateway.workers[1:]), "more wakes")
         pong(clients[1])
-        assert front.memory() < 16 * MEBIBYTE, front.memory()
-        front.lanes[0].reads.set()
-        until(lambda: front.lanes[0].count(WAKE) > 1, "a wake for the lane that was busy")
+        assert gateway.memory() < 16 * MEBIBYTE, gateway.memory()
+        gateway.workers[0].reads.set()
+        until(lambda: gateway.workers[0].count(WAKE) > 1, "a wake for the worker that was busy")
 
 
 def too_many_are_refused(work, _):
-    with Front(work, "--connections", "3", lanes=2) as front:
-        first, second = front.lanes
-        clients = [front.client() for _ in range(3)]
+    with Gateway(work, "--connections", "3", workers=2) as gateway:
+        first, second = gateway.workers
+        clients = [gateway.client() for _ in range(3)]
         for client in clients:
             pong(client)
         refused = []
         for _ in range(20):
             refused.append(time.monotonic())
-            assert received(front.client(), 100) == b"-ERR max number of clients reached\r\n"
+            assert received(gateway.client(), 100) == b"-ERR max number of clients reached\r\n"
         until(lambda: b"rejected_connections 20" in first.notes(), "how many were refused")
         told = [int(it.split()[1]) for it in first.notes()]
         assert told == sorted(set(told)) and len(told) <= 2 + time.monotonic() - refused[0], told
-        assert second.notes() == [], "the other lane is told too"
+        assert second.notes() == [], "the other worker is told too"
         clients.pop().close()
-        until(lambda: sum(len(it.halves) for it in front.lanes) == 2, "the close")
-        # It comes behind the lane's close.
+        until(lambda: sum(len(it.halves) for it in gateway.workers) == 2, "the close")
+        # It comes behind the worker's close.
         pong(clients[0])
-        pong(front.client())
+        pong(gateway.client())
         time.sleep(1.5)
         assert len(first.notes()) == len(told), "it is told again"
 
 
 def idle_clients_are_closed(work, _):
-    with Front(work, "--timeout", "3") as front:
-        silent, sending, hearing = front.client(), front.client(), front.client()
-        lane = front.lanes[0]
+    with Gateway(work, "--timeout", "3") as gateway:
+        silent, sending, hearing = gateway.client(), gateway.client(), gateway.client()
+        worker = gateway.workers[0]
         began = time.monotonic()
         for client in (silent, sending, hearing):
             pong(client)
-        while not lane.count(CLOSE):
+        while not worker.count(CLOSE):
             sending.sendall(b"NOTHING\n")
-            lane.send(frame(DATA, 2, b"."))
+            worker.send(frame(DATA, 2, b"."))
             time.sleep(0.02)
             assert time.monotonic() - began < PATIENCE, "nobody was closed"
         assert time.monotonic() - began >= 3, "it was closed too early"
         assert is_closed(silent)
         pong(sending)
         assert hearing.recv(1) == b"."
-        assert lane.count(CLOSE) == 1
+        assert worker.count(CLOSE) == 1
 
 
 def clients_come_and_go_in_any_way(work, clients):
     lines = [b"PING\n", b"PI", b"BIG 300000\n", b"QUIT\nPING\n"] * 5 + [b"BIG 9000000\nQUIT\n"]
-    with Front(work, lanes=2) as front:
+    with Gateway(work, workers=2) as gateway:
         for turn in range(clients):
-            client = front.client()
+            client = gateway.client()
             client.settimeout(0.05)
             how = random.randrange(6)
             with contextlib.suppress(OSError):
@@ -264,24 +264,24 @@ def clients_come_and_go_in_any_way(work, clients):
                     client.setsockopt(socket.SOL_SOCKET, socket.SO_LINGER, struct.pack("ii", 1, 0))
                 if how == 2:
                     client.shutdown(socket.SHUT_WR)
-            front.clients.remove(client)
+            gateway.clients.remove(client)
             client.close()
             if turn % 50 == 0:
-                pong(front.client())
-        for client in front.clients:
+                pong(gateway.client())
+        for client in gateway.clients:
             pong(client)
-        left = len(front.clients)
-        until(lambda: sum(len(it.halves) for it in front.lanes) == left, "all closes")
-        assert front.rests()
+        left = len(gateway.clients)
+        until(lambda: sum(len(it.halves) for it in gateway.workers) == left, "all closes")
+        assert gateway.rests()
 
 
 TRIALS = [
     each_client_gets_its_own, bytes_come_one_by_one_and_many_at_once, who_does_not_read_is_closed_alone,
     who_reads_late_gets_all, a_busy_lane_stops_its_senders, numbers_are_never_used_again,
     a_lane_closes_once_all_is_out, who_ends_its_input_gets_what_it_is_owed, a_wake_goes_to_every_lane,
-    too_many_are_refused, idle_clients_are_closed, clients_come_and_go_in_any_way, *front_ends.TRIALS,
-    *front_links.TRIALS, *front_link_ends.TRIALS, *front_strangers.TRIALS, *front_turns.TRIALS,
-    *front_memory.TRIALS, *front_refused.TRIALS,
+    too_many_are_refused, idle_clients_are_closed, clients_come_and_go_in_any_way, *gateway_ends.TRIALS,
+    *gateway_links.TRIALS, *gateway_link_ends.TRIALS, *gateway_strangers.TRIALS, *gateway_turns.TRIALS,
+    *gateway_memory.TRIALS, *gateway_refused.TRIALS,
 ]
 
 
@@ -308,7 +308,7 @@ def main():
         # In one piece, since others write beside it.
         sys.stdout.write(f"{trial.__name__.replace('_', ' ')}: {told} ({time.monotonic() - began:.1f} s)\n")
         sys.stdout.flush()
-    print(f"{len(trials)} trials of the front, {wrong} wrong")
+    print(f"{len(trials)} trials of the gateway, {wrong} wrong")
     sys.exit(1 if wrong else 0)
 
 

@@ -1,17 +1,17 @@
 //! Sends clients' input to the worker, turn by turn.
 
-use super::{Lane, WAKE};
+use super::{Worker, WAKE};
 use crate::client::Turn;
-use crate::frame::DATA;
+use crate::packet::DATA;
 use crate::shared::Shared;
-use crate::stranger;
+use crate::unauthenticated;
 use crate::turns::Share;
 use std::io;
 
 /// Bytes of memory that the queue of requests does not give back.
 const KEPT: usize = 1 << 18;
 
-impl Lane {
+impl Worker {
     /// Sends the worker what waits for it: CLOSE packets that are owed, a WAKE, and clients' input while
     /// there is room. An error is returned if the worker's pipe fails.
     pub fn hand_over(&mut self, shared: &mut Shared) -> io::Result<()> {
@@ -102,7 +102,7 @@ impl Lane {
     fn read_client(&mut self, number: u64, share: &Share, shared: &mut Shared) {
         let Some(client) = self.clients.get_mut(&number).filter(|it| it.is_awaited()) else { return };
         let Some(socket) = client.socket.as_ref() else { return };
-        let most = if client.stranger.is_some() { stranger::READ.min(share.piece) } else { share.piece };
+        let most = if client.unauthenticated.is_some() { unauthenticated::READ.min(share.piece) } else { share.piece };
         match socket.read(&mut shared.room[..most]) {
             Ok(None) => self.update(number, shared),
             Ok(Some(0)) => self.end_input(number, shared),
@@ -128,7 +128,7 @@ impl Lane {
     /// clients. An error is returned if there is no memory for it.
     fn take_input(&mut self, number: u64, bytes: &[u8]) -> io::Result<()> {
         let Some(client) = self.client(number) else { return Ok(()) };
-        let is_let_in = client.stranger.is_none();
+        let is_let_in = client.unauthenticated.is_none();
         let read = client.reader.as_mut().map_or(Ok(()), |it| it.read(bytes, is_let_in));
         let (count, fault) = read.map_or_else(|(count, fault)| (count, Some(fault)), |()| (bytes.len(), None));
         if let Some(fault) = fault {
@@ -166,7 +166,7 @@ impl Lane {
         }
         client.bound_owed();
         let is_late = client.is_late(shared);
-        match (&client.held, client.stranger) {
+        match (&client.held, client.unauthenticated) {
             (Some(_), None) => self.want_turn(number, shared),
             (&Some((fault, _)), Some(_)) => {
                 self.send(number, fault.reply(), shared);

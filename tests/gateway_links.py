@@ -1,4 +1,4 @@
-"""Trials of front.py: links of devices to a far store."""
+"""Trials of gateway.py: links of devices to a far store."""
 import contextlib
 import os
 import random
@@ -8,8 +8,8 @@ import time
 from concurrent.futures import ThreadPoolExecutor
 from pathlib import Path
 
-from front_parts import CLOSE, DATA, MEBIBYTE, OPEN, PATIENCE, fill, frame, is_closed, pong, received, sender, until
-from front_stores import (PING, PONG, SHORT, WAIT, FarFront, Redis, Store, exchange, free_port, has_redis, joined,
+from gateway_parts import CLOSE, DATA, MEBIBYTE, OPEN, PATIENCE, fill, frame, is_closed, pong, received, sender, until
+from gateway_stores import (PING, PONG, SHORT, WAIT, FarGateway, Redis, Store, exchange, free_port, has_redis, joined,
                           opened)
 
 CLOSED = (CLOSE, b"")
@@ -23,12 +23,12 @@ def took(began, least, most):
 
 def a_call_goes_to_the_store_and_back(work, _):
     for unix in ("", work):
-        with Store(unix) as store, FarFront(work, store.address, links=3) as front:
-            links = joined(front, store)
+        with Store(unix) as store, FarGateway(work, store.address, links=3) as gateway:
+            links = joined(gateway, store)
             for turn in range(20):
-                for at, device in enumerate(front.devices):
+                for at, device in enumerate(gateway.devices):
                     exchange(device, links[at], 1, b"%d of %d" % (turn, at), b"%d to %d" % (turn, at))
-            device, link = front.devices[1], links[1]
+            device, link = gateway.devices[1], links[1]
             for byte in frame(DATA, 1, b"in") + frame(DATA, 1) + frame(DATA, 1, b" pieces") + frame(WAIT, 1):
                 device.sendall(bytes([byte]))
                 time.sleep(0.002)
@@ -37,38 +37,38 @@ def a_call_goes_to_the_store_and_back(work, _):
                 link.sendall(bytes([byte]))
                 time.sleep(0.002)
             assert device.reply(1, 6) == b"so too"
-            pong(front.client())
-            assert front.rests()
+            pong(gateway.client())
+            assert gateway.rests()
 
 
 def large_objects_go_both_ways(work, _):
-    with Store() as store, FarFront(work, store.address) as front:
-        device = front.device
+    with Store() as store, FarGateway(work, store.address) as gateway:
+        device = gateway.device
         for at, number in enumerate((2**64 - 1, 0)):
             link = opened(device, store, number, at)
             with sender(device, 2 * frame(DATA, number, LARGE) + frame(WAIT, number)):
                 assert received(link, 2 * len(LARGE)) == 2 * LARGE
             with sender(link, LARGE):
                 assert device.reply(number, len(LARGE)) == LARGE
-        assert front.memory() < 16 * MEBIBYTE, front.memory()
+        assert gateway.memory() < 16 * MEBIBYTE, gateway.memory()
 
 
 def who_takes_nothing_stops_the_other(work, _):
-    with Store() as store, FarFront(work, store.address) as front:
-        device, [link] = front.device, joined(front, store)
+    with Store() as store, FarGateway(work, store.address) as gateway:
+        device, [link] = gateway.device, joined(gateway, store)
         device.ask(1, b"much")
         assert received(link, 4) == b"much"
         sent = fill(link, LARGE, 20)
-        assert front.memory() < 16 * MEBIBYTE, front.memory()
-        assert front.rests(), "it is busy with a device that waits"
-        pong(front.client())
+        assert gateway.memory() < 16 * MEBIBYTE, gateway.memory()
+        assert gateway.rests(), "it is busy with a device that waits"
+        pong(gateway.client())
         assert len(device.reply(1, sent)) == sent
         with sender(device, frame(DATA, 1, LARGE)):
             time.sleep(0.3)
-            assert front.memory() < 16 * MEBIBYTE, front.memory()
-            assert front.rests(), "it is busy with a store that waits"
+            assert gateway.memory() < 16 * MEBIBYTE, gateway.memory()
+            assert gateway.rests(), "it is busy with a store that waits"
             began = time.monotonic()
-            pong(front.client())
+            pong(gateway.client())
             # The store is given up after five seconds.
             took(began, 0, 4)
             assert received(link, len(LARGE)) == LARGE
@@ -76,8 +76,8 @@ def who_takes_nothing_stops_the_other(work, _):
 
 
 def an_open_ends_the_old_connection(work, _):
-    with Store() as store, FarFront(work, store.address) as front:
-        device, old = front.device, opened(front.device, store, 5, 0)
+    with Store() as store, FarGateway(work, store.address) as gateway:
+        device, old = gateway.device, opened(gateway.device, store, 5, 0)
         device.sendall(frame(DATA, 5, b"half of a request"))
         assert received(old, 17) == b"half of a request"
         old.sendall(b"of the old one")
@@ -97,8 +97,8 @@ def an_open_ends_the_old_connection(work, _):
 
 
 def a_store_that_goes_away_is_found_again(work, _):
-    with Store() as store, FarFront(work, store.address) as front:
-        device, [link] = front.device, joined(front, store)
+    with Store() as store, FarGateway(work, store.address) as gateway:
+        device, [link] = gateway.device, joined(gateway, store)
         exchange(device, link, 1)
         device.ask(1, b"a last one")
         store.link(1)
@@ -112,8 +112,8 @@ def a_store_that_goes_away_is_found_again(work, _):
             assert device.take(number) == CLOSED
         took(began, 0, 5)
         time.sleep(1)
-        assert front.rests(), "it is busy without a store"
-        pong(front.client())
+        assert gateway.rests(), "it is busy without a store"
+        pong(gateway.client())
         with Store(port=store.port) as again:
             began = time.monotonic()
             exchange(device, opened(device, again, 50, 0), 50)
@@ -121,8 +121,8 @@ def a_store_that_goes_away_is_found_again(work, _):
 
 
 def a_spare_that_the_store_ends_is_replaced(work, _):
-    with Store() as store, FarFront(work, store.address) as front:
-        device = front.device
+    with Store() as store, FarGateway(work, store.address) as gateway:
+        device = gateway.device
         store.link(0).close()
         store.link(1).sendall(b"nobody asked")
         exchange(device, opened(device, store, 1, 2), 1)
@@ -134,7 +134,7 @@ def a_spare_that_the_store_ends_is_replaced(work, _):
         until(lambda: len(store.greeted) >= 7, "three spares more")
         # The first at once, and then one a second.
         assert len(store.came) - 4 <= 1 + time.monotonic() - began, f"{len(store.came)} connections"
-        assert front.rests(), "it is busy with a store that closes"
+        assert gateway.rests(), "it is busy with a store that closes"
         count = len(store.greeted)
         until(lambda: len(store.greeted) > count, "another one")
         store.closes = False
@@ -142,9 +142,9 @@ def a_spare_that_the_store_ends_is_replaced(work, _):
 
 
 def a_late_store_is_closed_and_no_idle_one(work, _):
-    with Store() as store, FarFront(work, store.address, "--far-timeout", "3", links=6) as front:
-        links = joined(front, store)
-        idle, late, whole, half, stuck, slow = front.devices
+    with Store() as store, FarGateway(work, store.address, "--far-timeout", "3", links=6) as gateway:
+        links = joined(gateway, store)
+        idle, late, whole, half, stuck, slow = gateway.devices
         until(lambda: len(store.greeted) == 12, "the spares")
         # A wait that no longer counts, while the next spare is made, whose greeting gets no answer.
         store.greeting = [(PING, b"")]
@@ -156,10 +156,10 @@ def a_late_store_is_closed_and_no_idle_one(work, _):
         with sender(stuck, frame(DATA, 1, LARGE) + frame(WAIT, 1)), sender(slow, frame(DATA, 1, LARGE) + frame(WAIT, 1)):
             # A reply came whole before its end was waited for, and of another half is to come.
             for at in (2, 3):
-                front.devices[at].ask(1, b"?")
+                gateway.devices[at].ask(1, b"?")
                 assert received(links[at], 1) == b"?"
                 links[at].sendall(b"half")
-                assert not front.devices[at].is_quiet(PATIENCE)
+                assert not gateway.devices[at].is_quiet(PATIENCE)
             links[2].sendall(b" and half")
             time.sleep(0.1)
             assert whole.reply(1, 13) == b"half and half" and half.take(1) == (DATA, b"half")
@@ -179,7 +179,7 @@ def a_late_store_is_closed_and_no_idle_one(work, _):
         assert slow.take(1) == (DATA, b"taken")
         until(lambda: len(store.greeted) == 14, "another spare in its place")
         for at in (2, 5):
-            exchange(front.devices[at], links[at], 1)
+            exchange(gateway.devices[at], links[at], 1)
 
 
 def calls_end_in_any_way(work, clients):
@@ -226,11 +226,11 @@ def calls_end_in_any_way(work, clients):
             whole += kind == DATA
         return whole
 
-    with Store(serve=serve) as store, FarFront(work, store.address, links=3) as front:
+    with Store(serve=serve) as store, FarGateway(work, store.address, links=3) as gateway:
         with ThreadPoolExecutor() as pool:
-            whole = list(pool.map(call, front.devices))
+            whole = list(pool.map(call, gateway.devices))
         assert all(clients / 16 < it < clients // 4 for it in whole), whole
-        assert front.rests()
+        assert gateway.rests()
 
 
 def connections(client):
@@ -269,12 +269,12 @@ def redis_is_the_store(work, _):
             time.sleep(0.02)
         raise AssertionError("the store does not come back")
 
-    with Redis(work, unix=path), FarFront(work, path) as front:
-        front.device.open(1)
-        calls(front.device, 1)
+    with Redis(work, unix=path), FarGateway(work, path) as gateway:
+        gateway.device.open(1)
+        calls(gateway.device, 1)
     address = f"127.0.0.1:{port}"
-    with Redis(work, port, password="a secret") as redis, FarFront(work, address, *SHORT, *password) as front:
-        device = front.device
+    with Redis(work, port, password="a secret") as redis, FarGateway(work, address, *SHORT, *password) as gateway:
+        device = gateway.device
         device.open(1)
         calls(device, 1)
         with socket.create_connection(("127.0.0.1", port), PATIENCE) as client:

@@ -20,7 +20,7 @@ const HEAD: usize = 13;
 const READ: usize = 1 << 18;
 
 /// A packet that has arrived, or a piece of one with data.
-pub enum Frame<'a> {
+pub enum Packet<'a> {
     /// A piece of data: the connection's number, and those bytes that have arrived.
     Data(u64, &'a [u8]),
     /// Another packet: its kind, its number, and all its bytes.
@@ -33,7 +33,7 @@ pub type Longest = fn(u8) -> Option<usize>;
 
 /// Cuts what arrives by a pipe into packets.
 #[derive(Default)]
-pub struct Frames {
+pub struct Packets {
     /// A buffer. Its bytes from `start` to `end` are not taken yet.
     room: Vec<u8>,
     start: usize,
@@ -56,9 +56,9 @@ fn number(bytes: &[u8]) -> u64 {
     bytes.iter().fold(0, |all, byte| all << 8 | u64::from(*byte))
 }
 
-impl Frames {
-    pub fn new() -> Frames {
-        Frames { room: vec![0; READ], ..Frames::default() }
+impl Packets {
+    pub fn new() -> Packets {
+        Packets { room: vec![0; READ], ..Packets::default() }
     }
 
     /// Reads a pipe once. Call it only after `next` has returned None. `ErrorKind::UnexpectedEof` is returned
@@ -76,14 +76,14 @@ impl Frames {
     /// The next packet, or piece of data, of what was read. None if less than a packet is left, which is then
     /// moved to the start of the buffer. `ErrorKind::InvalidData` is returned for a packet that is not
     /// allowed.
-    pub fn next(&mut self, longest: Longest) -> io::Result<Option<Frame<'_>>> {
+    pub fn next(&mut self, longest: Longest) -> io::Result<Option<Packet<'_>>> {
         loop {
             let (start, came) = (self.start, self.end - self.start);
             if self.coming.1 > 0 && came > 0 {
                 let count = self.coming.1.min(came);
                 self.coming.1 -= count;
                 self.start += count;
-                return Ok(Some(Frame::Data(self.coming.0, &self.room[start..self.start])));
+                return Ok(Some(Packet::Data(self.coming.0, &self.room[start..self.start])));
             }
             if came < HEAD {
                 return Ok(self.wait());
@@ -103,7 +103,7 @@ impl Frames {
                 return Ok(self.wait());
             }
             self.start = bytes + length;
-            return Ok(Some(Frame::Sign(kind, number, &self.room[bytes..self.start])));
+            return Ok(Some(Packet::Sign(kind, number, &self.room[bytes..self.start])));
         }
     }
 

@@ -7,9 +7,9 @@ use std::ops::RangeInclusive;
 use std::path::PathBuf;
 use std::str::FromStr;
 
-pub const USAGE: &str = "usage: front [--port N] [--bind ADDRESS] [--guarded] [--unix PATH] [--timeout SECONDS] \
+pub const USAGE: &str = "usage: gateway [--port N] [--bind ADDRESS] [--guarded] [--unix PATH] [--timeout SECONDS] \
     [--auth-timeout SECONDS] [--connections N] [--output-limit BYTES] [--clients-memory BYTES] [--server-pid N] [--far-resp HOST:PORT|PATH --far-link REQUESTS REPLIES... \
-    [--far-password-file FILE] [--far-timeout SECONDS]] --lane REQUESTS REPLIES [--lane REQUESTS REPLIES]...";
+    [--far-password-file FILE] [--far-timeout SECONDS]] --worker REQUESTS REPLIES [--worker REQUESTS REPLIES]...";
 const FAR_TIMEOUTS: RangeInclusive<u32> = 1..=3600;
 /// The most workers, and the most links. The place of each in a token is a byte.
 const MOST: usize = 64;
@@ -37,7 +37,7 @@ pub struct Options {
     /// The server's process. Its memory is reported together with the gateway's.
     pub server_pid: Option<u32>,
     /// The pipes of each worker: its requests, its replies.
-    pub lanes: Vec<(PathBuf, PathBuf)>,
+    pub workers: Vec<(PathBuf, PathBuf)>,
     /// The address of the far store.
     pub far_resp: Option<OsString>,
     /// The file whose first line is the store's password.
@@ -62,7 +62,7 @@ impl Options {
             output_limit: 1 << 26,
             clients_memory: 1 << 26,
             server_pid: None,
-            lanes: Vec::new(),
+            workers: Vec::new(),
             far_resp: None,
             far_password_file: None,
             far_timeout: 5,
@@ -82,7 +82,7 @@ impl Options {
                 "--output-limit" => it.output_limit = read(&name, value()?)?,
                 "--clients-memory" => it.clients_memory = read(&name, value()?)?,
                 "--server-pid" => it.server_pid = Some(read(&name, value()?)?),
-                "--lane" => it.lanes.push((value()?.into(), value()?.into())),
+                "--worker" => it.workers.push((value()?.into(), value()?.into())),
                 "--far-resp" => it.far_resp = Some(address(&name, value()?)?),
                 "--far-password-file" => it.far_password_file = Some(value()?.into()),
                 "--far-timeout" => it.far_timeout = read(&name, value()?)?,
@@ -90,9 +90,9 @@ impl Options {
                 _ => return Err(format!("{name} is no option")),
             }
         }
-        match (it.lanes.is_empty(), &it.port, &it.unix) {
-            (true, ..) => Err("there is no --lane".into()),
-            _ if it.lanes.len() > MOST => Err(format!("there are more than {MOST} --lane")),
+        match (it.workers.is_empty(), &it.port, &it.unix) {
+            (true, ..) => Err("there is no --worker".into()),
+            _ if it.workers.len() > MOST => Err(format!("there are more than {MOST} --worker")),
             _ if it.far_links.len() > MOST => Err(format!("there are more than {MOST} --far-link")),
             (_, None, None) => Err("there is neither --port nor --unix".into()),
             _ if !it.bind.is_loopback() && !it.guarded => Err(format!("--bind {} needs --guarded", it.bind)),

@@ -13,14 +13,14 @@
 //! only while little waits for the worker. So the rest waits in the sockets.
 //!
 //! A client is unauthenticated until the worker lets it in, and after the worker lets it out. It has limits
-//! then (`stranger`). Before input beyond a limit the worker is asked to report when it has answered all that
+//! then (`unauthenticated`). Before input beyond a limit the worker is asked to report when it has answered all that
 //! was sent before. If the client is authenticated by then, the input is sent.
 
 mod input;
 
 use crate::channel::Channel;
 use crate::client::{Client, Turn};
-use crate::frame::{self, Frame, Frames, CLOSE, DATA, LONGEST, OPEN, PLACE, REPLIES, REQUESTS};
+use crate::packet::{self, Packet, Packets, CLOSE, DATA, LONGEST, OPEN, PLACE, REPLIES, REQUESTS};
 use crate::memory::{Half, Taken};
 use crate::shared::Shared;
 use crate::system::{Epoll, OUTPUT};
@@ -55,12 +55,12 @@ fn longest(kind: u8) -> Option<usize> {
 }
 
 /// A worker's two pipes, and its clients.
-pub struct Lane {
+pub struct Worker {
     /// Which worker it is, as the highest byte of its tokens.
     place: u64,
     requests: Channel,
     replies: Channel,
-    frames: Frames,
+    packets: Packets,
     /// By their numbers.
     clients: HashMap<u64, Client>,
     /// The number of the next client.
@@ -77,17 +77,17 @@ pub struct Lane {
     is_blind: bool,
 }
 
-impl Lane {
-    pub fn new(place: usize, requests: File, replies: File, epoll: &Epoll) -> io::Result<Lane> {
+impl Worker {
+    pub fn new(place: usize, requests: File, replies: File, epoll: &Epoll) -> io::Result<Worker> {
         let place = (place as u64) << PLACE;
         let requests = Channel::new(requests, place | REQUESTS);
         let mut replies = Channel::new(replies, place | REPLIES);
         replies.watch(epoll, true, false)?;
-        Ok(Lane {
+        Ok(Worker {
             place,
             requests,
             replies,
-            frames: Frames::new(),
+            packets: Packets::new(),
             clients: HashMap::new(),
             next: 0,
             turns: Turns::default(),
@@ -117,7 +117,7 @@ impl Lane {
 
     /// Adds a packet to the worker's queue. An error is returned if there is no memory for it.
     fn put(&mut self, kind: u8, number: u64, bytes: &[u8]) -> io::Result<()> {
-        frame::put(&mut self.requests, kind, number, bytes)
+        packet::put(&mut self.requests, kind, number, bytes)
     }
 
     /// Sends the worker a note: a text about no connection. An error is returned if there is no memory for
@@ -195,7 +195,7 @@ impl Lane {
     /// The worker has let a client in.
     fn let_in(&mut self, number: u64, shared: &Shared) {
         let Some(client) = self.client(number) else { return };
-        client.stranger = None;
+        client.unauthenticated = None;
         if !shared.is_guarded && client.held.is_none() {
             client.reader = None;
         }
@@ -204,7 +204,7 @@ impl Lane {
     /// The worker has let a client out again.
     fn let_out(&mut self, number: u64, shared: &mut Shared) {
         let Some(client) = self.client(number) else { return };
-        client.stranger = Some(shared.now);
+        client.unauthenticated = Some(shared.now);
         // Replies from before may still arrive.
         client.owed = usize::MAX;
         if self.ask(number).is_err() {
@@ -230,7 +230,7 @@ impl Lane {
         let Some(client) = self.clients.get_mut(&number) else { return };
         client.held = None;
         if !mem::replace(&mut client.sent_close, true) {
-            client.owes_close = frame::put(&mut self.requests, CLOSE, number, b"").is_err();
+            client.owes_close = packet::put(&mut self.requests, CLOSE, number, b"").is_err();
             self.owes_close |= client.owes_close;
             self.update(number, shared);
         }
@@ -254,7 +254,7 @@ impl Lane {
             return;
         }
         for (number, client) in self.clients.iter_mut().filter(|(_, it)| it.owes_close) {
-            client.owes_close = frame::put(&mut self.requests, CLOSE, *number, b"").is_err();
+            client.owes_close = packet::put(&mut self.requests, CLOSE, *number, b"").is_err();
             self.owes_close |= client.owes_close;
         }
         let count = self.clients.len();
@@ -296,21 +296,21 @@ impl Lane {
 
     /// Reads the pipe of replies once, and handles its packets.
     fn take_replies(&mut self, shared: &mut Shared) -> io::Result<()> {
-        let mut frames = mem::take(&mut self.frames);
-        frames.read(&self.replies)?;
-        while let Some(frame) = frames.next(longest)? {
-            match frame {
-                Frame::Data(number, bytes) => self.send(number, bytes, shared),
-                Frame::Sign(CLOSE, number, _) => self.end_output(number, shared),
-                Frame::Sign(LET_IN, number, _) => self.let_in(number, shared),
-                Frame::Sign(LET_OUT, number, _) => self.let_out(number, shared),
-                Frame::Sign(WAKE, 0, _) => shared.wakes = true,
-                Frame::Sign(NOTE, 0, text) => self.take_note(text, shared),
-                Frame::Sign(HOLDS, number, bytes) => self.hold(number, bytes, shared)?,
-                Frame::Sign(..) => return Err(ErrorKind::InvalidData.into()),
+        let mut packets = mem::take(&mut self.packets);
+        packets.read(&self.replies)?;
+        while let Some(packet) = packets.next(longest)? {
+            match packet {
+                Packet::Data(number, bytes) => self.send(number, bytes, shared),
+                Packet::Sign(CLOSE, number, _) => self.end_output(number, shared),
+                Packet::Sign(LET_IN, number, _) => self.let_in(number, shared),
+                Packet::Sign(LET_OUT, number, _) => self.let_out(number, shared),
+                Packet::Sign(WAKE, 0, _) => shared.wakes = true,
+                Packet::Sign(NOTE, 0, text) => self.take_note(text, shared),
+                Packet::Sign(HOLDS, number, bytes) => self.hold(number, bytes, shared)?,
+                Packet::Sign(..) => return Err(ErrorKind::InvalidData.into()),
             }
         }
-        self.frames = frames;
+        self.packets = packets;
         Ok(())
     }
 

@@ -1,12 +1,12 @@
 #!/usr/bin/env bash
-# Tries the server's front, with lanes and devices of front.py in the server's place: front.sh [--long], which has it more
+# Tries the server's gateway, with lanes and devices of gateway.py in the server's place: gateway.sh [--long], which has it more
 # clients. The status is 1 where a trial fails, and 77 where there is no Rust compiler.
 set -euo pipefail
 
 tests=$(dirname "$(readlink -f "${BASH_SOURCE[0]}")")
 clients=200 options=()
 if [ "${1:-}" = --long ]; then
-    # The sums that the front keeps are counted again.
+    # The sums that the gateway keeps are counted again.
     clients=5000 options=(-C debug-assertions=on)
 fi
 if ! command -v rustc >/dev/null; then
@@ -15,13 +15,13 @@ if ! command -v rustc >/dev/null; then
 fi
 work=$(mktemp -d)
 trap 'rm -rf "$work"' EXIT
-rustc -O "${options[@]}" --edition 2021 -o "$work/front" "$tests/../front/main.rs"
+rustc -O "${options[@]}" --edition 2021 -o "$work/gateway" "$tests/../gateway/main.rs"
 # Most of a trial is waiting, so some are made at once.
 parts=3 running=()
 for ((part = 0; part < parts; part++)); do
     mkdir "$work/$part"
-    ln "$work/front" "$work/$part/front"
-    /usr/bin/python3 -B "$tests/front.py" "$work/$part" "$clients" "$part/$parts" &
+    ln "$work/gateway" "$work/$part/gateway"
+    /usr/bin/python3 -B "$tests/gateway.py" "$work/$part" "$clients" "$part/$parts" &
     running+=("$!")
 done
 status=0

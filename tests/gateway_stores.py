@@ -1,4 +1,4 @@
-"""What front_links.py tries the front with: devices at its links, and stores that do what a trial says."""
+"""What gateway_links.py tries the gateway with: devices at its links, and stores that do what a trial says."""
 import contextlib
 import os
 import select
@@ -9,7 +9,7 @@ import subprocess
 import threading
 from pathlib import Path
 
-from front_parts import CLOSE, DATA, HEAD, OPEN, PATIENCE, Front, frame, received, until
+from gateway_parts import CLOSE, DATA, HEAD, OPEN, PATIENCE, Gateway, frame, received, until
 
 WAIT = 3
 PING = b"*1\r\n$4\r\nPING\r\n"
@@ -74,7 +74,7 @@ class Device:
             self.sendall(frame(WAIT, number))
 
     def joins(self, links, number):
-        """Opens a number, and gives that of these ends of the store to which it leads. The front gets a spare a moment later than
+        """Opens a number, and gives that of these ends of the store to which it leads. The gateway gets a spare a moment later than
         the store has greeted it, and until then it closes the number."""
         link = None
         while link is None:
@@ -198,11 +198,11 @@ class Redis:
         self.process.wait()
 
 
-class FarFront(Front):
-    """A front with a link for each of so many devices, beside its lanes."""
+class FarGateway(Gateway):
+    """A gateway with a link for each of so many devices, beside its workers."""
 
     def __init__(self, work, address, *words, links=1, **options):
-        folder = Path(work) / f"links{Front.made}"
+        folder = Path(work) / f"links{Gateway.made}"
         folder.mkdir()
         self.devices = [Device(folder, number) for number in range(links)]
         self.device = self.devices[0]
@@ -215,12 +215,12 @@ class FarFront(Front):
         super().open_lanes()
 
 
-def joined(front, store):
+def joined(gateway, store):
     """Opens number 1 at each device, and gives the store's ends of their connections, in order."""
-    for at, device in enumerate(front.devices):
+    for at, device in enumerate(gateway.devices):
         device.open(1)
         device.sendall(frame(DATA, 1, b"%02d" % at))
-    links = {received(link, 2): link for link in (store.link(at) for at in range(len(front.devices)))}
+    links = {received(link, 2): link for link in (store.link(at) for at in range(len(gateway.devices)))}
     return [links[it] for it in sorted(links)]
 
 

@@ -1,4 +1,4 @@
-//! A lane that stands in for the server's where the gateway is measured: `lane REQUESTS REPLIES` answers PING, SET and GET over
+//! A worker that stands in for the server's where the gateway is measured: `worker REQUESTS REPLIES` answers PING, SET and GET over
 //! the gateway's packets from a map of its own, and anything else with `+OK`. It trusts what comes, but for its length.
 
 use std::collections::HashMap;

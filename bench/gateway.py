@@ -1,4 +1,4 @@
-"""Measures the front beside redis-server: front.py FOLDER ROUNDS, where FOLDER has the programs; front.sh says more."""
+"""Measures the gateway beside redis-server: gateway.py FOLDER ROUNDS, where FOLDER has the programs; gateway.sh says more."""
 import csv
 import os
 import shlex
@@ -19,19 +19,19 @@ def free_port():
         return held.getsockname()[1]
 
 
-def start_front(work, lanes):
-    under = shlex.split(os.environ.get("FRONT_UNDER", ""))
+def start_gateway(work, workers):
+    under = shlex.split(os.environ.get("GATEWAY_UNDER", ""))
     port = free_port()
     words = []
     started = []
-    for number in range(lanes):
-        pipes = [f"{work}/{kind}{lanes}{number}" for kind in ("requests", "replies")]
+    for number in range(workers):
+        pipes = [f"{work}/{kind}{workers}{number}" for kind in ("requests", "replies")]
         for pipe in pipes:
             os.mkfifo(pipe)
-        words += ["--lane", *pipes]
-        started.append(subprocess.Popen([*under, f"{work}/lane", *pipes], **QUIET))
-    front = [*under, f"{work}/front", "--port", str(port), *words]
-    return port, [subprocess.Popen(front, **QUIET), *started]
+        words += ["--worker", *pipes]
+        started.append(subprocess.Popen([*under, f"{work}/worker", *pipes], **QUIET))
+    gateway = [*under, f"{work}/gateway", "--port", str(port), *words]
+    return port, [subprocess.Popen(gateway, **QUIET), *started]
 
 
 def start_redis(_):
@@ -54,7 +54,7 @@ def load():
 
 def main():
     work, rounds = sys.argv[1], int(sys.argv[2])
-    starts = {"redis-server": start_redis, "one lane": lambda it: start_front(it, 1), "two lanes": lambda it: start_front(it, 2)}
+    starts = {"redis-server": start_redis, "one worker": lambda it: start_gateway(it, 1), "two workers": lambda it: start_gateway(it, 2)}
     servers, told = {}, {}
     try:
         for name, start in starts.items():

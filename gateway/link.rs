@@ -13,7 +13,7 @@
 //! the store. An idle connection may stay.
 
 use crate::channel::Channel;
-use crate::frame::{self, Frame, Frames, CLOSE, DATA, LONGEST, OPEN, PLACE, REPLIES, REQUESTS};
+use crate::packet::{self, Packet, Packets, CLOSE, DATA, LONGEST, OPEN, PLACE, REPLIES, REQUESTS};
 use crate::shared::Shared;
 use crate::system::{INPUT, OUTPUT};
 use std::fs::File;
@@ -49,7 +49,7 @@ pub struct Link {
     place: u64,
     requests: Channel,
     replies: Channel,
-    frames: Frames,
+    packets: Packets,
     /// The number of the last OPEN.
     number: u64,
     /// None once the connection is closed.
@@ -79,7 +79,7 @@ impl Link {
             place,
             requests,
             replies: Channel::new(replies, place | REPLIES),
-            frames: Frames::new(),
+            packets: Packets::new(),
             number: 0,
             socket: None,
             owes_close: false,
@@ -114,7 +114,7 @@ impl Link {
         if self.socket.is_some() && is_owed && shared.now - self.moved >= patience {
             self.close();
         }
-        self.owes_close = self.owes_close && frame::put(&mut self.replies, CLOSE, self.number, b"").is_err();
+        self.owes_close = self.owes_close && packet::put(&mut self.replies, CLOSE, self.number, b"").is_err();
         self.replies.flush()?;
         self.replies.shrink(KEPT);
         let has_room = self.replies.waiting() < LIMIT;
@@ -159,20 +159,20 @@ impl Link {
 
     /// Reads the pipe of requests once, and handles its packets.
     fn take_requests(&mut self, shared: &mut Shared) -> io::Result<()> {
-        let mut frames = mem::take(&mut self.frames);
-        frames.read(&self.requests)?;
-        while let Some(frame) = frames.next(longest)? {
-            match frame {
-                Frame::Data(number, bytes) if number == self.number => self.send(bytes, shared.now),
-                Frame::Sign(WAIT, number, _) if number == self.number => {
+        let mut packets = mem::take(&mut self.packets);
+        packets.read(&self.requests)?;
+        while let Some(packet) = packets.next(longest)? {
+            match packet {
+                Packet::Data(number, bytes) if number == self.number => self.send(bytes, shared.now),
+                Packet::Sign(WAIT, number, _) if number == self.number => {
                     self.awaited += 1;
                     self.moved = shared.now;
                 }
-                Frame::Sign(OPEN, number, _) => self.open(number, shared)?,
-                Frame::Data(..) | Frame::Sign(..) => {}
+                Packet::Sign(OPEN, number, _) => self.open(number, shared)?,
+                Packet::Data(..) | Packet::Sign(..) => {}
             }
         }
-        self.frames = frames;
+        self.packets = packets;
         Ok(())
     }
 
@@ -233,7 +233,7 @@ impl Link {
                 self.given += 1;
                 self.awaited = self.awaited.min(self.given);
                 self.moved = shared.now;
-                if frame::put(&mut self.replies, DATA, self.number, &shared.room[..count]).is_err() {
+                if packet::put(&mut self.replies, DATA, self.number, &shared.room[..count]).is_err() {
                     self.close();
                 }
             }

@@ -3,7 +3,7 @@
 use crate::channel::Channel;
 use crate::memory::Taken;
 use crate::shared::Shared;
-use crate::stranger::{Fault, Reader, REPLIES};
+use crate::unauthenticated::{Fault, Reader, REPLIES};
 use std::time::Instant;
 
 /// Bytes that count for a client while nothing waits for it, rounded up. With 2,000 to 9,000 idle clients the
@@ -35,7 +35,7 @@ pub struct Client {
     /// When it was last read or written.
     pub active: Instant,
     /// Since when it is unauthenticated. None while it is authenticated.
-    pub stranger: Option<Instant>,
+    pub unauthenticated: Option<Instant>,
     /// Follows its requests. None if it will never be unauthenticated again.
     pub reader: Option<Reader>,
     /// How many of the bytes that wait for it were owed before the worker let it out. `usize::MAX` until the
@@ -58,7 +58,7 @@ impl Client {
             got_close: false,
             turn: Turn::None,
             active: now,
-            stranger: Some(now),
+            unauthenticated: Some(now),
             reader: Some(Reader::default()),
             owed: 0,
             held: None,
@@ -87,7 +87,7 @@ impl Client {
     /// Whether it has been unauthenticated for too long.
     pub fn is_late(&self, shared: &Shared) -> bool {
         let most = shared.auth_timeout;
-        !most.is_zero() && self.stranger.is_some_and(|since| shared.now - since >= most)
+        !most.is_zero() && self.unauthenticated.is_some_and(|since| shared.now - since >= most)
     }
 
     /// Ends `owed` at the bytes that wait now: the worker has sent all that was owed before it let the client
@@ -98,7 +98,7 @@ impl Client {
 
     /// The most bytes that may wait for it.
     pub fn output_limit(&mut self, shared: &Shared) -> usize {
-        if self.stranger.is_none() || self.owed == usize::MAX {
+        if self.unauthenticated.is_none() || self.owed == usize::MAX {
             return shared.output_limit;
         }
         self.bound_owed();

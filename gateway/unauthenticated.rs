@@ -162,11 +162,11 @@ impl Reader {
 }
 
 /// The greatest number that may follow a `*` or a `$`.
-fn limit(of_strangers: u64, is_let_in: bool) -> u64 {
+fn limit(of_unauthenticated: u64, is_let_in: bool) -> u64 {
     if is_let_in {
         GREATEST
     } else {
-        of_strangers
+        of_unauthenticated
     }
 }
 

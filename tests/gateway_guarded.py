@@ -1,8 +1,8 @@
-"""What front_strangers.py tries the front with: a lane that asks for a password."""
+"""What gateway_strangers.py tries the gateway with: a worker that asks for a password."""
 import contextlib
 import time
 
-from front_parts import CLOSE, DATA, LET_IN, LET_OUT, Front, Lane, frame
+from gateway_parts import CLOSE, DATA, LET_IN, LET_OUT, Gateway, Worker, frame
 
 PASSWORD = b"open sesame"
 NOAUTH = b"-NOAUTH Authentication required.\r\n"
@@ -58,8 +58,8 @@ def request_at(data):
     return words, data
 
 
-class Guarded(Lane):
-    """A lane that asks for a password, and sees that no stranger passes the limits."""
+class Guarded(Worker):
+    """A worker that asks for a password, and sees that no stranger passes the limits."""
 
     def __init__(self, *words, **options):
         super().__init__(*words, **options)
@@ -110,7 +110,7 @@ class Guarded(Lane):
                 self.send(frame(DATA, connection, WRONG))
         elif name == b"RESET":
             self.let_in.discard(connection)
-            # A lane lets out before it sends the replies that it has gathered.
+            # A worker lets out before it sends the replies that it has gathered.
             self.send(frame(LET_OUT, connection) + frame(DATA, connection, self.gathered + b"+RESET\r\n"))
         elif name == b"QUIT":
             self.send(frame(DATA, connection, OK) + frame(CLOSE, connection))
@@ -124,6 +124,6 @@ class Guarded(Lane):
 
 @contextlib.contextmanager
 def guarded(work, *words, **options):
-    with Front(work, "--guarded", *words, kind=Guarded, **options) as front:
-        yield front, front.lanes[0]
-        assert all(not it.faults for it in front.lanes), [it.faults for it in front.lanes]
+    with Gateway(work, "--guarded", *words, kind=Guarded, **options) as gateway:
+        yield gateway, gateway.workers[0]
+        assert all(not it.faults for it in gateway.workers), [it.faults for it in gateway.workers]
