@@ -216,7 +216,11 @@ class Program(Buildable):
         else:
             kind = f"{'not ' if '-unproved-' in program.name else ''}proved, {place_of(program)}"
         kit = self.identity or (f"none in PATH; the build is by {maker_of(program)}" if program else "none in PATH")
-        return f"build: {kind}\nkit: {kit}\nsources: {self.sum}"
+        return f"version: {version_of_sources()}\nbuild: {kind}\nkit: {kit}\nsources: {self.sum}"
+
+
+def version_of_sources():
+    return (ROOT / "VERSION").read_text().strip()
 
 
 def find_kit():
@@ -247,7 +251,7 @@ class Gateway(Buildable):
     def needs(self):
         if shutil.which("rustc"):
             return ""
-        return "the Rust compiler, whose command is rustc (install the package rustc, or Rust by rustup.rs)"
+        return "the Rust compiler, 1.82 or later, whose command is rustc (Rust by rustup.rs; Debian 12's package rustc is too old)"
 
     def build(self):
         line = subprocess.run(["rustc", "-V"], stdin=subprocess.DEVNULL, stdout=subprocess.PIPE, errors="replace").stdout
@@ -256,7 +260,7 @@ class Gateway(Buildable):
     def compile(self, part):
         words = ["rustc", "-O", "--edition", "2021", "-o", part, ROOT / "gateway/main.rs"]
         if subprocess.run(words, stdin=subprocess.DEVNULL, stdout=subprocess.PIPE).returncode:
-            raise Unbuilt("rustc can't build the gateway")
+            raise Unbuilt("rustc can't build the gateway; it has to be 1.82 or later, as `rustc -V` says")
 
     def version(self):
         program = self.built()

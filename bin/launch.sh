@@ -15,6 +15,18 @@ trap '' XFSZ
 run() {
     name=$1
     shift
+    # In a release the programs are there already, with the C library that they were built with.
+    programs=${bin%/*}/programs
+    if [ -d "$programs" ]; then
+        case "${1:-}" in
+        --version) exec cat "$programs/$name.build" ;;
+        --proved)
+            printf '%s: a release has no sources to prove; --version says whether they were proved\n' "$name" >&2
+            exit 126
+            ;;
+        esac
+        exec "$programs/ld.so" --library-path "$programs" "$programs/$name" "$@"
+    fi
     if [ "${1:-}" = --version ]; then exec "$bin/build" --version "$name"; fi
     status=0
     program=$("$bin/build" --start "$name" "$@" </dev/null) || status=$?

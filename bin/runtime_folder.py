@@ -11,7 +11,7 @@ import tempfile
 
 NAME = re.compile(r"farserve-[a-z0-9_]{8}")
 LOCK = "lock"
-# The names of a lane's pipes, each with its number behind it.
+# The names of a worker's pipes, each followed by its number.
 PIPES = ["requests", "replies", "far-requests", "far-replies"]
 OWN = re.compile(rf"(?:{'|'.join(PIPES)})\d+|{LOCK}")
 

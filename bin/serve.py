@@ -1,4 +1,4 @@
-"""The server's launcher, which bin/farserve starts: it finds or makes both programs, starts them, and ends them at a signal.
+"""The server's launcher, which bin/farserve starts: it gets both programs (server_programs.py), starts them, and ends them at a signal.
 
 The server is two programs: the proved one, which has no sockets, and the gateway, which joins connections to its pipes.
 """
@@ -8,13 +8,12 @@ import re
 import signal
 import sys
 
-import options
-from builds import Gateway, Missing, Program
+import server_programs
 from parts import MOMENT, SIGNALS, Interrupted, Part, Signalled, Signals
 from runtime_folder import runtime_folder
-from unproved import Unbuilt
+from server_programs import Answered, Lacking
 
-# Lanes if no --threads says otherwise, and as many links to a far store as there may be.
+# Workers if no --threads says otherwise, and as many links to a far store as there may be.
 THREADS = 4
 LINKS = 8
 # What one thread frees all threads use again. With an arena for each thread malloc keeps as much once more for each.
@@ -104,7 +103,7 @@ class Server:
     def serve(self, program, gateway, words):
         self.make_pipes(words)
         # A signal to the whole group, as a terminal sends it, is not to end it before the gateway.
-        server = self.start("server", [program, *words, "--pipes", self.folder], SIGNALS, malloc_for(words))
+        server = self.start("server", [*program, *words, "--pipes", self.folder], SIGNALS, malloc_for(words))
         told = self.told(server, b"\0\0")
         if not told.endswith(b"\0\0"):
             # It is the help, or the fault stands on standard error.
@@ -112,9 +111,9 @@ class Server:
             raise Failed(server.status(), "")
         count, *words = told[:-2].decode().split("\0")
         words += ["--server-pid", str(server.process.pid)]
-        for lane in range(int(count)):
-            words += ["--lane", f"{self.folder}/requests{lane}", f"{self.folder}/replies{lane}"]
-        write(self.told(self.start("gateway", [gateway, *words]), b"\n").decode())
+        for worker in range(int(count)):
+            words += ["--worker", f"{self.folder}/requests{worker}", f"{self.folder}/replies{worker}"]
+        write(self.told(self.start("gateway", [*gateway, *words]), b"\n").decode())
         self.fail(self.signals.wait(self.parts))
 
     def end(self):
@@ -140,65 +139,31 @@ def serve(program, gateway, words, signals):
         raise Failed(1, f"the gateway has ended with status {status}")
 
 
-def check_needs(needing):
-    """Says what has to be installed before anything is built, which takes minutes."""
-    needs = [it.needs() for it in needing if it.needs()]
-    if needs:
-        raise Missing(f"building it needs {' and '.join(needs)}")
-
-
-def build_missing(server, gateway, is_proved):
-    """Gives the paths of both programs, of which one at least has to be built."""
-    program, gateway = None if is_proved else server.built(), gateway.built()
-    check_needs([*[server] * (not program), *[gateway] * (not gateway)])
-    # The short one first, as it may fail too.
-    gateway = gateway or gateway.build()
-    if is_proved:
-        return server.give_proved(), gateway
-    return program or server.build_unproved(), gateway
-
-
-def give_programs(words, is_proved, signals):
-    """Gives the paths of both programs, which are built first if they have to be."""
-    server, gateway = Program("farserve"), Gateway()
-    program, gateway = server.built(), gateway.built()
-    if not (program and gateway):
-        options.judge("farserve", words)
-    if is_proved or not (program and gateway):
-        with signals.interrupting():
-            try:
-                program, gateway = build_missing(server, gateway, is_proved)
-            except OSError as why:
-                raise Unbuilt(why) from None
-    server.tell_of(program)
-    return program, gateway
-
-
 def run(words, signals):
     if words[:1] == ["--version"]:
-        write(f"{Program('farserve').version()}\n{Gateway().version()}\n")
+        write(server_programs.version())
         return 0
     is_proved = words[:1] == ["--proved"]
     words = words[1:] if is_proved else words
     try:
-        program, gateway = give_programs(words, is_proved, signals)
+        program, gateway = server_programs.give(words, is_proved, signals)
         if words or not is_proved:
             signals.check()
             serve(program, gateway, words, signals)
-    except options.Answered as answered:
-        return answered.tell()
+    except Answered as answered:
+        return answered.args[0]
     except Signalled:
         pass
     except Interrupted as interrupted:
         return 128 + interrupted.args[0]
-    except Failed as failed:
+    except (Failed, Lacking) as failed:
         status, told = failed.args
         if told:
             tell(told)
         return status
-    except (Missing, Unbuilt, OSError) as why:
+    except OSError as why:
         tell(why)
-        return {Missing: 127, Unbuilt: 126}.get(type(why), 1)
+        return 1
     return 0
 
 

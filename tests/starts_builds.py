@@ -126,7 +126,7 @@ def what_is_missing_is_said_before_a_build(tried, _):
 
 def what_is_built_needs_neither_kit_nor_compiler(tried, _):
     copy = tried.copy(has_own=True)
-    kit = copy.run("fartable", "--version").stdout.splitlines()[1].removeprefix("kit: ")
+    kit = copy.run("fartable", "--version").stdout.splitlines()[2].removeprefix("kit: ")
     for is_there in (False, True):
         process = copy.start("farserve", "--memory", "64m", "--port", 0)
         assert process.stdout.readline().startswith("ready "), process.communicate()

@@ -3,7 +3,7 @@ import re
 import subprocess
 
 import starts_parts  # has bin/ looked through for modules
-from server_parts import ROOT
+from server_parts import ROOT, Farserve
 
 import options
 
@@ -36,12 +36,12 @@ def words_are_answered_before_anything_is_built(tried, _):
         ran = copy.run(name, "word", "--", "--zzz")
         assert ran.returncode == 127 and "needs the Rattle kit" in ran.stderr, ran
         ran = copy.run(name, "--version")
-        assert ran.returncode == 0 and ran.stdout.startswith("build: none yet") and not ran.stderr, ran
+        assert ran.returncode == 0 and "\nbuild: none yet" in ran.stdout and not ran.stderr, ran
     usage = (ROOT / "bin/help/fartable.txt").read_text()
     assert told_by(tried, "fartable") == (2, "", usage), "bin/help/fartable.txt is old: $(bin/build fartable) 2>bin/help/fartable.txt"
     assert told(copy.run("fartable", "--help")) == (0, usage, "")
     assert told(copy.run("fartable", "--zzz")) == told_by(tried, "fartable", "--zzz") == (2, "", usage)
-    assert copy.run("fartable", "--version").stdout.startswith("build: none yet")
+    assert "\nbuild: none yet" in copy.run("fartable", "--version").stdout
     # Behind --proved the words are the program's too.
     assert told(copy.run("farserve", "--proved", "--zzz")) == told_by(tried, "farserve", "--zzz")
     assert copy.built() == []
@@ -50,8 +50,8 @@ def words_are_answered_before_anything_is_built(tried, _):
 def each_option_is_known(tried, _):
     """Also one that the help leaves out is no unknown one; and its value is not judged."""
     for name in WITH_OPTIONS:
-        source = (ROOT / f"crates/{name}/src/asked.rt").read_text()
-        # Options are made by these helpers, in each crate's asked.rt, or by Arg::new.
+        source = (ROOT / f"crates/{name}/src/command_line.rt").read_text()
+        # Options are made by these helpers, in each crate's command_line.rt, or by Arg::new.
         names = set(re.findall(r'\b(?:number|text|pipe|Arg::new)\(\s*alloc,\s*"([\w-]+)"', source)) - {"pipes", "files"}
         assert len(names) >= 4, (name, names)
         for option in sorted(names):
@@ -71,4 +71,18 @@ def words_are_the_programs_once_it_is_built(tried, _):
             assert (ran.returncode, ran.stdout, "".join(own)) == told_by(tried, name, *words), (name, words, ran)
 
 
-TRIALS = [words_are_answered_before_anything_is_built, each_option_is_known, words_are_the_programs_once_it_is_built]
+def the_version_is_one(tried, _):
+    """VERSION, what each program reports, INFO's, and the head of the changelog."""
+    version = (ROOT / "VERSION").read_text().strip()
+    head = re.search(r"^## (\S+)", (ROOT / "CHANGELOG.md").read_text(), re.M)[1]
+    assert head == version, f"CHANGELOG.md begins with {head}, and VERSION says {version}"
+    for name in ("fartable", *WITH_OPTIONS):
+        ran = subprocess.run([ROOT / "bin" / name, "--version"], stdin=subprocess.DEVNULL, capture_output=True, text=True)
+        assert ran.returncode == 0 and ran.stdout.startswith(f"version: {version}\nbuild: "), (name, ran)
+    work = tried.folder("version")
+    with Farserve(work) as server:
+        info = server.client().value("INFO", "server")
+        assert f"farserve_version:{version}\r\n".encode() in info, info
+
+
+TRIALS = [the_version_is_one, words_are_answered_before_anything_is_built, each_option_is_known, words_are_the_programs_once_it_is_built]

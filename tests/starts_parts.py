@@ -11,7 +11,7 @@ sys.path.insert(0, str(ROOT / "bin"))
 import builds
 
 # What a checkout has for its programs.
-PARTS = ["bin", "crates", "gateway", "crates.txt", "HANDLES"]
+PARTS = ["bin", "crates", "gateway", "crates.txt", "HANDLES", "VERSION"]
 # What only a real build needs.
 LEFT_OUT = ["proofs", "specs", "must-fail", "long-edits", "README.md"]
 # Commands that launchers need, beside rt and rustc.
