@@ -1,9 +1,9 @@
 //! What the gateway keeps of a client, which belongs to one worker of the server.
 
+use crate::before_login::{Fault, Reader, REPLIES};
 use crate::channel::Channel;
+use crate::common::Shared;
 use crate::memory::Taken;
-use crate::shared::Shared;
-use crate::unauthenticated::{Fault, Reader, REPLIES};
 use std::time::Instant;
 
 /// Bytes that count for a client while nothing waits for it, rounded up. With 2,000 to 9,000 idle clients the

@@ -13,8 +13,8 @@
 //! the store. An idle connection may stay.
 
 use crate::channel::Channel;
+use crate::common::Shared;
 use crate::packet::{self, Packet, Packets, CLOSE, DATA, LONGEST, OPEN, PLACE, REPLIES, REQUESTS};
-use crate::shared::Shared;
 use crate::system::{INPUT, OUTPUT};
 use std::fs::File;
 use std::io::{self, ErrorKind, Read};

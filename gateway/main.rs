@@ -5,30 +5,29 @@
 //! connection. Other threads only make new connections to the store (`store`).
 #![deny(unsafe_code)]
 
+mod before_login;
 mod channel;
 mod client;
+mod common;
 mod figures;
-mod packet;
-mod worker;
 mod link;
 mod listener;
 mod memory;
+mod packet;
 mod resident;
-mod shared;
 mod store;
-mod unauthenticated;
 mod system;
 mod turns;
 mod words;
+mod worker;
 
-use figures::Figure;
 use client::BASE;
-use packet::PLACE;
-use worker::Worker;
+use common::Shared;
+use figures::Figure;
 use link::Link;
 use listener::{listen_at, Listener};
+use packet::PLACE;
 use resident::Resident;
-use shared::Shared;
 use std::fmt::Display;
 use std::fs::{self, File};
 use std::io::{self, ErrorKind, Write};
@@ -40,6 +39,7 @@ use std::{env, thread};
 use store::Store;
 use system::{Epoll, Event, INPUT};
 use words::{Options, USAGE};
+use worker::Worker;
 
 const REFUSAL: &[u8] = b"-ERR max number of clients reached\r\n";
 /// How long pending replies are waited for at the end.

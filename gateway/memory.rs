@@ -116,7 +116,8 @@ impl Memory {
 
     /// Whether the sums are those of these clients.
     pub fn is_sum_of(&self, clients: impl Iterator<Item = Taken>) -> bool {
-        let add = |sum: Taken, it: Taken| Taken { gateway: sum.gateway + it.gateway, workers: sum.workers + it.workers };
+        let add =
+            |sum: Taken, it: Taken| Taken { gateway: sum.gateway + it.gateway, workers: sum.workers + it.workers };
         clients.fold(Taken::default(), add) == self.sum
     }
 }

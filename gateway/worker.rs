@@ -20,9 +20,9 @@ mod input;
 
 use crate::channel::Channel;
 use crate::client::{Client, Turn};
-use crate::packet::{self, Packet, Packets, CLOSE, DATA, LONGEST, OPEN, PLACE, REPLIES, REQUESTS};
+use crate::common::Shared;
 use crate::memory::{Half, Taken};
-use crate::shared::Shared;
+use crate::packet::{self, Packet, Packets, CLOSE, DATA, LONGEST, OPEN, PLACE, REPLIES, REQUESTS};
 use crate::system::{Epoll, OUTPUT};
 use crate::turns::{Turns, ALONE};
 use std::collections::HashMap;

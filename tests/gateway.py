@@ -18,7 +18,7 @@ import gateway_link_ends
 import gateway_links
 import gateway_memory
 import gateway_refused
-import gateway_strangers
+import gateway_unauthenticated
 import gateway_turns
 from gateway_parts import (CLOSE, DATA, LET_IN, LET_OUT, MEBIBYTE, NOTE, OPEN, PATIENCE, WAKE, Gateway, asked, fill, frame, is_closed,
                          pong, received, sender, until)
@@ -103,7 +103,7 @@ def who_reads_late_gets_all(work, _):
         pong(late)
 
 
-def a_busy_lane_stops_its_senders(work, _):
+def a_busy_worker_stops_its_senders(work, _):
     with Gateway(work, workers=2) as gateway:
         greedy, other, beside = gateway.client(), gateway.client(), gateway.client()
         pong(beside)
@@ -118,7 +118,8 @@ def a_busy_lane_stops_its_senders(work, _):
         want = data.replace(b"ECHO ", b"")
         with sender(greedy, data[sent:]):
             assert received(greedy, len(want)) == want
-        assert received(beside, 32) == b"wakes the worker, which then waits"
+        want = b"wakes the worker, which then waits"
+        assert received(beside, len(want)) == want
 
 
 def numbers_are_never_used_again(work, clients):
@@ -150,7 +151,7 @@ def numbers_are_never_used_again(work, clients):
         assert gateway.memory() < memory + MEBIBYTE, "who has gone is still there"
 
 
-def a_lane_closes_once_all_is_out(work, _):
+def a_worker_closes_once_all_is_out(work, _):
     with Gateway(work) as gateway:
         worker, client = gateway.workers[0], gateway.client()
         client.sendall(b"BIG %d\nQUIT\nPING\nPING\n" % (12 * MEBIBYTE))
@@ -186,7 +187,7 @@ def who_ends_its_input_gets_what_it_is_owed(work, _):
         assert gateway.rests(), "it waits for a close"
 
 
-def a_wake_goes_to_every_lane(work, _):
+def a_wake_goes_to_every_worker(work, _):
     with Gateway(work, workers=3) as gateway:
         clients = [gateway.client() for _ in range(3)]
         for client in clients:
@@ -277,10 +278,10 @@ def clients_come_and_go_in_any_way(work, clients):
 
 TRIALS = [
     each_client_gets_its_own, bytes_come_one_by_one_and_many_at_once, who_does_not_read_is_closed_alone,
-    who_reads_late_gets_all, a_busy_lane_stops_its_senders, numbers_are_never_used_again,
-    a_lane_closes_once_all_is_out, who_ends_its_input_gets_what_it_is_owed, a_wake_goes_to_every_lane,
+    who_reads_late_gets_all, a_busy_worker_stops_its_senders, numbers_are_never_used_again,
+    a_worker_closes_once_all_is_out, who_ends_its_input_gets_what_it_is_owed, a_wake_goes_to_every_worker,
     too_many_are_refused, idle_clients_are_closed, clients_come_and_go_in_any_way, *gateway_ends.TRIALS,
-    *gateway_links.TRIALS, *gateway_link_ends.TRIALS, *gateway_strangers.TRIALS, *gateway_turns.TRIALS,
+    *gateway_links.TRIALS, *gateway_link_ends.TRIALS, *gateway_unauthenticated.TRIALS, *gateway_turns.TRIALS,
     *gateway_memory.TRIALS, *gateway_refused.TRIALS,
 ]
 

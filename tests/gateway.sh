@@ -1,5 +1,5 @@
 #!/usr/bin/env bash
-# Tries the server's gateway, with lanes and devices of gateway.py in the server's place: gateway.sh [--long], which has it more
+# Tries the server's gateway, with workers and devices of gateway.py in the server's place: gateway.sh [--long], which has it more
 # clients. The status is 1 where a trial fails, and 77 where there is no Rust compiler.
 set -euo pipefail
 
@@ -10,7 +10,7 @@ if [ "${1:-}" = --long ]; then
     clients=5000 options=(-C debug-assertions=on)
 fi
 if ! command -v rustc >/dev/null; then
-    echo 'skipped: the front of the server (no Rust compiler rustc)'
+    echo 'skipped: the gateway of the server (no Rust compiler rustc)'
     exit 77
 fi
 work=$(mktemp -d)

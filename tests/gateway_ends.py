@@ -109,7 +109,7 @@ def a_signal_waits_a_second_at_most(work, _):
         assert is_closed(client)
 
 
-def a_signal_ends_it_before_the_lanes_come(work, _):
+def a_signal_ends_it_before_the_workers_come(work, _):
     gateway = Gateway(work, unix=True)
     until(gateway.path.exists, "the socket")
     time.sleep(0.1)
@@ -119,7 +119,7 @@ def a_signal_ends_it_before_the_lanes_come(work, _):
     gateway.__exit__()
 
 
-def a_lane_that_fails_ends_it(work, _):
+def a_worker_that_fails_ends_it(work, _):
     # An unknown kind, an open, bytes where none may be, too many bytes, and a number where none may be.
     packets = [(8, 0, 0), (255, 0, 0), (OPEN, 0, 0), (CLOSE, 0, 1), (LET_IN, 0, 1), (LET_OUT, 0, 1), (WAKE, 0, 1),
                (DATA, 0, MEBIBYTE + 1), (NOTE, 0, 4097), (WAKE, 1, 0), (NOTE, 1, 0), (HOLDS, 0, 7), (HOLDS, 0, 9),
@@ -174,6 +174,6 @@ def too_few_files_are_told(work, _):
 
 TRIALS = [
     refused_memory_closes_one_client, faults_at_the_start, a_signal_waits_for_replies, a_signal_waits_for_nothing_else,
-    a_signal_waits_a_second_at_most, a_signal_ends_it_before_the_lanes_come, a_lane_that_fails_ends_it,
+    a_signal_waits_a_second_at_most, a_signal_ends_it_before_the_workers_come, a_worker_that_fails_ends_it,
     a_unix_socket_is_its_owners, too_few_files_are_told,
 ]

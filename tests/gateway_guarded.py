@@ -1,4 +1,4 @@
-"""What gateway_strangers.py tries the gateway with: a worker that asks for a password."""
+"""What gateway_unauthenticated.py tries the gateway with: a worker that asks for a password."""
 import contextlib
 import time
 
@@ -59,7 +59,7 @@ def request_at(data):
 
 
 class Guarded(Worker):
-    """A worker that asks for a password, and sees that no stranger passes the limits."""
+    """A worker that asks for a password, and sees that no unauthenticated client passes the limits."""
 
     def __init__(self, *words, **options):
         super().__init__(*words, **options)
@@ -85,7 +85,7 @@ class Guarded(Worker):
             return
         rest = self.halves[connection] + data
         if connection not in self.was_in and len(rest) > ARGUMENTS * (BYTES + 20) + BYTES:
-            self.faults.append(f"{len(rest)} bytes of a stranger")
+            self.faults.append(f"{len(rest)} bytes of an unauthenticated client")
         with contextlib.suppress(EOFError):
             while rest and connection not in self.closing:
                 try:
@@ -100,7 +100,7 @@ class Guarded(Worker):
 
     def obey_words(self, connection, name, *words):
         if connection not in self.was_in and (len(words) >= ARGUMENTS or any(len(it) > BYTES for it in words)):
-            self.faults.append(f"{len(words) + 1} arguments of a stranger")
+            self.faults.append(f"{len(words) + 1} arguments of an unauthenticated client")
         if name == b"AUTH":
             if words == (PASSWORD,):
                 self.let_in.add(connection)

@@ -130,7 +130,7 @@ def many_that_do_not_read_leave_others_be(work, clients):
         assert gateway.memory() < BESIDE, f"it gives nothing back: {gateway.memory()}"
 
 
-def what_lanes_hold_is_bounded(work, _):
+def what_workers_hold_is_bounded(work, _):
     with Gateway(work, *BUDGET, workers=2) as gateway, pinging(gateway):
         clients = [gateway.client() for _ in range(8)]
         for client in clients:
@@ -217,7 +217,7 @@ def who_comes_beyond_it_is_told_so(work, _):
         assert closes(gateway) == 0
 
 
-def what_is_held_of_strangers_counts(work, _):
+def what_is_held_of_unauthenticated_clients_counts(work, _):
     long = request(b"SET", b"k", b"x" * 16_000_000)[:200_000]
     with guarded(work, "--clients-memory", str(HALF // 2)) as (gateway, worker):
         worker.answers = False
@@ -322,6 +322,6 @@ def sums_are_right_whatever_comes(work, clients):
 
 TRIALS = [
     who_takes_the_most_is_closed, who_asks_is_not_closed_for_another, many_that_do_not_read_leave_others_be,
-    what_lanes_hold_is_bounded, a_closed_client_counts_no_more, idle_clients_are_kept, who_comes_beyond_it_is_told_so,
-    what_is_held_of_strangers_counts, figures_are_told_now_and_then, resident_bytes_are_told, sums_are_right_whatever_comes,
+    what_workers_hold_is_bounded, a_closed_client_counts_no_more, idle_clients_are_kept, who_comes_beyond_it_is_told_so,
+    what_is_held_of_unauthenticated_clients_counts, figures_are_told_now_and_then, resident_bytes_are_told, sums_are_right_whatever_comes,
 ]

@@ -179,13 +179,13 @@ class Gateway:
         self.process = subprocess.Popen(command, stdin=subprocess.DEVNULL, preexec_fn=limit, **pipes)
         self.clients = []
 
-    def open_lanes(self):
+    def open_workers(self):
         for worker in reversed(self.workers):
             worker.open()
             worker.start()
 
     def __enter__(self):
-        threading.Thread(target=self.open_lanes, daemon=True).start()
+        threading.Thread(target=self.open_workers, daemon=True).start()
         limit = threading.Timer(PATIENCE, self.process.kill)
         limit.start()
         self.ready = self.process.stdout.readline().decode()

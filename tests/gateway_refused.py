@@ -118,7 +118,7 @@ def refused_memory_refuses_new_clients(work, clients):
             are_served_again(gateway)
 
 
-def refused_memory_for_strangers(work, clients):
+def refused_memory_for_unauthenticated_clients(work, clients):
     long = request(b"SET", b"k", b"x" * 20_000)
     for kibibytes in (0, 64, 512, 2000):
         with guarded(work, *AMPLE) as (gateway, worker):
@@ -199,6 +199,6 @@ def refused_memory_closes_a_link(work, _):
 
 
 TRIALS = [
-    refused_memory_ends_clients_alone, refused_memory_refuses_new_clients, refused_memory_for_strangers,
+    refused_memory_ends_clients_alone, refused_memory_refuses_new_clients, refused_memory_for_unauthenticated_clients,
     closes_are_owed_until_there_is_memory, refused_memory_closes_a_link,
 ]

@@ -209,10 +209,10 @@ class FarGateway(Gateway):
         pipes = [word for device in self.devices for word in ("--far-link", *device.paths)]
         super().__init__(work, "--far-resp", address, *words, *pipes, **options)
 
-    def open_lanes(self):
+    def open_workers(self):
         for device in self.devices:
             device.join()
-        super().open_lanes()
+        super().open_workers()
 
 
 def joined(gateway, store):

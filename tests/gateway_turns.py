@@ -63,7 +63,7 @@ def what_waits_of_one_alone_is_followed_by_the_next(work, _):
             assert received(greedy, 4000 * 5) == b"late\n" * 4000
 
 
-def a_slow_lane_is_shared_too(work, _):
+def a_slow_worker_is_shared_too(work, _):
     """Between two questions of one client a second passes and more, since so much of the other's comes first."""
     slow = b"LATE 0.01".ljust(LINE - 1) + b"\n"
     with Gateway(work, kind=Counting) as gateway:
@@ -97,7 +97,7 @@ def each_has_its_turn(work, _):
             assert len(set(numbers[at:at + 14])) == 7, f"not each has its turn: {numbers}"
 
 
-def a_lane_that_reads_little_wakes_nobody_in_vain(work, _):
+def a_worker_that_reads_little_wakes_nobody_in_vain(work, _):
     """A second client comes while much of the first waits, and the worker reads on bit by bit."""
     with Gateway(work) as gateway:
         worker = gateway.workers[0]
@@ -158,6 +158,6 @@ def no_byte_is_lost_where_many_send(work, clients):
 
 
 TRIALS = [
-    a_piece_of_one_holds_up_nobody, what_waits_of_one_alone_is_followed_by_the_next, a_slow_lane_is_shared_too,
-    each_has_its_turn, a_lane_that_reads_little_wakes_nobody_in_vain, no_byte_is_lost_where_many_send,
+    a_piece_of_one_holds_up_nobody, what_waits_of_one_alone_is_followed_by_the_next, a_slow_worker_is_shared_too,
+    each_has_its_turn, a_worker_that_reads_little_wakes_nobody_in_vain, no_byte_is_lost_where_many_send,
 ]

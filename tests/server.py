@@ -24,14 +24,14 @@ import server_room
 import server_slots
 import server_spread
 import server_stores
-import server_strangers
+import server_unauthenticated
 from halves import taken
 from server_parts import Farserve, Redis
 
 SHORT = {"commands": 2000, "histories": 200, "increments": 4000, "strings": 20_000, "clients": 1000, "draws": 20_000}
 # Twice as many clients, some of whom have just gone, are fewer than the 10,000 that the gateway takes.
 LONG = {"commands": 100_000, "histories": 10_000, "increments": 100_000, "strings": 1_000_000, "clients": 4900, "draws": 400_000}
-PARTS = [server_compared, server_keys, server_clients, server_guards, server_strangers]
+PARTS = [server_compared, server_keys, server_clients, server_guards, server_unauthenticated]
 
 
 class Tried:

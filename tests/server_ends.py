@@ -171,9 +171,10 @@ def who_dies_is_named(tried, _):
 INSTEAD = """import sys
 sys.path.insert(0, sys.argv[1])
 import serve
-gateway = serve.Gateway()
+import server_programs
+gateway = server_programs.Gateway()
 gateway = gateway.built() or gateway.build()
-serve.give_programs = lambda *_: (sys.argv[2], gateway)
+server_programs.give = lambda *_: ([sys.argv[2]], [gateway])
 sys.exit(serve.main([]))
 """
 
@@ -218,7 +219,7 @@ def faults_at_the_start(tried, _):
     ran = started("--help")
     assert ran.returncode == 0 and "Usage: farserve" in ran.stdout and "--memory <SIZE>" in ran.stdout and not ran.stderr.count("error")
     ran = started("--version")
-    assert ran.returncode == 0 and ran.stdout.startswith("build: "), ran
+    assert ran.returncode == 0 and ran.stdout.startswith("version: ") and "\nbuild: " in ran.stdout, ran
     assert not os.listdir(tried.runtime), "the folder of the pipes is left"
 
 

@@ -172,7 +172,7 @@ def an_expired_key_is_not_drawn(tried, _):
         assert set(client.ask_all([("RANDOMKEY",)] * 20)) == {bulk(b"stays")}
 
 
-def a_stranger_asks_for_little(tried, _):
+def an_unauthenticated_client_asks_for_little(tried, _):
     """Where a password is set a large request of who has not said it is refused, and its connection is closed."""
     words = tried.runtime.parent / "limits_password"
     words.write_text("secret\n")
@@ -220,5 +220,5 @@ def a_look_at_an_empty_map_is_short(tried, _):
 
 
 TRIALS = [an_mget_has_a_bounded_reply, an_exec_has_a_bounded_reply, other_replies_are_bounded, a_page_of_scan_is_bounded,
-          each_key_is_drawn_as_often_as_it_should, an_expired_key_is_not_drawn, a_stranger_asks_for_little,
+          each_key_is_drawn_as_often_as_it_should, an_expired_key_is_not_drawn, an_unauthenticated_client_asks_for_little,
           a_look_at_an_empty_map_is_short]

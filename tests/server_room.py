@@ -24,7 +24,7 @@ def is_refused_by_no_device(client):
 
 
 def one_bucket_takes_each_change(tried, _):
-    """A map of one bucket, which is never empty after the first change: each lane may change it, and none needs a device."""
+    """A map of one bucket, which is never empty after the first change: each worker may change it, and none needs a device."""
     for policy in ("noeviction", "allkeys"):
         with tried.start("--buckets", 1, "--policy", policy, far=None) as server:
             clients = [server.client() for _ in range(16)]

@@ -1,10 +1,10 @@
 //! Sends clients' input to the worker, turn by turn.
 
 use super::{Worker, WAKE};
+use crate::before_login;
 use crate::client::Turn;
+use crate::common::Shared;
 use crate::packet::DATA;
-use crate::shared::Shared;
-use crate::unauthenticated;
 use crate::turns::Share;
 use std::io;
 
@@ -102,7 +102,7 @@ impl Worker {
     fn read_client(&mut self, number: u64, share: &Share, shared: &mut Shared) {
         let Some(client) = self.clients.get_mut(&number).filter(|it| it.is_awaited()) else { return };
         let Some(socket) = client.socket.as_ref() else { return };
-        let most = if client.unauthenticated.is_some() { unauthenticated::READ.min(share.piece) } else { share.piece };
+        let most = if client.unauthenticated.is_some() { before_login::READ.min(share.piece) } else { share.piece };
         match socket.read(&mut shared.room[..most]) {
             Ok(None) => self.update(number, shared),
             Ok(Some(0)) => self.end_input(number, shared),

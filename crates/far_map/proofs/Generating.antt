@@ -179,10 +179,10 @@ waits_of : {V J : Type 0} (ev : V → List ℕ) (l : Limits) (all : List (Caller
 waits_of {V} ev l all between waiting lost h empty honest =
     let d = h.drained in
     let m : Pairs V = map_of enc_text ev (history h.drained.log) in
-    let kept : IsPermutation h.drained.load_report waiting = subst (λ (w : Pairs V). IsPermutation (w ++ h.drained.load_report) waiting) empty h.drained.kept in
+    let kept : IsPermutation h.drained.carried waiting = subst (λ (w : Pairs V). IsPermutation (w ++ h.drained.carried) waiting) empty h.drained.kept in
     record {
-      part = record { others = d.others; split = IsPermutation-trans m (d.load_report ++ d.others) (waiting ++ d.others) (d.whole honest) (IsPermutation-append_left d.others d.load_report waiting kept) };
-      all = λ none. IsPermutation-trans m d.load_report waiting (subst (λ (w : Pairs V). IsPermutation m w) (ap (λ (w : Pairs V). d.load_report ++ w) (d.all none) ∙ append-nil d.load_report) (d.whole honest)) kept;
+      part = record { others = d.others; split = IsPermutation-trans m (d.carried ++ d.others) (waiting ++ d.others) (d.whole honest) (IsPermutation-append_left d.others d.carried waiting kept) };
+      all = λ none. IsPermutation-trans m d.carried waiting (subst (λ (w : Pairs V). IsPermutation m w) (ap (λ (w : Pairs V). d.carried ++ w) (d.all none) ∙ append-nil d.carried) (d.whole honest)) kept;
     }
 
 -- ---- a generation

@@ -19,7 +19,7 @@
 //!
 //! # One put, from here to the table
 //!
-//! 1. `run` (`run.rt`) opens the table, the queue of retired words and the evictor, and picks their names
+//! 1. `run` (`map_run.rt`) opens the table, the queue of retired words and the evictor, and picks their names
 //!    in types.
 //! 2. Each worker works (`single_term.rt`) on its own thread (`workers.rt`), next to the evictor's thread
 //!    (`evictor.rt`).
@@ -44,6 +44,7 @@ mod fault;
 mod held_value;
 mod load;
 mod map;
+mod map_run;
 mod opening;
 mod pending_session;
 mod placement;
@@ -53,7 +54,6 @@ mod removal;
 mod renewable_work;
 mod renewal;
 mod room;
-mod run;
 mod run_end;
 mod session;
 mod settings;
@@ -72,10 +72,10 @@ pub use far_blob::Blob;
 pub use far_object::Text;
 pub use fault::MapFault;
 pub use hash_table::{BucketState, Removal, Stopped, TakesPairs, Traffic};
+pub use map_run::{run, run_apart, run_bundled, run_through};
 pub use refusal::{Lack, MapRefusal};
 pub use renewable_work::{After, LoadReport, RenewableWork};
 pub use renewal::{Renewals, run_renewed};
-pub use run::{run, run_apart, run_bundled, run_through};
 pub use session::Session;
 pub use settings::{Setting, Settings};
 pub use stats::Stats;

@@ -1,4 +1,4 @@
--- Stints of a worker, one behind the other.
+-- Terms of a worker, one after the other.
 use Rattle.std.proofs.Common.{◌≡◌, ℕ, false, List, [], ◌++◌, Option, Ok, Err, refl, sym, subst, append-nil}
 use Rattle.std.specs.Io.KnownBytes.{Consumes, Appends}
 use Rattle.table_core.specs.declared.limits.Limits.{Limits}

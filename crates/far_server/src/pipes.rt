@@ -22,7 +22,7 @@ pub enum PipesFault {
 pub trait Pipes {
     ghost use Rattle.std.specs.Prelude.{ℕ, List};
 
-    /// Where requests come from: packets as `workers` reads them.
+    /// Where requests come from: packets as `request_loop` reads them.
     type Input: BufRead + Drop;
 
     /// Where replies go to.

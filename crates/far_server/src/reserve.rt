@@ -2,7 +2,7 @@
 //!
 //! A change whose reply can't be written must not be made. This holds because there is room for the reply
 //! first:
-//! - The request loop (`workers`) makes room for a short reply before it hands a request over.
+//! - The request loop (`request_loop`) makes room for a short reply before it hands a request over.
 //! - A long reply takes more room as it is written, which is before the change. If memory is refused for it,
 //!   there is no change. An error takes its place, in the room for a short one.
 //! - MGET and EXEC reply several times, so they make such room for each part. What EXEC has for the errors of

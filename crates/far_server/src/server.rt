@@ -1,4 +1,4 @@
-//! A worker's service: what the request loop (`workers`) calls for each open, request, close, note and wake.
+//! A worker's service: what the request loop (`request_loop`) calls for each open, request, close, note and wake.
 ghost use Rattle.std.specs.Prelude.{◌≡◌, ℕ, Bool, []};
 ghost use Rattle.far_server.specs.Answers.{known_at, unknown, IsAdmission};
 

@@ -7,12 +7,12 @@ use std::sync::atomic::{AtomicU32, AtomicU64, Ordering};
 /// What a worker, or the sweep, has counted since the server's start.
 #[derive(Clone, Copy, Debug, Default, PartialEq, Eq)]
 pub(crate) struct Statistics {
-    /// Connections that were opened, and in `left` those of them that are over.
+    /// Connections that were opened, and in `connections_closed` those of them that are over.
     pub(crate) connections_opened: u64,
     pub(crate) connections_closed: u64,
     /// Requests of connections that have a place, whether they were commands or faults.
     pub(crate) commands: u64,
-    /// Keys that got a value and had none before, and in `lost` those that lost theirs.
+    /// Keys that got a value and had none before, and in `keys_removed` those that lost theirs.
     pub(crate) keys_added: u64,
     pub(crate) keys_removed: u64,
     /// Commands that read a value and found one, and in `misses` those that found none.

@@ -3,16 +3,16 @@
 #![tactic(auto)]
 
 mod command_line;
+mod far_run;
 mod fault;
-mod run;
 mod stores;
 
 use clap::error::ErrorKind;
 use clap::{ArgMatches, Error};
 use command_line::{CommandLine, command};
 use far_driver::{ProgramFault, read_words};
+use far_run::run_asked;
 use fault::{FarrunFault, MEMORY, WRITE};
-use run::run_asked;
 use std::env::Env;
 use std::io;
 use std::io::BufWriter;

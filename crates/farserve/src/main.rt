@@ -162,11 +162,11 @@ fn tell_links(rt: &impl Print, folder: &str, store: Store<'_>, devices: u32) -> 
 }
 
 /// Writes how many workers there are, and the gateway's arguments.
-fn tell_front(rt: &impl Print, asked: &CommandLine<'_>, sizes: Sizes) -> io::Result<()> {
+fn tell_gateway(rt: &impl Print, asked: &CommandLine<'_>, sizes: Sizes) -> io::Result<()> {
     let (workers, port, bind, timeout) = (asked.threads, asked.port, asked.bind, asked.timeout);
     let (auth_timeout, clients) = (asked.auth_timeout, asked.most_clients);
     let (memory, reply) = (sizes.clients, sizes.reply);
-    print!(rt; "{lanes}\0--port\0{port}\0--bind\0{bind}\0--timeout\0{timeout}\0")?;
+    print!(rt; "{workers}\0--port\0{port}\0--bind\0{bind}\0--timeout\0{timeout}\0")?;
     print!(rt; "--auth-timeout\0{auth_timeout}\0--connections\0{clients}\0")?;
     print!(rt; "--clients-memory\0{memory}\0--output-limit\0{reply}\0")?;
     if let Some(path) = asked.unix {
@@ -224,7 +224,7 @@ fn tell<'a, R: Print + Eprint>(
     sizes: Sizes,
 ) -> Result<(), FarserveFault<'a>> {
     let _ = tell_log(rt, asked, sizes);
-    match tell_front(rt, asked, sizes) {
+    match tell_gateway(rt, asked, sizes) {
         Ok(()) => Ok(()),
         Err(_) => Err(FarserveFault::Write),
     }

@@ -44,7 +44,7 @@ const VALUES: u64 = 4;
 const LARGE: u32 = 65_536;
 
 /// Bytes of a worker, and of the sweep: its buffers, and what malloc keeps for its thread.
-const LANE: u64 = 1 << 20;
+const WORKER: u64 = 1 << 20;
 
 /// Bytes of a bucket, whatever it holds: its word, and its bit in each of the map's tables.
 const BUCKET: u64 = 9;
@@ -209,7 +209,7 @@ pub fn divide(
     }
     let (work, large) = work_for(memory, value, workers);
     let left = memory
-        .checked_sub(PROGRAM + GATEWAY + LANE * sessions)?
+        .checked_sub(PROGRAM + GATEWAY + WORKER * sessions)?
         .checked_sub(clients)?
         .checked_sub(work)?;
     let asked = match buckets {

@@ -54,8 +54,8 @@ impl Pipes for NamedPipes<'_> {
     fn open(&self, alloc: Global, worker: u32) -> Result<(Self::Input, Self::Output), PipesFault> {
         let folder = self.folder;
         let (Ok(requests), Ok(replies)) = (
-            format!(in alloc; "{folder}/requests{lane}"),
-            format!(in alloc; "{folder}/replies{lane}"),
+            format!(in alloc; "{folder}/requests{worker}"),
+            format!(in alloc; "{folder}/replies{worker}"),
         ) else {
             return Err(PipesFault::Memory);
         };

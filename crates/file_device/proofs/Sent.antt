@@ -11,7 +11,7 @@ use Rattle.file_device.specs.contracts.place.Place as Place
 use Rattle.file_device.specs.contracts.catalog.Catalog as Catalog
 use Rattle.file_device.specs.contracts.failures.Failures as Failures
 use Rattle.file_device.specs.contracts.fault.DiskFault as DiskFault
-use Rattle.file_device.specs.contracts.fault.Failure as Failure
+use Rattle.file_device.specs.contracts.fault.FileFailure as FileFailure
 use Rattle.file_device.specs.contracts.fault.Step as Step
 use Rattle.std.specs.contracts.io.ErrorKind as ErrorKind
 use Rattle.file_device.specs.contracts.device.FileDevice as FileDevice
@@ -38,7 +38,7 @@ step_send = search sendable depth 20
 fault_send : IsSend DiskFault.the_row
 fault_send = search sendable depth 200 fits 100000
 
-failure_send : IsSend Failure.the_row
+failure_send : IsSend FileFailure.the_row
 failure_send = search sendable depth 200 fits 100000
 
 failures_send : IsSend Failures.the_row

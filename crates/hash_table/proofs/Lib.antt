@@ -3,7 +3,7 @@ pub mod Values
 pub mod Fronts
 pub mod Refused
 pub mod Places
-pub mod Moves
+pub mod Moving
 pub mod Steps
 pub mod Meeting
 pub mod Settings

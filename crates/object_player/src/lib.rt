@@ -34,8 +34,17 @@ use std::thread::Threads;
 
 /// The calls that a case of this layer may begin with.
 pub const OPENINGS: &[&str] = &[
-    "object", "encoding", "pairs", "many", "log", "words", "handover", "device", "folders",
-    "pipes", "resp",
+    "object",
+    "encoding",
+    "pairs",
+    "many",
+    "log",
+    "words",
+    "migration",
+    "device",
+    "folders",
+    "pipes",
+    "resp",
 ];
 
 /// Plays the case from its first line, which opens what the others call.
@@ -69,7 +78,7 @@ where
         "many" => many::play(rt, alloc, first, playing),
         "log" => logs::play(alloc, first, playing),
         "words" => words::play(alloc, first, playing),
-        "handover" => migrations::play(alloc, first, playing),
+        "migration" => migrations::play(alloc, first, playing),
         "device" => devices::play(rt, alloc, first, playing),
         "folders" => folders::play(rt, alloc, first, playing),
         "pipes" => pipes::play(rt, alloc, first, playing),

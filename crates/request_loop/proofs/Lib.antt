@@ -3,7 +3,7 @@ pub mod Standing
 pub mod Closing
 pub mod Turning
 pub mod Sending
-pub mod Requests
+pub mod Requesting
 pub mod Seeing
 pub mod Framing
 pub mod Resuming

@@ -6,23 +6,23 @@ use thiserror::Error;
 #[derive(Clone, Copy, Debug, PartialEq, Eq, Error)]
 pub enum PacketFault {
     /// The reader or the writer failed.
-    #[error("frames cannot be read or written")]
+    #[error("packets cannot be read or written")]
     Io,
     /// The packets end inside a packet.
-    #[error("the frames end inside a frame")]
+    #[error("the packets end inside a packet")]
     Cut,
     /// A packet is of an unknown kind.
-    #[error("a frame is of an unknown kind")]
+    #[error("a packet is of an unknown kind")]
     Kind,
     /// A packet has more bytes than its kind may have: 2^20 for `Data`, 64 for `Open`, 4,096 for
     /// `Note`, 8 for `Holds`, and none for the others.
-    #[error("a frame is too long")]
+    #[error("a packet is too long")]
     TooLong,
     /// An allocation failed.
     #[error("memory")]
     Memory,
     /// An earlier call failed, so this one does too.
-    #[error("an earlier frame failed")]
+    #[error("an earlier packet failed")]
     Failed,
 }
 
@@ -43,10 +43,10 @@ pub enum LoopFault {
     /// For example, `Data` or `Close` of a connection that was not opened, or an `Open` whose number is
     /// not the next one, or is 2^64 - 1. `LetIn`, `LetOut` and `Holds` are never allowed, because only
     /// the loop sends them.
-    #[error("a frame out of turn")]
+    #[error("a packet out of turn")]
     OutOfTurn,
     /// The loop took 2^64 - 1 packets, as many as it can count.
-    #[error("too many frames")]
+    #[error("too many packets")]
     Counted,
 }
 

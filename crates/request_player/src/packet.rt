@@ -227,7 +227,7 @@ pub(crate) fn push_packets(alloc: Global, out: &mut String, bytes: &[u8]) -> Res
             break;
         }
         let Some((packet, behind)) = split_packet(rest) else {
-            return Err(Mistake::Said("the lane wrote what is no packet"));
+            return Err(Mistake::Said("the worker wrote what is no packet"));
         };
         let mut line = Reply::new(alloc);
         put_packet(alloc, &mut line, packet)?;

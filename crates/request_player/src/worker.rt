@@ -72,7 +72,7 @@ impl Worker {
             return Ok(());
         }
         let Some(behind) = ran.written.as_slice().strip_prefix(self.written.as_slice()) else {
-            return Err(Mistake::Said("the lane wrote something else before"));
+            return Err(Mistake::Said("the worker wrote something else before"));
         };
         push_packets(self.alloc, out, behind)?;
         if ran.ended == Ended::Left {
@@ -147,7 +147,7 @@ impl Worker {
             return self.cuts(line);
         }
         if self.is_over {
-            return Err(Mistake::Said("the lane has ended"));
+            return Err(Mistake::Said("the worker has ended"));
         }
         self.come(line)
     }

@@ -9,7 +9,7 @@ use Rattle.resp_device.specs.contracts.index.Index as Index
 use Rattle.resp_device.specs.contracts.link.Link as Link
 use Rattle.resp_device.specs.contracts.requests.Requests as Requests
 use Rattle.resp_device.specs.contracts.failures.Failures as Failures
-use Rattle.resp_device.specs.contracts.fault.Failure as Failure
+use Rattle.resp_device.specs.contracts.fault.StoreFailure as StoreFailure
 use Rattle.std.specs.contracts.io.ErrorKind as ErrorKind
 use Rattle.resp_device.specs.contracts.device.RespDevice as RespDevice
 
@@ -26,7 +26,7 @@ requests_send = search (sendable, vecs.crosses) depth 20
 kind_send : IsSend ErrorKind.the_row
 kind_send = search sendable depth 120 fits 100000
 
-failure_send : IsSend Failure.the_row
+failure_send : IsSend StoreFailure.the_row
 failure_send = let kind = kind_send in search sendable depth 200 fits 100000
 
 failures_send : IsSend Failures.the_row

@@ -93,7 +93,7 @@ fn push_server(facts: &Facts, text: &mut Vec<u8>) -> Result<(), AllocError> {
         text,
         &[
             ("redis_version", REDIS_VERSION),
-            ("farserve_version", "0.3"),
+            ("farserve_version", "0.4.0"),
             ("redis_mode", "standalone"),
             ("os", "Linux x86_64"),
             ("arch_bits", "64"),

@@ -1,10 +1,10 @@
-//! The program that `docs/CALLING.md` shows.
+//! A small program on the map. `docs/CALLING.md` shows the calls of its worker.
 use far_device::FakeDevice;
 use far_map::{Calls, MapRefusal, Settings, Stats, Text, Work, run, text};
 use std::alloc::Global;
 use std::sync::Wait;
 
-// What the workers share, read only.
+// What the workers share.
 struct Planets;
 
 impl Work<Text> for Planets {
@@ -23,10 +23,10 @@ impl Work<Text> for Planets {
             me.put(rt, &moon, &text(alloc, b"Titan")?)?;
             me.remove(rt, &moon)?;
         } else {
-            // Sets it only where it has no value.
+            // Sets it only if it has no value.
             me.put_if(rt, &planet, None, &text(alloc, b"Venus")?)?;
         }
-        // A copy of the value, and its length, which is read where it lies.
+        // A copy of the value; and its length, which is read without a copy.
         let _copy = me.get(rt, &planet)?;
         let _length = me.with(rt, &planet, |bytes| bytes.len())?;
         Ok(me.stats())

@@ -17,8 +17,6 @@ pub struct DeviceSettings<'l> {
     pub fails_at_once: u64,
     /// What each reading gives.
     pub bytes: &'l [u8],
-    /// Whether the lanes are behind locks.
-    pub is_locked: bool,
 }
 
 /// What devices say of themselves.

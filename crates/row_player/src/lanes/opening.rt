@@ -54,7 +54,6 @@ fn asked(opening: &Line) -> Result<DeviceSettings<'_>> {
         fails_at: 0,
         fails_at_once: 0,
         bytes: &[],
-        is_locked: true,
     };
     match kind(opening) {
         "memory" | "disk" => asked.fails_at = named(opening, "fails_at", u64::MAX, 0)?,
@@ -66,7 +65,6 @@ fn asked(opening: &Line) -> Result<DeviceSettings<'_>> {
         if lock != b"no".as_slice() || asked.count != 1 {
             bail!("`lock=no` opens one lane without a lock");
         }
-        asked.is_locked = false;
     }
     Ok(asked)
 }

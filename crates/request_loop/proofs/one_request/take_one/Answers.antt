@@ -6,7 +6,7 @@ use Rattle.resp.specs.Parsing.{arguments_in, Parses}
 use Rattle.resp.specs.Replies.{Token, token}
 use Rattle.std.specs.List.{flat_map}
 use Rattle.request_loop.specs.Calls.{Asked}
-use Rattle.request_loop.proofs.Requests.{took_request, passed_request}
+use Rattle.request_loop.proofs.Requesting.{took_request, passed_request}
 use Rattle.request_loop.proofs.one_request.take_one.Goals as goal
 
 pub returns-then-is_empty : goal.returns-then-is_empty

@@ -6,7 +6,7 @@ use Rattle.hash_table.proofs.Steps.{moved_over, unread_left}
 use Rattle.hash_table.proofs.Places.{nothing_near, frame_near}
 use Rattle.hash_table.proofs.Fronts.{goes_trans}
 use Rattle.hash_table.proofs.Refused.{unread_far_refused, unpublished_refused}
-use Rattle.hash_table.proofs.Moves.{near_seen}
+use Rattle.hash_table.proofs.Moving.{near_seen}
 use Rattle.hash_table.proofs.table.FarTable.fetch.Goals as goal
 
 pub returns-in-Nothing-clause-fetched : goal.returns-in-Nothing-clause-fetched

@@ -1,6 +1,6 @@
 use Rattle.version_words.specs.Rows.{limits_of}
 use Rattle.hash_table.specs.Configs.{sizes_of}
-use Rattle.far_map.proofs.run.over_devices.Given as goal
+use Rattle.far_map.proofs.map_run.over_devices.Given as goal
 
 -- the row that was just opened
 abbrev pub ghosts-over_row : goal.ghosts-over_row

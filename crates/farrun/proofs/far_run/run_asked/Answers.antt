@@ -5,7 +5,7 @@ use Rattle.std.proofs.MapsCrossing as maps
 use Rattle.file_device.proofs.Sent as file
 use Rattle.resp_device.proofs.Sent as resp
 use Rattle.farrun.specs.Runs.{WasOpenedFor}
-use Rattle.farrun.proofs.run.run_asked.Goals as goal
+use Rattle.farrun.proofs.far_run.run_asked.Goals as goal
 
 pub run_over-requires-send-D : goal.run_over-requires-send-D
 run_over-requires-send-D g c κs within = search (sendable, vecs.crosses, maps.crosses, resp.device_send) depth 40 fits 100000

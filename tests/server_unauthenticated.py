@@ -17,7 +17,7 @@ ARGUMENTS, BYTES = 10, 16384
 
 
 def guarded(tried, *options):
-    file = Path(tried.work) / "strangers-password"
+    file = Path(tried.work) / "a-password"
     file.write_text(PASSWORD + "\n")
     return tried.start("--password-file", file, *options)
 
@@ -104,8 +104,8 @@ def who_gives_no_password_in_time_is_closed(tried, _):
         return
     with guarded(tried, "--auth-timeout", 1) as server:
         began = time.monotonic()
-        silent, friend, busy = [server.client() for _ in range(3)]
-        assert friend.ask("AUTH", PASSWORD) == OK
+        silent, authenticated, busy = [server.client() for _ in range(3)]
+        assert authenticated.ask("AUTH", PASSWORD) == OK
         with contextlib.suppress(OSError, EOFError):
             while True:
                 assert busy.ask("PING") == NOAUTH
@@ -114,8 +114,8 @@ def who_gives_no_password_in_time_is_closed(tried, _):
         assert time.monotonic() - began >= 1, time.monotonic() - began
         assert silent.is_ended()
         time.sleep(1)
-        assert friend.ask("GET", "k") == NONE
-        assert friend.ask("RESET") == b"+RESET\r\n" and friend.is_ended()
+        assert authenticated.ask("GET", "k") == NONE
+        assert authenticated.ask("RESET") == b"+RESET\r\n" and authenticated.is_ended()
     with tried.start("--auth-timeout", 1) as server:
         # There is no password to give.
         client = server.client()

@@ -3,7 +3,7 @@ use Rattle.far_pairs.specs.Bundles.{all_of}
 use Rattle.far_map.specs.declared.run_end.End.TheVariants as asked
 use Rattle.far_map.specs.declared.run_end.Given.TheVariants as given
 use Rattle.far_map.proofs.Working.{ran, ran_bundled, ran_apart, ran_through, ran_badly, same_left, as_asked}
-use Rattle.far_map.proofs.run.over_queue.Goals as goal
+use Rattle.far_map.proofs.map_run.over_queue.Goals as goal
 
 pub returns-in-Ok-close-clause-ran : goal.returns-in-Ok-close-clause-ran
 returns-in-Ok-close-clause-ran g c =

@@ -1,4 +1,4 @@
-use Rattle.far_map.proofs.run.over_row.Given as goal
+use Rattle.far_map.proofs.map_run.over_row.Given as goal
 
 -- the queue that was just opened
 abbrev pub ghosts-over_queue : goal.ghosts-over_queue

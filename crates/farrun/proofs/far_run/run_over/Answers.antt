@@ -1,7 +1,7 @@
 use Rattle.std.proofs.Common.{rules}
 use Rattle.far_driver.proofs.Running.{ran_words}
 use Rattle.farrun.proofs.Leaving.{with_lanes, unopened, left_run}
-use Rattle.farrun.proofs.run.run_over.Goals as goal
+use Rattle.farrun.proofs.far_run.run_over.Goals as goal
 
 pub returns-in-Err-clause-before : goal.returns-in-Err-clause-before
 returns-in-Err-clause-before g c = unopened _ _ _ c.in-Err.fault c.in-Err.ensures.fault (search rules)

@@ -61,7 +61,7 @@ def requests_beyond_the_limits_are_told(work, _):
         until(lambda: sum(len(it.halves) for it in gateway.workers) == 1, "all closes")
 
 
-def what_is_no_request_is_told_by_the_lane(work, _):
+def what_is_no_request_is_told_by_the_worker(work, _):
     with guarded(work) as (gateway, worker):
         for sent in (b"*x\r\n", b"*1\r\n!4\r\n", b"*2\r\n$-1\r\n", b"*1\r\n$x\r\n" + b"y" * 100_000):
             is_told(gateway.client(), request(b"PING") + sent, NOAUTH + INVALID)
@@ -97,7 +97,7 @@ def a_password_in_the_same_packet_lets_in(work, _):
         assert received(client, 8) == b":20001\r\n"
 
 
-def who_goes_while_the_lane_is_asked_is_forgotten(work, _):
+def who_goes_while_the_worker_is_asked_is_forgotten(work, _):
     with guarded(work) as (gateway, worker):
         worker.answers = False
         for turn in range(20):
@@ -130,7 +130,7 @@ def nothing_comes_behind_a_close(work, _):
         assert is_closed(client) and gateway.ended(0) == ""
 
 
-def who_is_let_out_is_a_stranger_again(work, _):
+def who_is_let_out_is_unauthenticated_again(work, _):
     long = request(b"SET", b"k", b"x" * 20000)
     with guarded(work) as (gateway, worker):
         client = gateway.client()
@@ -164,8 +164,8 @@ def who_comes_too_early_is_served(work, _):
 def who_is_not_let_in_in_time_is_closed(work, _):
     with guarded(work, "--auth-timeout", "1") as (gateway, worker):
         began = time.monotonic()
-        silent, busy, friend, ended, half = [gateway.client() for _ in range(5)]
-        asked(friend, AUTH[:-1], OK)
+        silent, busy, authenticated, ended, half = [gateway.client() for _ in range(5)]
+        asked(authenticated, AUTH[:-1], OK)
         ended.shutdown(socket.SHUT_WR)
         half.sendall(AUTH[:-3])
         while not is_closed_now(busy):
@@ -176,11 +176,11 @@ def who_is_not_let_in_in_time_is_closed(work, _):
         assert time.monotonic() - began >= 1, time.monotonic() - began
         assert is_closed(silent) and is_closed(ended) and is_closed(half)
         time.sleep(1.5)
-        asked(friend, b"PING", b":0\r\n")
+        asked(authenticated, b"PING", b":0\r\n")
         began = time.monotonic()
-        asked(friend, b"RESET", b"+RESET\r\n")
-        asked(friend, b"PING", NOAUTH)
-        assert is_closed(friend) and time.monotonic() - began >= 1
+        asked(authenticated, b"RESET", b"+RESET\r\n")
+        asked(authenticated, b"PING", NOAUTH)
+        assert is_closed(authenticated) and time.monotonic() - began >= 1
         until(lambda: not worker.halves, "all closes")
         # A worker that is late is not the client's fault.
         patient, late = gateway.client(), gateway.client()
@@ -207,16 +207,16 @@ def is_closed_now(client):
         return True
 
 
-def little_waits_for_a_stranger(work, _):
+def little_waits_for_an_unauthenticated_client(work, _):
     with guarded(work) as (gateway, worker):
-        friend, stranger = gateway.client(), gateway.client()
-        asked(friend, AUTH[:-1], OK)
+        authenticated, unauthenticated = gateway.client(), gateway.client()
+        asked(authenticated, AUTH[:-1], OK)
         for number in (0, 1):
             worker.send(frame(DATA, number, b"x" * 12 * MEBIBYTE))
         until(lambda: (CLOSE, 1, b"") in worker.frames, "the close of who doesn't read")
-        assert received(friend, 12 * MEBIBYTE) == b"x" * 12 * MEBIBYTE
+        assert received(authenticated, 12 * MEBIBYTE) == b"x" * 12 * MEBIBYTE
         with contextlib.suppress(ConnectionResetError):
-            assert len(received(stranger, 12 * MEBIBYTE)) < 12 * MEBIBYTE
+            assert len(received(unauthenticated, 12 * MEBIBYTE)) < 12 * MEBIBYTE
         # What waited for one that was let in is owed, and what the worker sends until it is asked. 1,024 bytes more may wait.
         for number, more in ((2, 0), (3, 1)):
             client = gateway.client()
@@ -225,9 +225,9 @@ def little_waits_for_a_stranger(work, _):
             worker.gathered = b"x" * (number * 40000)
             client.sendall(RESET)
             until(lambda: b"sync %d" % number in worker.notes(), "the question")
-            asked(friend, b"PING", b":0\r\n")
+            asked(authenticated, b"PING", b":0\r\n")
             worker.send(frame(DATA, number, b"y" * 1024) + frame(DATA, number, b"z" * more))
-            asked(friend, b"PING", b":0\r\n")
+            asked(authenticated, b"PING", b":0\r\n")
             if more:
                 until(lambda: (CLOSE, number, b"") in worker.frames, "the close")
             else:
@@ -272,7 +272,7 @@ def packets_come_in_pieces(work, _):
         assert received(client, len(NOAUTH)) == NOAUTH
 
 
-def strangers_of_any_kind_are_answered(work, clients):
+def unauthenticated_clients_of_any_kind_are_answered(work, clients):
     """Requests within the limits and beyond, AUTH among them, cut anywhere: the replies are those of a reader of whole requests."""
     sizes = [0, 1, 100, BYTES - 1, BYTES, BYTES + 1, 40000]
 
@@ -337,8 +337,8 @@ def strangers_of_any_kind_are_answered(work, clients):
 
 
 TRIALS = [
-    requests_within_the_limits_pass_at_once, requests_beyond_the_limits_are_told, what_is_no_request_is_told_by_the_lane,
-    a_password_in_the_same_packet_lets_in, who_goes_while_the_lane_is_asked_is_forgotten, nothing_comes_behind_a_close,
-    who_is_let_out_is_a_stranger_again, who_comes_too_early_is_served, who_is_not_let_in_in_time_is_closed,
-    little_waits_for_a_stranger, addresses_are_told, packets_come_in_pieces, strangers_of_any_kind_are_answered,
+    requests_within_the_limits_pass_at_once, requests_beyond_the_limits_are_told, what_is_no_request_is_told_by_the_worker,
+    a_password_in_the_same_packet_lets_in, who_goes_while_the_worker_is_asked_is_forgotten, nothing_comes_behind_a_close,
+    who_is_let_out_is_unauthenticated_again, who_comes_too_early_is_served, who_is_not_let_in_in_time_is_closed,
+    little_waits_for_an_unauthenticated_client, addresses_are_told, packets_come_in_pieces, unauthenticated_clients_of_any_kind_are_answered,
 ]

@@ -1,6 +1,6 @@
 use Rattle.std.proofs.Common.{arith}
 use Rattle.server_commands.proofs.Growing.{more_replies, array_of}
-use Rattle.server_commands.proofs.command_list.put_list.Goals as goal
+use Rattle.server_commands.proofs.command_reply.put_list.Goals as goal
 
 pub loop-row-preserved : goal.loop-row-preserved
 loop-row-preserved c = more_replies c.loop-row.row-index 1 _ _ _ c.loop-row.invariant c.in_ok-put_row.ensures.done

@@ -3,7 +3,7 @@ use Rattle.version_words.specs.Rows.{limits_of}
 use Rattle.hash_table.specs.Configs.{sizes_of}
 use Rattle.hash_table.specs.declared.config.Config.{Config}
 use Rattle.far_map.proofs.Working.{run_as}
-use Rattle.far_map.proofs.run.over_row.Goals as goal
+use Rattle.far_map.proofs.map_run.over_row.Goals as goal
 
 pub returns-clause-ran : goal.returns-clause-ran
 returns-clause-ran g c =

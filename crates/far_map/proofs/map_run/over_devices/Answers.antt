@@ -1,6 +1,6 @@
 use Rattle.std.specs.Prelude.{vec_len}
 use Rattle.far_map.proofs.Settling.{settled}
-use Rattle.far_map.proofs.run.over_devices.Goals as goal
+use Rattle.far_map.proofs.map_run.over_devices.Goals as goal
 
 pub over_row-requires-clause-frames : goal.over_row-requires-clause-frames
 over_row-requires-clause-frames g c κs within = let s = settled (vec_len c.args.devices) c.config-config.result c.in-Ok.ensures.within in s.frames
