@@ -1,4 +1,4 @@
-"""Tries the links of the docs, what they name in backticks, and how long their sentences are: docs.py.
+"""Tries the links of the docs, what they name in backticks, how long their sentences are, and how modules are named: docs.py.
 
 In README.md, CONTRIBUTING.md, CHANGELOG.md, docs/ and the READMEs of the crates, the tests, the gateway and the examples, but for what stands
 between lines of ```:
@@ -8,6 +8,7 @@ between lines of ```:
   a crate's README from that crate's. One with NAME, MODULE or FUNCTION in it, or of what is built, is passed over;
 - of `name()` there is a function, and of `Type::name` or `crate::name` a declaration in a source that has the type, or in the
   crate's sources. A name of std or of another crate is passed over;
+- no module is named by a participle, as `telling` is: a module is named by a noun for what it holds;
 - no sentence has more than 35 words, outside tables and code. It ends at `.`, `?`, `!` or `:` before a blank or a line's end, or with
   its list item. A text in backticks is one word.
 
@@ -24,6 +25,9 @@ PAGES = ("README.md", "CONTRIBUTING.md", "CHANGELOG.md", "docs/*.md", "crates/RE
 FOLDERS = {"src", "specs", "proofs", "must-fail", "long-edits", *(it.name for it in [*ROOT.iterdir(), *ROOT.glob("crates/*")])}
 FILE = re.compile(r"\.(rt|antt|md|sh|py|c|rs|txt|edit|svg)$")
 MOST_WORDS = 35
+PARTICIPLE = re.compile(r"\w+ing|\w+[^e]ed|broken|given|held|kept|known|left|lent|lost|made|sent|shown|shut|taken|told|written")
+# Nouns that end as participles do.
+NOUNS = {"greeting", "listing", "naming", "opening", "setting", "spelling", "string", "encoding"}
 PASSED_OVER = re.compile(r"NAME|MODULE|FUNCTION|(^|/)out(/|$)")
 # A declaration, a variant or a field on a line of its own, or a name that is taken from elsewhere.
 DECLARED = (r"\b(?:fn|mod|struct|enum|trait|type|const|static|def|abbrev|theorem|structure|inductive)\s+{0}\b"
@@ -131,9 +135,16 @@ def long_sentences(page):
                 yield f"{page.relative_to(ROOT)}:{number}: a sentence of {count} words: {' '.join(sentence.split()[:8])} .."
 
 
+def participles():
+    """The modules of our crates and of the gateway that are named by a participle."""
+    for path in sorted([*ROOT.glob("crates/*/src/**/*.rt"), *ROOT.glob("gateway/**/*.rs")]):
+        if PARTICIPLE.fullmatch(path.stem) and path.stem not in NOUNS:
+            yield f"{path.relative_to(ROOT)}: a module is named by a noun, and not by a participle"
+
+
 def main():
     pages = [page for pattern in PAGES for page in sorted(ROOT.glob(pattern))]
-    wrong = [it for page in pages for it in [*faults(page), *long_sentences(page)]]
+    wrong = [*participles(), *(it for page in pages for it in [*faults(page), *long_sentences(page)])]
     print("".join(f"{it}\n" for it in wrong) + f"{len(pages)} pages, {len(wrong)} wrong")
     sys.exit(1 if wrong else 0)
 
