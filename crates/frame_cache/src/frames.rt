@@ -18,8 +18,8 @@
 //! Which frames are free is found by three layers of bits (`vacant.rt`), so that neither a search nor what it takes on the
 //! stack grows with the frames. Nothing is claimed of them. A frame is named before it becomes free, and whoever takes it
 //! clears its bit afterwards, so that the lowest layer names each free frame, and at rest no other. A bit of an upper layer may
-//! be missing for a moment. So a search that finds no frame by the upper layers looks at 64 words of the lowest one in turn,
-//! which are all of them up to 4,096 frames, before it answers `NoFrame`.
+//! be missing for a moment. So a search that finds no frame by the upper layers looks at the whole lowest one before it
+//! answers `NoFrame`: one load for 64 frames.
 ghost use Rattle.std.specs.Prelude.{◌≡◌, ◌<◌, ◌≤◌, IfOk, IfErr, IfSome, IsTrue};
 ghost use Rattle.table_core.specs.BucketWords.{name_of, place_of, empty_place};
 ghost use Rattle.frame_cache.specs.Slots.{most_frames, IsOfVersion, IsObjectOf};
@@ -38,7 +38,6 @@ use far_object::{FarObject, Memory, Object};
 use std::alloc::Global;
 use std::marker::Model;
 use std::mem::{forget, replace, size_of};
-use std::sync::atomic::AtomicU32;
 use table_core::word::{name_of, place_of};
 use version_words::{Naming, Spare};
 
@@ -67,8 +66,6 @@ fn told<K: FarObject, V: FarObject, J: Naming>(claim: &SlotClaim<'_, K, V, J>) -
 pub struct Frames<K: FarObject, V: FarObject, J: Naming> {
     slots: Vec<Slot<K, V, J>>,
     vacant: Vacant,
-    // The word of 64 frames at which the next look past the upper layers begins.
-    next_word: AtomicU32,
     touched: Bits,
 }
 
@@ -96,7 +93,6 @@ impl<K: FarObject, V: FarObject, J: Naming> Frames<K, V, J> {
         Ok(Frames {
             slots,
             vacant: Vacant::all(alloc, count)?,
-            next_word: AtomicU32::new(0),
             touched: Bits::new(alloc, count)?,
         })
     }

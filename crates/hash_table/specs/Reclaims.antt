@@ -9,10 +9,10 @@ WasTried s = Unit {0}
 pub IsReclaimed : {K V : Type 0} → SpareView K V → Type 0
 IsReclaimed s = Unit {0}
 
-pub tried : {K V : Type 0} (s : SpareView K V) → WasTried s
+pub was_tried : {K V : Type 0} (s : SpareView K V) → WasTried s
 unfolding WasTried
-tried s = tt
+was_tried s = tt
 
-pub reclaimed : {K V : Type 0} (s : SpareView K V) → IsReclaimed s
+pub was_reclaimed : {K V : Type 0} (s : SpareView K V) → IsReclaimed s
 unfolding IsReclaimed
-reclaimed s = tt
+was_reclaimed s = tt

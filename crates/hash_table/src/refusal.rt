@@ -26,8 +26,7 @@ pub enum Refusal {
     #[error("missed")]
     Missed,
     /// The call found no free frame. Each holds a version, is being filled or emptied, or is owned by a
-    /// caller that recycles. Among more than 4,096 frames a free one may be overlooked for a moment.
-    /// `FarTable::swap_out`, and `FarTable::reclaim` of the spare that it leaves, free a frame.
+    /// caller that recycles. `FarTable::swap_out`, and `FarTable::reclaim` of the spare that it leaves, free a frame.
     #[error("no frame")]
     NoFrame,
     /// The bucket's new object would be longer than `Config::limit`.

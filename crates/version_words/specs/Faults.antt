@@ -11,11 +11,20 @@ use Rattle.version_words.specs.declared.fault.GatherFault.TheVariants as gather
 use Rattle.version_words.specs.declared.fault.NameFault.{NameFault}
 use Rattle.version_words.specs.declared.fault.NameFault.TheVariants as name
 
+-- another pass was drawn between the look and the step of one call, which then saw this front, and drew none. It is opaque: who promises it had `Words::enter` say `Moved`, or cites the lemma below
+pub WasPassedOver : {K V : Type 0} → List (Event K V) → Type 0
+WasPassedOver log = Unit {0}
+
+-- for the proof of `Words::enter` alone
+pub was_passed_over : {K V : Type 0} (log : List (Event K V)) → WasPassedOver log
+unfolding WasPassedOver
+was_passed_over log = tt
+
 module _ {K V J : Type 0} (ek : K → List ℕ) (ev : V → List ℕ) (l : Limits) where
-  -- at the mark's front the last pass was drawn; or it has a pass, which is all that is said of a draw between the call's look and its step
+  -- at the mark's front the last pass was drawn; or a pass, which was drawn meanwhile by another call of `enter`
   abbrev pub IsEnterFault : EnterFault K V J → Type 0
   IsEnterFault (enter.PassesSpent mark) = IsLawful ek ev l mark × (passes_of mark ≡ l.passes)
-  IsEnterFault (enter.Moved mark) = IsLawful ek ev l mark × (0 < passes_of mark)
+  IsEnterFault (enter.Moved mark) = IsLawful ek ev l mark × (0 < passes_of mark) × WasPassedOver mark
 
   -- at the mark's front more passes were drawn than were handed in; of a refused growth nothing is said
   abbrev pub IsGatherFault : ℕ → GatherFault K V J → Type 0

@@ -6,25 +6,11 @@ use crate::bits::WORD;
 use crate::fault::NoFrame;
 use crate::reserved_frame::Reserved;
 use far_object::FarObject;
-use std::sync::atomic::AtomicU32;
-use std::sync::atomic::Ordering::SeqCst;
 use version_words::Naming;
 
 /// How many words of 64 frames a search by the upper layers looks at at most. It goes on behind a word only where each frame
 /// that the word names is on its way from one thread to another.
 const MOST_WORDS: u32 = 1_024;
-
-// The next 64 numbers below the count in turn: callers who look in vain are many where frames are few, so none of them looks
-// at all, and each goes on where the last ended. Where the count is no more than 64 these are all, and nothing is written.
-fn turn(next: &AtomicU32, count: u32) -> (u32, u32) {
-    let from = next.load(SeqCst);
-    let end = from.saturating_add(WORD);
-    let behind = if end < count { end } else { 0 };
-    if behind != from {
-        next.store(behind, SeqCst);
-    }
-    (from, end)
-}
 
 impl<K: FarObject, V: FarObject, J: Naming> Frames<K, V, J> {
     // The first of the 64 frames of this word that is named as free, and is.
@@ -63,12 +49,12 @@ impl<K: FarObject, V: FarObject, J: Naming> Frames<K, V, J> {
         None
     }
 
-    // The first frame that is named in the next 64 words, whether the upper layers lead there or not.
+    // The first frame that is named, whether the upper layers lead there or not. Each free frame is named in the lowest layer,
+    // so if none is returned, each was taken when this came to it.
     fn reserve_passed_over(&self) -> Option<Reserved<'_, K, V, J>>
         ensures { IfSome result (λ reserved. reserved < self.now) }
     {
-        let (from, end) = turn(&self.next_word, self.count() / WORD + 1);
-        for word in from..end {
+        for word in 0..self.count() / WORD + 1 {
             if let Some(reserved) = self.reserve_in(word) {
                 return Some(reserved);
             }
@@ -78,9 +64,8 @@ impl<K: FarObject, V: FarObject, J: Naming> Frames<K, V, J> {
 
     /// A free frame for this call alone: the first of those that are named as free, from 0 upwards, that is.
     ///
-    /// `NoFrame` comes where each frame that the hints led to was gone when it was looked at. At rest they lead to all free
-    /// frames. Of more than 4,096 one may be passed over for a moment while another thread takes one near it. No clause says which
-    /// frame comes, nor when `NoFrame` does.
+    /// `NoFrame` is returned if each frame was taken when this call came to it. No clause says which frame comes, nor when
+    /// `NoFrame` does.
     pub fn reserve(&self) -> Result<Reserved<'_, K, V, J>, NoFrame>
         ensures here { IfOk result (λ reserved. reserved < self.now) }
     {

@@ -19,8 +19,8 @@ use far_object::FarObject;
 impl<K: FarObject, V: FarObject, J: Naming> Words<K, V, J> {
     /// Draws the next pass, which has made no call.
     ///
-    /// `PassesSpent` comes where the last pass was drawn, `Moved` where another one was drawn between the look and the
-    /// step; of the latter the clause says no more than that a pass was drawn.
+    /// `PassesSpent` is returned if the last pass was drawn, and `Moved` if another call of `enter` drew one between the
+    /// look and the step of this one.
     pub fn enter(&self) -> Result<Pass<K, V, J>, EnterFault<K, V, J>>
         ensures lawful { IfOk result (λ p. IsLawful K.enc V.enc J.limits p.front) }
         ensures entered { IfOk result (λ p. EndsWith [] (Enter p.number) p.front) }

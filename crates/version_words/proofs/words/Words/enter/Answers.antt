@@ -3,6 +3,7 @@ use Rattle.version_words.proofs.Calling.{new_pass}
 use Rattle.version_words.proofs.Drawing.{spent_passes, more_passes}
 use Rattle.version_words.proofs.Fronts.{value_passes}
 use Rattle.version_words.proofs.Writing.{can_enter}
+use Rattle.version_words.specs.Faults.{was_passed_over}
 use Rattle.version_words.proofs.words.Words.enter.Goals as goal
 
 pub returns-then-drawn-from-clause-fault : goal.returns-then-drawn-from-clause-fault
@@ -19,7 +20,7 @@ step-requires-clause-can g c =
 pub returns-then-not-step-clause-fault : goal.returns-then-not-step-clause-fault
 returns-then-not-step-clause-fault g c =
     let s = c.args.self.now.sizes_are in
-    (c.step.ensures.lawful, more_passes g.K.FarObject.enc g.V.FarObject.enc g.J.Naming.limits c.look_at-drawn.new.mark c.step.new.mark c.look_at-drawn.result (rw s.0 at c.look_at-drawn.ensures.value) c.step.ensures.grows (rw s.0 at c.if-not-step.ensures.done))
+    (c.step.ensures.lawful, more_passes g.K.FarObject.enc g.V.FarObject.enc g.J.Naming.limits c.look_at-drawn.new.mark c.step.new.mark c.look_at-drawn.result (rw s.0 at c.look_at-drawn.ensures.value) c.step.ensures.grows (rw s.0 at c.if-not-step.ensures.done), was_passed_over c.step.new.mark)
 
 pub invariant_of-result : goal.invariant_of-result
 invariant_of-result g c =
