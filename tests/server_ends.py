@@ -269,6 +269,26 @@ def info_tells_who_is_connected(tried, _):
         until(lambda: int(watcher.info("memory")["clients_memory"]) < 100_000, "that it is free")
 
 
+def scratch_files_are_private(tried, _):
+    """Scratch files have no name, and only their user may read them. Of the folder only what a killed server left is removed."""
+    folder = Path(tried.work) / "private"
+    kept = ["notes.txt", "fazhitta-notes.scratch", "fazhitta-0123456789abcdef-0-0.txt", "fazhitta-0123456789abcdef-0-0.scratch.bak"]
+    left = "fazhitta-0123456789abcdef-0-3.scratch"
+    (folder / "inner").mkdir(parents=True)
+    for name in [*kept, left, f"inner/{left}"]:
+        (folder / name).write_text(name)
+    with tried.start(far="private", memory="32m") as server:
+        fill(server, 1000, lambda number: b"%060000d" % number, 10)
+        assert server.scratch() > 0
+        files = [it for it in Path(f"/proc/{server.pid('farserve')}/fd").iterdir() if os.readlink(it).endswith(" (deleted)")]
+        found = [it.stat() for it in files if str(folder) in os.readlink(it)]
+        assert found and all(stat.S_IMODE(it.st_mode) == 0o600 and it.st_nlink == 0 for it in found), found
+        assert sorted(os.listdir(folder)) == sorted([*kept, "inner"]), os.listdir(folder)
+    assert sorted(os.listdir(folder)) == sorted([*kept, "inner"]) and os.listdir(folder / "inner") == [left]
+    assert all((folder / name).read_text() == name for name in [*kept, f"inner/{left}"])
+    return f"{len(found)} files"
+
+
 def info_tells_what_lies_on_disk(tried, _):
     """The bytes of slots are those of the files, but for the room behind the last object of each file."""
     def far(client):
@@ -295,4 +315,4 @@ def info_tells_what_lies_on_disk(tried, _):
 TRIALS = [small_values_stay_within_memory, large_values_stay_within_memory, what_has_no_room_is_refused, keys_are_evicted_where_they_may_be,
           a_full_disk_harms_nothing, a_signal_ends_it, who_dies_is_named, who_dies_early_is_named, faults_at_the_start,
           all_addresses_are_served, info_tells_what_the_system_does, info_tells_who_is_connected,
-          info_tells_what_lies_on_disk]
+          info_tells_what_lies_on_disk, scratch_files_are_private]

@@ -2,3 +2,4 @@ pub mod Files
 pub mod Numbers
 pub mod Running
 mod Names
+mod Streams

@@ -10,7 +10,8 @@ use Rattle.far_driver.specs.declared.fault.RunFault.TheVariants as fault
 use Rattle.far_driver.specs.declared.status.ProgramFault.{ProgramFault}
 use Rattle.far_driver.specs.declared.status.ProgramFault.TheVariants as program
 use Rattle.far_driver.specs.Statuses.{EndedWith, ended_with}
-use Rattle.far_driver.specs.Runs.{RanOn, RanWords, WritesBefore, LeavesOutput}
+use Rattle.far_driver.specs.Runs.{AnswersFiles, RanOn, RanWords, WritesBefore, LeavesOutput}
+use Rattle.far_driver.specs.Sources.{unread}
 use Rattle.far_driver.proofs.Files.{given_count}
 
 pub ran_words : {B : Type 0} (known : B → Option (List ℕ)) (readers : List B) (words : List (List ℕ)) (config : Config) (count : ℕ) (old new : Option (List ℕ))
@@ -23,6 +24,17 @@ ran_words known readers words config count old new asked readers_are opened ran 
   text = ran.text;
   ran = ran.ran;
   appends = ran.appends;
+}
+
+-- the readers were those of the files with the numbers from 1 on
+pub answers_files : {B : Type 0} (known : B → Option (List ℕ)) (readers : List B) (words : List (List ℕ)) (config : Config) (count : ℕ) (old new : Option (List ℕ))
+    → AskFor words config count → map known readers ≡ unread count → WasOpened config → RanOn config.buckets config.limit (map known readers) old new → AnswersFiles words old new
+answers_files known readers words config count old new asked are opened ran = record {
+  config = config;
+  count = count;
+  asked = asked;
+  opened = opened;
+  ran = subst (λ all. RanOn config.buckets config.limit all old new) are ran;
 }
 
 pub left : (words : List (List ℕ)) (config : Config) (readers : List (Option (List ℕ))) (old new : Option (List ℕ)) (f : RunFault) → AskFor words config (length readers) → WritesBefore readers old new f → LeavesOutput words old new (program.Run f)

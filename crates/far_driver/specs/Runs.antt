@@ -13,6 +13,7 @@ use Rattle.far_driver.specs.declared.status.ProgramFault.{ProgramFault}
 use Rattle.far_driver.specs.declared.status.ProgramFault.TheVariants as program
 use Rattle.far_driver.specs.Arguments.{AskFor}
 use Rattle.far_driver.specs.Reading.{AreFiles, IsFaultOfOne}
+use Rattle.far_driver.specs.Sources.{unread}
 
 -- the readers gave these files, where they tell their bytes, and the writer got what one history replies to them
 pub record RanOn (buckets limit : ℕ) (readers : List (Option (List ℕ))) (old new : Option (List ℕ)) : Type 0 where
@@ -63,3 +64,11 @@ pub record RanWords (words : List (List ℕ)) (old new : Option (List ℕ)) : Ty
   pub text : List ℕ
   pub ran : Ran (MayReply config.buckets config.limit) files text
   pub appends : Appends old new text
+
+-- The same of the files that were read: the words are arguments, a table was opened with the settings that they ask for, and the writer got what one history replies to as many files as they name. The files are those whose bytes the reads returned.
+pub record AnswersFiles (words : List (List ℕ)) (old new : Option (List ℕ)) : Type 0 where
+  pub config : Config
+  pub count : ℕ
+  pub asked : AskFor words config count
+  pub opened : WasOpened config
+  pub ran : RanOn config.buckets config.limit (unread count) old new

@@ -1,8 +1,14 @@
 -- What the opening of the files tells.
-use Rattle.std.specs.Prelude.{◌≡◌, ◌≢◌, ℕ, ◌+◌, List, ◌∷◌, ◌++◌, length, codes}
+use Rattle.std.specs.Prelude.{◌≡◌, ◌≢◌, ℕ, zero, suc, ◌+◌, List, [], ◌∷◌, ◌++◌, length, codes, Option}
+use Rattle.streams.specs.Streams.{rest_of}
 use Rattle.far_driver.specs.declared.fault.RunFault.TheVariants as fault
 use Rattle.far_driver.specs.declared.status.ProgramFault.{ProgramFault}
 use Rattle.far_driver.specs.declared.status.ProgramFault.TheVariants as program
+
+-- all bytes of so many files: the first file is the stream with the number 1
+abbrev pub unread : ℕ → List (Option (List ℕ))
+unread zero = []
+unread (suc n) = unread n ++ rest_of (suc n) 0 ∷ []
 
 -- the system did not open a file of this name. It is opaque: only `open_source` tells it, and the lemma below is for its proof alone
 pub WasNotOpened : List ℕ → Type 0

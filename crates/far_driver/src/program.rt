@@ -1,7 +1,7 @@
 //! The program `fartable BUCKETS FRAMES LIMIT FILE...`.
 ghost use Rattle.std.specs.Prelude.{◌≡◌, ◌≢◌, ◌≤◌, false, map, string_bytes, Err, IfErr, OnOk};
 ghost use Rattle.far_driver.specs.Arguments.{are_arguments};
-ghost use Rattle.far_driver.specs.Runs.{RanWords, LeavesOutput};
+ghost use Rattle.far_driver.specs.Runs.{AnswersFiles, RanWords, LeavesOutput};
 ghost use Rattle.far_driver.specs.Statuses.{status_of, EndedWith};
 ghost use Rattle.far_driver.specs.declared.status.ProgramFault.{ProgramFault as program_fault};
 
@@ -23,6 +23,8 @@ where
     W: Write,
     ensures usage { are_arguments (map string_bytes words.now) ≡ false → (result ≡ Err ProgramFault.Usage) × (out.new ≡ out.old) }
     ensures ran { OnOk result (RanWords (map string_bytes words.now) (W.contents out.old) (W.contents out.new)) }
+    // Of the bytes that were read of the files.
+    ensures files { OnOk result (AnswersFiles (map string_bytes words.now) (W.contents out.old) (W.contents out.new)) }
     ensures told { IfErr result EndedWith }
     ensures before { IfErr result (LeavesOutput (map string_bytes words.now) (W.contents out.old) (W.contents out.new)) }
 {
@@ -50,6 +52,7 @@ where
     ensures status { result ≤ 2 }
     ensures usage { are_arguments (map string_bytes words.now) ≡ false → (result ≡ 2) × (out.new ≡ out.old) }
     ensures ran { result ≡ 0 → RanWords (map string_bytes words.now) (W.contents out.old) (W.contents out.new) × (err.new ≡ err.old) }
+    ensures files { result ≡ 0 → AnswersFiles (map string_bytes words.now) (W.contents out.old) (W.contents out.new) }
     ensures before { result ≢ 0 → (fault : program_fault) × EndedWith fault × (result ≡ status_of fault) × LeavesOutput (map string_bytes words.now) (W.contents out.old) (W.contents out.new) fault }
 {
     match run_words(rt, words, out) {

@@ -1,20 +1,21 @@
 -- Terms of a worker, one after the other.
 use Rattle.std.proofs.Common.{◌≡◌, ℕ, false, List, [], ◌++◌, Option, Ok, Err, refl, sym, subst, append-nil}
-use Rattle.std.specs.Io.KnownBytes.{Consumes, Appends}
+use Rattle.std.specs.Prelude.{IfSome}
+use Rattle.std.specs.Io.KnownBytes.{Consumes, Appends, IsAtEnd}
 use Rattle.table_core.specs.declared.limits.Limits.{Limits}
 use Rattle.resp.specs.declared.limits.Limits.{Limits as LimitsOfRequests}
 use Rattle.request_loop.specs.declared.wire.Wire.{Wire}
 use Rattle.request_loop.specs.Marks.{Mark}
 use Rattle.request_loop.specs.Calls.{Exchange, step_marks}
 use Rattle.request_loop.specs.Slots.{Views, none_seen}
-use Rattle.request_loop.specs.Packets.{packets_bytes, WireTells}
+use Rattle.request_loop.specs.Packets.{packets_bytes, WireEnded, WireTells}
 use Rattle.request_loop.specs.Standing.{Standing, GoesOnBy}
 use Rattle.request_loop.proofs.Resuming.{begins, settles}
 use Rattle.request_loop.proofs.Known.{wire_told}
 use Rattle.far_server.specs.Sessions.{Session}
 use Rattle.far_server.specs.Answers.{unknown}
 use Rattle.far_server.specs.Services.{WorkerView, worker_view, Acts}
-use Rattle.far_server.specs.Left.{LeftView, HasStood}
+use Rattle.far_server.specs.Left.{LeftView, HasStood, HasEnded}
 use Rattle.far_server.specs.Serving.{HasServed, StandsFrom, Knows, IsGoing, GoesOn, Stands, IsTermOfWorker, ServesOn}
 use Rattle.far_server.specs.declared.settings.Bounds.{Bounds}
 use Rattle.stored_keys.specs.declared.DigestKeys.{DigestKeys}
@@ -41,13 +42,14 @@ module _ {In Out : Type 0} (remaining : In → Option (List ℕ)) (contents : Ou
 
   -- where no more comes all requests are answered
   pub has_served : (limits : LimitsOfRequests) (start now : Wire In Out) (views : Views) (past : List (Mark Exchange)) (input : In) (output : Out) → now.broken ≡ false → input ≡ now.input → output ≡ now.output
-      → Standing (WireTells remaining contents) limits start now views past → HasServed remaining contents limits start.input input start.output output past
-  has_served limits start now views past input output whole in_is out_is stood =
+      → WireEnded remaining start now → Standing (WireTells remaining contents) limits start now views past → HasServed remaining contents limits start.input input start.output output past
+  has_served limits start now views past input output whole in_is out_is ended stood =
       let s = settles (WireTells remaining contents) limits start now views past stood in
       let t = wire_told remaining contents start now s.came s.sent whole s.told in
       let C : In → Type 0 = λ i. Consumes (remaining start.input) (remaining i) (packets_bytes s.came) in
       let A : Out → Type 0 = λ o. Appends (contents start.output) (contents o) (packets_bytes s.sent) in
-      record { came = s.came; sent = s.sent; consumed = subst C (sym in_is) t.0; appended = subst A (sym out_is) t.1; each = s.each; left = s.left; once = s.once }
+      let E : In → Type 0 = λ i. IfSome (remaining start.input) (λ bytes. IsAtEnd (remaining i)) in
+      record { came = s.came; sent = s.sent; consumed = subst C (sym in_is) t.0; at_end = subst E (sym in_is) ended; appended = subst A (sym out_is) t.1; each = s.each; left = s.left; once = s.once }
 
   module _ (l : Limits) (digest : DigestKeys) (password : Option (List ℕ)) (bounds : Bounds) (old new : Session) (left : LeftView In Out) (wire : Wire In Out) (views : Views) (y : WorkerView) (ended : y.session ≡ new)
       (goes : GoesOnBy (WireTells remaining contents) (Acts l digest password bounds) left.wire.limits left.wire wire (worker_view password old left.connections) y left.views views) where
@@ -67,14 +69,14 @@ module _ {In Out : Type 0} (remaining : In → Option (List ℕ)) (contents : Ou
     }
 
     -- its requests were at their end
-    pub ends_so : (input : In) (output : Out) → wire.broken ≡ false → input ≡ wire.input → output ≡ wire.output → IsGoing remaining contents l digest password bounds old new left (state.Ended (worker_end.Served (Ok (input, output))))
-    ends_so input output whole in_is out_is = record {
+    pub ends_so : (input : In) (output : Out) → wire.broken ≡ false → HasEnded remaining contents left.wire wire left.views → input ≡ wire.input → output ≡ wire.output → IsGoing remaining contents l digest password bounds old new left (state.Ended (worker_end.Served (Ok (input, output))))
+    ends_so input output whole all in_is out_is = record {
       last = y;
       ended = ended;
       knows = tt;
       went_on = λ start past stood.
           let went = goes start past stood in
-          (went.0, went.1, has_served left.wire.limits start wire views (past ++ step_marks went.0) input output whole in_is out_is went.2);
+          (went.0, went.1, has_served left.wire.limits start wire views (past ++ step_marks went.0) input output whole in_is out_is (all start past stood) went.2);
     }
 
   module _ (Opens : In → Out → Type 0) where

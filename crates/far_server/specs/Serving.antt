@@ -1,6 +1,6 @@
 -- What a worker does, from the bytes that it reads to those that it writes, and from one map to the next.
-use Rattle.std.specs.Prelude.{◌≡◌, ◌⊎◌, ℕ, ◌<◌, ◌≤◌, List, [], ◌++◌, map, replicate, Option, Ok, Err, ⊤}
-use Rattle.std.specs.Io.KnownBytes.{Consumes, Appends}
+use Rattle.std.specs.Prelude.{◌≡◌, ◌⊎◌, ℕ, ◌<◌, ◌≤◌, List, [], ◌++◌, map, replicate, Option, Ok, Err, IfSome, ⊤}
+use Rattle.std.specs.Io.KnownBytes.{Consumes, Appends, IsAtEnd}
 use Rattle.table_core.specs.declared.limits.Limits.{Limits}
 use Rattle.resp.specs.declared.limits.Limits.{Limits as LimitsOfRequests}
 use Rattle.request_loop.specs.declared.wire.Wire.{Wire}
@@ -37,12 +37,13 @@ module _ {In Out : Type 0} where
   Knows l digest password bounds (state.Ended end) worker = ⊤
 
 module _ {In Out : Type 0} (remaining : In → Option (List ℕ)) (contents : Out → Option (List ℕ)) where
-  -- From this reader and this writer on a worker took packets, and sent packets, to their end: on each connection the requests that came are
-  -- those of the exchanges that were said, in order, and what was sent are the replies to them.
+  -- From this reader and this writer on a worker took packets, and sent packets, until the reader had no more: on each connection the requests
+  -- that came are those of the exchanges that were said, in order, and what was sent are the replies to them.
   pub record HasServed (limits : LimitsOfRequests) (input input_left : In) (output output_left : Out) (past : List (Mark Exchange)) : Type 0 where
     pub came : List Packet
     pub sent : List Packet
     pub consumed : Consumes (remaining input) (remaining input_left) (packets_bytes came)
+    pub at_end : IfSome (remaining input) (λ bytes. IsAtEnd (remaining input_left))
     pub appended : Appends (contents output) (contents output_left) (packets_bytes sent)
     pub each : (c : ℕ) → IsSettledAt limits c (marks came) (marks sent) (said c past)
     pub left : (c : ℕ) → is_stopped c past ≡ is_stopped c (marks sent)

@@ -4,7 +4,8 @@ ghost use Rattle.std.specs.Prelude.{◌≡◌, false, IfOk, OnOk};
 ghost use Rattle.request_loop.specs.Packets.{WireTells};
 ghost use Rattle.request_loop.specs.Standing.{GoesOnBy};
 ghost use Rattle.far_server.specs.Services.{Acts, worker_view};
-ghost use Rattle.far_server.specs.Left.{HasStood};
+ghost use Rattle.request_loop.specs.declared.pause.Pause.TheVariants as pause;
+ghost use Rattle.far_server.specs.Left.{HasStood, HasEnded};
 ghost use Rattle.far_server.specs.Serving.{GoesOn, ServesOn};
 ghost use Rattle.far_server.specs.declared.states.WorkerState.TheVariants as state;
 
@@ -53,6 +54,7 @@ fn serve_packets<S: Calls<Blob>, C: Clock, R: Wait, I: BufRead + Drop, O: Write 
     ensures went_on { IfOk result (λ left. GoesOnBy (WireTells I.remaining O.contents) (Acts S.limits server.old.context.now.settings.now.digest_keys server.old.context.now.settings.now.password server.old.context.now.settings.now.bounds) wire.old.limits wire.old wire.new
         (worker_view server.old.context.now.settings.now.password (S.shown server.old.me.now) server.old.kept.connections.entries) (worker_view server.old.context.now.settings.now.password (S.shown server.new.me.now) server.new.kept.connections.entries) holds left.1) }
     ensures whole { OnOk result (wire.new.broken ≡ false) }
+    ensures ended { IfOk result (λ left. left.0 ≡ pause.End → HasEnded I.remaining O.contents wire.old wire.new holds) }
     ensures limits { OnOk result (wire.new.limits ≡ wire.old.limits) }
 {
     serve_on(alloc, wire, server, holds)

@@ -1,7 +1,8 @@
 //! The run, over devices in the process, in folders or in a store.
 ghost use Rattle.std.specs.Prelude.{◌≡◌, ◌<◌, ◌≤◌, false, IsTrue, length, map, string_bytes, Err, IfErr, OnOk};
+ghost use Rattle.digests.specs.Collisions.{nothing_collided};
 ghost use Rattle.far_driver.specs.Arguments.{are_arguments, AskFor};
-ghost use Rattle.far_driver.specs.Runs.{RanWords};
+ghost use Rattle.far_driver.specs.Runs.{AnswersFiles, RanWords};
 ghost use Rattle.farrun.specs.Runs.{LeavesOutput, WasOpenedFor};
 
 use crate::command_line::CommandLine;
@@ -36,6 +37,7 @@ where
     requires some { 0 < length arguments.files.now }
     requires few { length arguments.files.now ≤ 64 }
     ensures ran { OnOk result (IsTrue D.HONEST → RanWords (map string_bytes _words.now) (W.contents out.old) (W.contents out.new)) }
+    ensures files { OnOk result (IsTrue D.HONEST → AnswersFiles (map string_bytes _words.now) (W.contents out.old) (W.contents out.new)) }
     ensures opened { OnOk result (WasOpenedFor (map string_bytes _words.now)) }
     ensures before { IfErr result (LeavesOutput (map string_bytes _words.now) (W.contents out.old) (W.contents out.new)) }
 {
@@ -68,6 +70,8 @@ where
     W: Write,
     ensures usage { are_arguments (map string_bytes asked.now.words.items) ≡ false → (result ≡ Err FarrunFault.Usage) × (out.new ≡ out.old) }
     ensures ran { length asked.now.folders.items ≡ 0 → length asked.now.replies.items ≡ 0 → length asked.now.requests.items ≡ 0 → OnOk result (RanWords (map string_bytes asked.now.words.items) (W.contents out.old) (W.contents out.new)) }
+    // Also over folders and stores, unless a digest collided: of the bytes that were read of the files.
+    ensures far { IsTrue nothing_collided → OnOk result (AnswersFiles (map string_bytes asked.now.words.items) (W.contents out.old) (W.contents out.new)) }
     ensures opened { OnOk result (WasOpenedFor (map string_bytes asked.now.words.items)) }
     ensures before { IfErr result (LeavesOutput (map string_bytes asked.now.words.items) (W.contents out.old) (W.contents out.new)) }
 {

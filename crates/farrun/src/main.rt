@@ -15,11 +15,14 @@ use far_run::run_asked;
 use fault::{FarrunFault, MEMORY, WRITE};
 use std::env::Env;
 use std::io;
-use std::io::BufWriter;
 use std::process::ExitCode;
 use std::rt::Files;
 use std::sync::Wait;
 use std::thread::Threads;
+use streams::StreamWriter;
+
+/// Bytes of output that are written at once.
+const OUT_BYTES: usize = 8_192;
 
 /// Runs what these say.
 fn run_matches<R>(rt: &R, host: HostRuntime, matches: &ArgMatches<'_>) -> Result<(), FarrunFault>
@@ -29,7 +32,7 @@ where
     let Ok(asked) = CommandLine::of(rt.alloc(), matches) else {
         return Err(MEMORY);
     };
-    let Ok(mut out) = BufWriter::new(rt.alloc(), io::writer(rt)) else {
+    let Ok(mut out) = StreamWriter::buffered(rt.alloc(), OUT_BYTES, io::writer(rt), 0) else {
         return Err(MEMORY);
     };
     run_asked(rt, host, &asked, &mut out)

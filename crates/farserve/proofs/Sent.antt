@@ -8,6 +8,8 @@ use Rattle.file_device.specs.declared.disk.Disk.{Ghosts}
 use Rattle.std.proofs.MapsCrossing as maps
 use Rattle.file_device.proofs.Sent.{device_send}
 use Rattle.resp_device.proofs.Sent as resp
+use Rattle.std.specs.contracts.fs.File as File
+use Rattle.streams.proofs.Sent.{reader_send, writer_send}
 use Rattle.farserve.specs.contracts.counted_device.CountedDevice as CountedDevice
 use Rattle.farserve.specs.contracts.link.Link as Link
 use Rattle.farserve.specs.contracts.link.Ends as Ends
@@ -22,7 +24,7 @@ counted_send κ K g disk =
     declared_send (CountedDevice.the_type κ K g) all
 
 ends_send : IsSend Ends.the_row
-ends_send = search (sendable, vecs.crosses) depth 40 fits 100000
+ends_send = search (sendable, vecs.crosses, reader_send, writer_send) depth 40 fits 100000
 
 link_send : IsSend Link.the_row
 link_send = let ends = ends_send in search (sendable, vecs.crosses) depth 40

@@ -1,5 +1,6 @@
 //! A device that reports how many objects it keeps, and how many bytes their slots take.
 ghost use Rattle.std.specs.Prelude.{◌≡◌};
+ghost use Rattle.file_device.specs.Honesty.{is_honest_over};
 
 use crate::bounded_disk::Measured;
 use far_device::{Device, DeviceFault};
@@ -49,7 +50,7 @@ impl<K: Disk + Measured> Device for CountedDevice<'_, K> {
 
     ghost state = { λ device. state_in device.inner };
 
-    ghost HONEST = { K.HONEST };
+    ghost HONEST = { is_honest_over K.HONEST };
 
     ghost labels = { λ device. labels_in device.inner };
 

@@ -4,14 +4,15 @@ use crate::bounded_disk::BoundedDisk;
 use crate::counted_device::CountedDevice;
 use crate::fault::FarserveFault;
 use far_server::FarUsage;
-use file_device::{DiskFault, FileDevice, FileDisk, MemoryDisk};
-use std::fs::File;
+use file_device::{DiskFault, FileDevice, FileDisk, MemoryDisk, ScratchFolder};
 use std::hash::RandomState;
 use std::random::RandomSource;
-use std::rt::Files;
 
 /// The most devices besides the one for renewals, unless there are more folders.
 pub const DEVICES: u32 = 4;
+
+/// A device over scratch files.
+pub type FarDevice<'a> = CountedDevice<'a, BoundedDisk<FileDisk<ScratchFolder<HostRuntime>>>>;
 
 /// Random keys for a device's digests. `FarserveFault::Random` is returned if the system gives no random bytes.
 pub fn keys_of<'f, R: RandomSource>(rt: &R) -> Result<RandomState, FarserveFault<'f>> {
@@ -22,17 +23,14 @@ pub fn keys_of<'f, R: RandomSource>(rt: &R) -> Result<RandomState, FarserveFault
 }
 
 /// Opens a device over scratch files in a folder, for the lane with this number.
-fn open<'a, R>(
-    rt: R,
+fn open<'a>(
+    rt: HostRuntime,
     folder: &str,
     lane: u32,
     most: u64,
     keys: RandomState,
     usage: &'a FarUsage,
-) -> Result<CountedDevice<'a, BoundedDisk<FileDisk<R>>>, DiskFault>
-where
-    R: Files<File = File> + AllocGlobal + RandomSource + Copy + Drop,
-{
+) -> Result<FarDevice<'a>, DiskFault> {
     let disk = BoundedDisk::new(FileDisk::open(rt, folder, lane)?, most);
     Ok(CountedDevice::new(FileDevice::new(rt.alloc(), disk, keys), usage))
 }
@@ -45,16 +43,13 @@ where
 ///
 /// `FarserveFault::Folder` is returned for a folder that can't be used, or whose path is empty. `FarserveFault::Random` is
 /// returned if the system gives no random bytes, and `FarserveFault::Memory` if an allocation fails.
-pub fn open_far<'a, 'b, R>(
-    rt: R,
+pub fn open_far<'a, 'b>(
+    rt: HostRuntime,
     folders: &[&'a str],
     count: u32,
     most: u64,
     usage: &'b FarUsage,
-) -> Result<Vec<CountedDevice<'b, BoundedDisk<FileDisk<R>>>>, FarserveFault<'a>>
-where
-    R: Files<File = File> + AllocGlobal + RandomSource + Copy + Drop,
-{
+) -> Result<Vec<FarDevice<'b>>, FarserveFault<'a>> {
     let count = count.max(folders.len().min(64) as u32);
     let mut devices = Vec::new(rt.alloc());
     for lane in 0..=count {

@@ -7,10 +7,9 @@
 //! - From the gateway: `DATA` has bytes of the store. `CLOSE` means that no more arrives by this connection:
 //!   the store has ended it, was too late, or isn't there.
 
-use std::alloc::{AllocError, Global};
-use std::fs::File;
+use crate::pipes::{Input, Output};
 use std::io;
-use std::io::{BufReader, BufWriter, Error, ErrorKind, Read, Write};
+use std::io::{Error, ErrorKind, Read, Write};
 
 const DATA: u8 = 0;
 
@@ -32,8 +31,8 @@ const PIECE: usize = 4096;
 /// The two pipes. They stay open as long as the server runs.
 #[derive(Drop)]
 struct Ends {
-    replies: BufReader<File>,
-    requests: BufWriter<File>,
+    replies: Input,
+    requests: Output,
     /// Bytes of the last packet that are not read yet.
     left: u32,
 }
@@ -110,7 +109,7 @@ impl Link {
     }
 
     /// The first connection over these pipes. The gateway is asked for it at the first write.
-    pub fn new(replies: BufReader<File>, requests: BufWriter<File>) -> Link {
+    pub fn new(replies: Input, requests: Output) -> Link {
         Link {
             ends: Some(Ends {
                 replies,

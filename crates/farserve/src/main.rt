@@ -5,7 +5,9 @@
 //! was chosen. Then the program serves until the gateway has ended.
 #![tactic(auto)]
 
-ghost use Rattle.std.specs.Prelude.{◌≤◌};
+ghost use Rattle.std.specs.Prelude.{◌≡◌, ◌≤◌, ◌-◌, false, All, OnOk, vec_len};
+ghost use Rattle.std.specs.Option.{is_some};
+ghost use Rattle.farserve.specs.Serving.{is_failed, IsServed, IsAskedFor, HasServed};
 
 mod bounded_disk;
 mod command_line;
@@ -26,10 +28,10 @@ use command_line::{CommandLine, Store, command};
 use devices::{DEVICES, open_far, open_none};
 use far_device::Device;
 use far_map::Settings;
-use far_server::{Bounds, FarUsage, ServerSettings, WorkerEnd, run_server};
+use far_server::{Bounds, FarUsage, ServeFault, ServerSettings, WorkerEnd, run_server};
 use fault::FarserveFault;
 use memory_plan::{Sizes, Tier, divide, least_memory};
-use pipes::NamedPipes;
+use pipes::{Input, NamedPipes, Output};
 use resp::Limits;
 use server_commands::Options;
 use std::env::Env;
@@ -43,6 +45,9 @@ use std::thread::Threads;
 use std::{env, io};
 use stored_keys::DigestKeys;
 use stores::open_stores;
+
+/// How a worker, or the sweep, has ended.
+type End = WorkerEnd<Input, Output>;
 
 /// The least and the greatest limit of a bucket's object, in bytes. Keys that share a bucket share it.
 const BUCKET: (u32, u32) = (4 << 20, 16 << 20);
@@ -98,7 +103,10 @@ fn settings(
     password: Option<[u8; 32]>,
     digest_keys: DigestKeys,
     seed: u64,
-) -> ServerSettings {
+) -> ServerSettings
+    requires { is_some password ≡ is_some asked.now.password_file }
+    ensures { IsAskedFor asked.now result }
+{
     let value = asked.value_limit;
     let bucket = value.saturating_mul(4).clamp(BUCKET.0, BUCKET.1);
     let map = Settings {
@@ -230,6 +238,28 @@ fn tell<'a, R: Print + Eprint>(
     }
 }
 
+/// The fault that ended the worker, if one did.
+fn fault_of(end: &End) -> Option<ServeFault>
+    ensures { is_some result ≡ is_failed end.now }
+{
+    match end {
+        WorkerEnd::Served(Err(fault)) => Some(*fault),
+        _ => None,
+    }
+}
+
+/// `FarserveFault::Worker` with the fault of the first worker that a fault ended, if there is one.
+fn check_ends<'a>(ends: &[End]) -> Result<(), FarserveFault<'a>>
+    ensures unfailed { OnOk result (All (λ end. is_failed end ≡ false) ends.now) }
+{
+    for end in ends {
+        if let Some(fault) = fault_of(end) {
+            return Err(FarserveFault::Worker(fault));
+        }
+    }
+    Ok(())
+}
+
 /// Serves over these devices until the gateway has ended. The last device is for renewals.
 ///
 /// `FarserveFault::Run` is returned if the map can't be run or its devices fail, and `FarserveFault::Worker` if a worker ends
@@ -245,6 +275,8 @@ fn serve_over<'a, D, R>(
 where
     D: Device + Send,
     R: AllocGlobal + Threads + Wait + Sync,
+    // What was served is by these settings, over all devices but the last.
+    ensures served { OnOk result (IsServed settings (vec_len devices - 1) D.HONEST) }
 {
     let Some(spool) = devices.pop() else {
         return Err(FarserveFault::Memory);
@@ -266,18 +298,15 @@ where
         Ok(ends) => ends,
         Err(fault) => return Err(FarserveFault::Run(fault)),
     };
-    for end in ends {
-        if let WorkerEnd::Served(Err(fault)) = end {
-            return Err(FarserveFault::Worker(fault));
-        }
-    }
-    Ok(())
+    check_ends(ends.as_slice())
 }
 
 /// Serves what the options ask for, until the gateway has ended.
 fn serve<'a, R>(rt: &R, host: HostRuntime, asked: &CommandLine<'a>) -> Result<(), FarserveFault<'a>>
 where
     R: Files<File = File> + AllocGlobal + Print + Eprint + Threads + Wait + Sync,
+    // The answers are those of one history for each map, unless a digest collided.
+    ensures served { OnOk result (HasServed asked.now) }
 {
     let tier = asked.tier();
     let sizes = divided(asked)?;

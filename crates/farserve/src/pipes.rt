@@ -1,16 +1,26 @@
 //! The named pipes between the server and the gateway. In one folder, `requests0` and `replies0` are those of
 //! worker 0, and so on.
+ghost use Rattle.std.specs.Prelude.{IfOk};
+ghost use Rattle.streams.specs.Ends.{IsUnread, IsUnwritten};
 
 use far_server::{Pipes, PipesFault};
 use std::alloc::Global;
 use std::fs::{File, OpenOptions};
 use std::io::{BufReader, BufWriter};
 use std::rt::Files;
+use streams::{StreamReader, StreamWriter};
 
-/// Bytes that are read or written at once: as many as a pipe holds.
+/// Bytes that a buffer has: as many as a pipe of Linux holds.
 const PIECE: usize = 1 << 16;
 
+/// A pipe that is read.
+pub type Input = BufReader<StreamReader<File>>;
+
+/// A pipe that is written.
+pub type Output = BufWriter<StreamWriter<File>>;
+
 /// Opens two named pipes: `input` to read, then `output` to write. Waits until the gateway opens them too.
+/// No other pipes of this process have the number `pipe`.
 ///
 /// `PipesFault::Io` is returned if the system can't open one, and `PipesFault::Memory` if there is no memory
 /// for their buffers.
@@ -19,7 +29,10 @@ pub fn open_pair<R: Files<File = File>>(
     alloc: Global,
     input: &str,
     output: &str,
-) -> Result<(BufReader<File>, BufWriter<File>), PipesFault> {
+    pipe: u32,
+) -> Result<(Input, Output), PipesFault>
+    ensures { IfOk result (λ both. IsUnread pipe both.0 × IsUnwritten pipe both.1) }
+{
     let Ok(input) = File::open(rt, input) else {
         return Err(PipesFault::Io);
     };
@@ -29,8 +42,8 @@ pub fn open_pair<R: Files<File = File>>(
         return Err(PipesFault::Io);
     };
     let (Ok(input), Ok(output)) = (
-        BufReader::with_capacity(alloc, PIECE, input),
-        BufWriter::with_capacity(alloc, PIECE, output),
+        StreamReader::buffered(alloc, PIECE, input, pipe),
+        StreamWriter::buffered(alloc, PIECE, output, pipe),
     ) else {
         return Err(PipesFault::Memory);
     };
@@ -45,11 +58,11 @@ pub struct NamedPipes<'a> {
 }
 
 impl Pipes for NamedPipes<'_> {
-    ghost opens = { λ _ _ _ _. Unit {0} };
+    ghost opens = { λ _ worker input output. IsUnread worker input × IsUnwritten worker output };
 
-    type Input = BufReader<File>;
+    type Input = Input;
 
-    type Output = BufWriter<File>;
+    type Output = Output;
 
     fn open(&self, alloc: Global, worker: u32) -> Result<(Self::Input, Self::Output), PipesFault> {
         let folder = self.folder;
@@ -59,6 +72,6 @@ impl Pipes for NamedPipes<'_> {
         ) else {
             return Err(PipesFault::Memory);
         };
-        open_pair(&self.rt, alloc, requests.as_str(), replies.as_str())
+        open_pair(&self.rt, alloc, requests.as_str(), replies.as_str(), worker)
     }
 }

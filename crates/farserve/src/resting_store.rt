@@ -3,7 +3,7 @@
 //! A call to a store that is away can take as long as the store may be silent, and others wait for it
 //! meanwhile. A store that refuses writes would be asked again and again, by each caller that needs room. So
 //! after such a failure no call of this kind is made for a while: each fails at once.
-ghost use Rattle.std.specs.Prelude.{false};
+ghost use Rattle.digests.specs.Collisions.{nothing_collided};
 
 use crate::rest::Rest;
 use crate::stores::StoreDevice;
@@ -101,7 +101,7 @@ impl<C: Clock + Drop> Device for RestingStore<'_, C> {
 
     ghost state = { λ device. resting_state device.inner.inner device.rested };
 
-    ghost HONEST = { false };
+    ghost HONEST = { nothing_collided };
 
     fn construct(&mut self) -> Result<(), DeviceFault> {
         self.inner.construct()

@@ -1,5 +1,6 @@
 //! Devices whose objects are in a store that speaks the protocol of Redis.
-ghost use Rattle.std.specs.Prelude.{◌≡◌, false};
+ghost use Rattle.std.specs.Prelude.{◌≡◌};
+ghost use Rattle.digests.specs.Collisions.{nothing_collided};
 ghost use Rattle.resp_device.specs.Devices.{state_in};
 
 use crate::devices::keys_of;
@@ -15,6 +16,9 @@ use std::collections::HashSet;
 use std::fs::File;
 use std::random::RandomSource;
 use std::rt::{Clock, Files};
+
+/// The number of the first device's pipes. Those of the workers have lower ones.
+const LINKS: u32 = 1 << 16;
 
 /// A device over a store. If its last connection is over, it asks for another one. It reports to INFO how
 /// many objects it keeps, and how many of them the store has lost.
@@ -80,7 +84,7 @@ impl<'a> StoreDevice<'a> {
 impl Device for StoreDevice<'_> {
     ghost state = { λ device. state_in device.inner };
 
-    ghost HONEST = { false };
+    ghost HONEST = { nothing_collided };
 
     fn construct(&mut self) -> Result<(), DeviceFault> {
         let before = self.told();
@@ -153,8 +157,13 @@ where
         ) else {
             return Err(FarserveFault::Memory);
         };
-        let Ok((replies, requests)) = open_pair(&rt, alloc, replies.as_str(), requests.as_str())
-        else {
+        let Ok((replies, requests)) = open_pair(
+            &rt,
+            alloc,
+            replies.as_str(),
+            requests.as_str(),
+            LINKS + lane,
+        ) else {
             return Err(FarserveFault::Links);
         };
         let keys = keys_of(&rt)?;

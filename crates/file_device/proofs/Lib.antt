@@ -1,4 +1,6 @@
 mod Classes
+mod Offsets
+mod Files
 mod Owned
 mod Kept
 mod Contents

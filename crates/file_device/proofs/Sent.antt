@@ -15,6 +15,9 @@ use Rattle.file_device.specs.contracts.fault.FileFailure as FileFailure
 use Rattle.file_device.specs.contracts.fault.Step as Step
 use Rattle.std.specs.contracts.io.ErrorKind as ErrorKind
 use Rattle.file_device.specs.contracts.device.FileDevice as FileDevice
+use Rattle.file_device.specs.contracts.file_disk.FileDisk as FileDisk
+use Rattle.file_device.specs.contracts.scratch.ScratchFolder as ScratchFolder
+use Rattle.std.specs.contracts.fs.File as File
 
 ledger_send : IsSend Ledger.the_row
 ledger_send = search (sendable, vecs.crosses, maps.crosses) depth 20
@@ -48,3 +51,15 @@ pub device_send : (K : RattleType) (g : Ghosts K.Denot) → IsSend K → IsSend 
 device_send K g disk =
     let all : FieldsHave IsSend (FileDevice.the_type K g).parts = (search (sendable, disk), (search sendable, (catalog_send, (search (sendable, vecs.crosses), (failures_send, tt))))) in
     declared_send (FileDevice.the_type K g) all
+
+folder_send : (R : RattleType) → IsSend R → IsSend (ScratchFolder.the_row R)
+folder_send R handle =
+    let all : FieldsHave IsSend (ScratchFolder.the_type R).parts = (search (sendable, handle), (search sendable, (search (sendable, vecs.crosses) depth 40, tt))) in
+    declared_send (ScratchFolder.the_type R) all
+
+-- a disk in scratch files, whose handle may
+pub disk_send : (R : RattleType) → IsSend R → IsSend (FileDisk.the_row (ScratchFolder.the_row R) File.the_row)
+disk_send R handle =
+    let folder = folder_send R handle in
+    let all : FieldsHave IsSend (FileDisk.the_type (ScratchFolder.the_row R) File.the_row).parts = (search (sendable, folder), (search (sendable, vecs.crosses) depth 40, (search (sendable, vecs.crosses) depth 40, tt))) in
+    declared_send (FileDisk.the_type (ScratchFolder.the_row R) File.the_row) all

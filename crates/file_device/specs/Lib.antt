@@ -1,9 +1,11 @@
 pub mod Classes
 pub mod Counts
 pub mod Devices
-pub mod Digests
+pub mod Files
 pub mod Folders
+pub mod Honesty
 pub mod Ledgers
+pub mod Offsets
 pub mod Owners
 pub mod Places
 pub mod Slots

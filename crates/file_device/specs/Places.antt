@@ -6,11 +6,11 @@ use Rattle.std.specs.FinMap.{from_entries}
 use Rattle.std.specs.declared.random_state.RandomState.{RandomState}
 use Rattle.far_device.specs.DeviceState.{DeviceState, Contents}
 use Rattle.far_device.specs.Calls.{Labels}
+use Rattle.digests.specs.Digests.{digest_under}
 use Rattle.file_device.specs.declared.slot.Slot.{Slot}
 use Rattle.file_device.specs.declared.place.Place.{Place}
 use Rattle.file_device.specs.declared.ledger.Ledger.{Ledger}
 use Rattle.file_device.specs.Classes.{class_of}
-use Rattle.file_device.specs.Digests.{digest_under}
 use Rattle.file_device.specs.Owners.{owner_in}
 
 -- what was written there

@@ -30,13 +30,15 @@ ghost use Rattle.std.specs.Bool.{OnTrue};
 ghost use Rattle.std.specs.FinMap.{empty, get, len};
 ghost use Rattle.far_device.specs.Calls.{Constructs, Writes, Reads, Removes, count_after};
 ghost use Rattle.far_device.specs.Calls.{ReadsLabelled, AreNone, AreSame, Relabels, label_after};
-ghost use Rattle.file_device.specs.Digests.{GivesAlike, GivesAs};
+ghost use Rattle.digests.specs.Collisions.{nothing_collided};
+ghost use Rattle.digests.specs.Digests.{GivesAlike, GivesAs};
+ghost use Rattle.file_device.specs.Honesty.{is_honest_over};
 ghost use Rattle.file_device.specs.Owners.{owner_in};
-ghost use Rattle.file_device.specs.Places.{AreKept, IsFree};
+ghost use Rattle.file_device.specs.Places.{bytes_at, slot_of, AreKept, IsFree, IsSound};
+ghost use Rattle.file_device.specs.declared.slot.Slot.{Slot};
 
 use crate::catalog::Catalog;
 use crate::class::{CLASSES, LONGEST, class_of};
-use crate::digest::are_alike;
 use crate::failures::Failures;
 use crate::place::Place;
 use crate::{Disk, FileFailure, Slot};
@@ -46,9 +48,11 @@ use std::hash::RandomState;
 
 /// A far device that stores objects in slots of a disk, and an index of them in memory.
 ///
-/// For each object the index has the slot, the length, a digest and the label. It is honest if the disk
-/// is. Whatever the disk does, a read appends bytes with the length and the digest of what was written,
-/// or fails.
+/// For each object the index has the slot, the length, a digest and the label.
+///
+/// Whatever the disk does, a read appends bytes with the length and the digest of what was written, or
+/// fails. So these bytes are what was written, unless a digest collided. Over an honest disk, which
+/// returns what was written, they are so in any case.
 ///
 /// The device has no lock: its user makes one call at a time. A device in scratch files keeps about 61
 /// to 72 bytes of memory for each object. In addition it keeps the room of the longest object written
@@ -177,36 +181,39 @@ impl<K: Disk> FileDevice<K> {
         }
         done
     }
+}
 
-    /// Appends the bytes of the slot to `out`. After an error `out` is as before.
-    ///
-    /// Whatever the disk does, the appended bytes have this length and this digest.
-    fn read_place(
-        &mut self,
-        slot: Slot,
-        len: u32,
-        digest: u64,
-        out: &mut Vec<u8>,
-    ) -> Result<(), DeviceFault>
-        requires { slot.class < 21 }
-        ensures honest { IsTrue K.HONEST → OnOk result
-            (out.new.items ≡ out.old.items ++ take len (K.kept self.old.disk slot)) }
-        ensures alike { OnOk result
-            (GivesAs self.old.keys len digest out.old.items out.new.items) }
-        ensures fault { OnErr result (out.new.items ≡ out.old.items) }
-        ensures counted { self.new.failures.count ≡ count_after result self.old.failures.count }
-        ensures same_index { self.new.catalog.index.entries ≡ self.old.catalog.index.entries }
-    {
-        let before = out.len();
-        if let Err(fault) = self.disk.read_slot(slot, len, out) {
-            return Err(self.failures.of_disk(fault));
-        }
-        if !are_alike(&self.keys, &out[before..], len, digest) {
-            out.truncate(before);
-            return Err(self.failures.add(FileFailure::Damaged));
-        }
-        Ok(())
+/// Appends the bytes of the place to `out`. After an error `out` is as before.
+///
+/// Whatever the disk does, the appended bytes have the length and the digest of what was written there.
+/// So they are what was written, unless a digest collided.
+fn read_place<K: Disk>(
+    disk: &mut K,
+    failures: &mut Failures,
+    keys: &RandomState,
+    place: &Place,
+    out: &mut Vec<u8>,
+) -> Result<(), DeviceFault>
+    requires { IsSound keys.now place.now }
+    ensures honest { IsTrue K.HONEST → OnOk result
+        (out.new.items ≡ out.old.items ++ take place.now.len (K.kept disk.old (slot_of place.now))) }
+    ensures same { IsTrue nothing_collided → OnOk result
+        (out.new.items ≡ out.old.items ++ bytes_at place.now) }
+    ensures alike { OnOk result
+        (GivesAs keys.now place.now.len place.now.digest out.old.items out.new.items) }
+    ensures fault { OnErr result (out.new.items ≡ out.old.items) }
+    ensures counted { failures.new.count ≡ count_after result failures.old.count }
+    ensures kept { (slot : Slot) → K.kept disk.new slot ≡ K.kept disk.old slot }
+{
+    let before = out.len();
+    if let Err(fault) = disk.read_slot(place.slot(), place.len, out) {
+        return Err(failures.of_disk(fault));
     }
+    if !place.fits(keys, &out[before..]) {
+        out.truncate(before);
+        return Err(failures.add(FileFailure::Damaged));
+    }
+    Ok(())
 }
 
 impl<K: Disk> Device for FileDevice<K> {
@@ -214,7 +221,7 @@ impl<K: Disk> Device for FileDevice<K> {
 
     ghost state = { λ device. state_in device };
 
-    ghost HONEST = { K.HONEST };
+    ghost HONEST = { is_honest_over K.HONEST };
 
     ghost labels = { λ device. labels_in device };
 
@@ -250,10 +257,11 @@ impl<K: Disk> Device for FileDevice<K> {
     }
 
     /// Whatever the disk does, the appended bytes have the length and the digest of what was written.
+    /// So they are what was written, unless a digest collided.
     ///
     /// `Failed` if they have not, or if the disk can't read the slot. `Memory` if an allocation fails.
     fn read(&mut self, id: u64, out: &mut Vec<u8>) -> Result<bool, DeviceFault>
-        ensures reads { Reads K.HONEST (state_in self.old) (state_in self.new)
+        ensures reads { Reads (is_honest_over K.HONEST) (state_in self.old) (state_in self.new)
             id out.old.items out.new.items result }
         ensures same_labels { AreSame (labels_in self.old) (labels_in self.new) }
         ensures alike { IfOk result (λ there. OnTrue there (IfSome (get (contents_in self.old) id)
@@ -262,8 +270,7 @@ impl<K: Disk> Device for FileDevice<K> {
         let Some(place) = self.catalog.place(id) else {
             return Ok(false);
         };
-        let (slot, len, digest) = (place.slot(), place.len, place.digest);
-        self.read_place(slot, len, digest, out)?;
+        read_place(&mut self.disk, &mut self.failures, &self.keys, place, out)?;
         Ok(true)
     }
 
@@ -296,21 +303,20 @@ impl<K: Disk> Device for FileDevice<K> {
 
     /// As `read`, if the id has a label. It looks into the index once.
     fn read_labelled(&mut self, id: u64, out: &mut Vec<u8>) -> Result<Option<u32>, DeviceFault>
-        ensures reads { ReadsLabelled K.HONEST (state_in self.old) (state_in self.new)
+        ensures reads { ReadsLabelled (is_honest_over K.HONEST) (state_in self.old) (state_in self.new)
             (labels_in self.old id) id out.old.items out.new.items result }
         ensures same_labels { AreSame (labels_in self.old) (labels_in self.new) }
         ensures alike { IfOk result (λ found. IfSome found (λ label.
             IfSome (get (contents_in self.old) id)
             (λ bytes. GivesAlike (keys_in self.old) bytes out.old.items out.new.items))) }
     {
-        let Some(place) = self.catalog.place(id) else {
+        let Some(found) = self.catalog.place(id) else {
             return Ok(None);
         };
-        let Some(label) = place.label else {
+        let Some(label) = found.label else {
             return Ok(None);
         };
-        let (slot, count, digest) = (place.slot(), place.len, place.digest);
-        self.read_place(slot, count, digest, out)?;
+        read_place(&mut self.disk, &mut self.failures, &self.keys, found, out)?;
         Ok(Some(label))
     }
 

@@ -33,7 +33,8 @@ pub trait Disk: Drop {
 
     /// Appends the first `len` bytes of the slot to `out`. After an error `out` is as before.
     fn read_slot(&mut self, slot: Slot, len: u32, out: &mut Vec<u8>) -> Result<(), DiskFault>
-        requires { slot.class < 21 }
+        requires known { slot.class < 21 }
+        requires fits { len ≤ 64 * 2 ^ slot.class }
         ensures honest { IsTrue HONEST
             → OnOk result (out.new.items ≡ out.old.items ++ take len (kept self.old slot)) }
         ensures appended { OnOk result ((bytes : List ℕ) × (out.new.items ≡ out.old.items ++ bytes)) }

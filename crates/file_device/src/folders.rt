@@ -2,7 +2,7 @@
 ghost use Rattle.std.specs.Prelude.{◌≡◌, ◌<◌, ◌≤◌, length, vec_len, IfOk, IfErr};
 ghost use Rattle.file_device.specs.Folders.{IsOfFolders};
 
-use crate::{DiskFault, FileDevice, FileDisk};
+use crate::{DiskFault, FileDevice, FileDisk, ScratchFolder};
 use std::fs::File;
 use std::random::RandomSource;
 use std::rt::Files;
@@ -32,7 +32,7 @@ pub fn open_lanes<R>(
     rt: R,
     folders: &[&str],
     lanes: u32,
-) -> Result<Vec<FileDevice<FileDisk<R>>>, FolderFault>
+) -> Result<Vec<FileDevice<FileDisk<ScratchFolder<R>>>>, FolderFault>
 where
     R: Files<File = File> + AllocGlobal + RandomSource + Copy + Drop,
     requires some { 0 < length folders.now }

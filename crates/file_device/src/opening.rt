@@ -3,13 +3,15 @@ ghost use Rattle.std.specs.Prelude.{◌≡◌, IfOk};
 ghost use Rattle.std.specs.FinMap.{empty};
 ghost use Rattle.file_device.specs.Devices.{state_in};
 
-use crate::{DiskFault, FileDevice, FileDisk, Step};
+use crate::{DiskFault, FileDevice, FileDisk, ScratchFolder, Step};
 use std::fs::File;
 use std::hash::RandomState;
 use std::random::RandomSource;
 use std::rt::Files;
 
-impl<R: Files<File = File> + AllocGlobal + RandomSource + Clone + Drop> FileDevice<FileDisk<R>> {
+impl<R: Files<File = File> + AllocGlobal + RandomSource + Clone + Drop> FileDevice<
+    FileDisk<ScratchFolder<R>>,
+> {
     /// An empty device in scratch files in the folder, for the lane of this number.
     ///
     /// It draws the keys of the digests. If the system gives no random bytes for them, it returns `Io`

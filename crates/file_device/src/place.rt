@@ -1,9 +1,12 @@
 //! Where an object is on a disk, and how its bytes are checked.
-ghost use Rattle.std.specs.Prelude.{◌≡◌, ◌≤◌, ◌<◌, ◌^◌, length};
+ghost use Rattle.std.specs.Prelude.{◌≡◌, ◌≤◌, ◌<◌, ◌*◌, ◌^◌, IsTrue, length};
+ghost use Rattle.std.specs.Bool.{OnTrue};
+ghost use Rattle.digests.specs.Collisions.{nothing_collided};
+ghost use Rattle.digests.specs.Digests.{digest_under};
 
 use crate::Slot;
 use crate::class::class_of;
-use crate::digest::digest_of;
+use digests::{are_same, digest_of};
 use std::hash::RandomState;
 use std::snapshot::Snapshot;
 
@@ -40,9 +43,21 @@ impl Place {
         }
     }
 
+    /// Whether the bytes have the length and the digest of what was written. If so, they are what was
+    /// written, unless a digest collided.
+    pub(crate) fn fits(&self, keys: &RandomState, bytes: &[u8]) -> bool
+        requires { IsSound keys.now self.now }
+        ensures alike { OnTrue result
+            ((length bytes.now ≡ self.now.len) × (digest_under keys.now bytes.now ≡ self.now.digest)) }
+        ensures same { IsTrue nothing_collided → OnTrue result (bytes.now ≡ bytes_at self.now) }
+    {
+        are_same(keys, bytes, self.len, self.digest, &self.written)
+    }
+
     pub(crate) fn slot(&self) -> Slot
         ensures value { result ≡ slot_of self.now }
         ensures known { result.class < 21 }
+        ensures fits { self.now.len ≤ 64 * 2 ^ result.class }
     {
         Slot {
             class: class_of(self.len),

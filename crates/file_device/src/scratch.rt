@@ -1,4 +1,4 @@
-//! A disk in scratch files.
+//! A folder of scratch files.
 //!
 //! # Which files are made
 //!
@@ -10,8 +10,6 @@
 //! and CLASS are the numbers of lane and class. Only the process's user may read and write it (mode
 //! 600). Its name is removed at once, and the open file goes on without a name. So a folder shows no
 //! file of a disk in use.
-//!
-//! Slot n is at n times the slot's size, so an object is usually read or written by one system call.
 //!
 //! # What is locked
 //!
@@ -35,43 +33,33 @@
 //!
 //! # A damaged file
 //!
-//! No clause can say that a file returns what was written, so `HONEST` is false. A file that is too
-//! short is `Io` with `Step::Read`. A `FileDevice` finds changed bytes by their digest, and returns
+//! No clause can say that a file returns what was written, so `HONEST` of a file is false. A file that is
+//! too short is `Io` with `Step::Read`. A `FileDevice` finds changed bytes by their digest, and returns
 //! `Failed`.
-ghost use Rattle.std.specs.Prelude.{◌≡◌, ◌≤◌, ◌<◌, false, [], length, OnOk};
+ghost use Rattle.std.specs.Prelude.{false};
 
-use crate::class::CLASSES;
 use crate::names::{BEFORE, BEHIND, is_scratch};
-use crate::{Disk, DiskFault, Slot, Step};
+use crate::slot_file::{SlotFile, SlotFolder};
+use crate::{DiskFault, FileDisk, Step};
 use std::alloc::Global;
+use std::fs;
 use std::fs::{File, OpenOptions};
 use std::io::ErrorKind;
 use std::os::unix::fs::{FileExt, OpenOptionsExt};
 use std::random::RandomSource;
 use std::rt::Files;
-use std::{array, fs};
 
-/// A slot of class 0 has 2 to this power of bytes.
-const SMALLEST_BITS: u32 = 6;
-
-/// A disk in scratch files without names, in a folder. The head of this module says what happens to
-/// them.
-///
-/// They are far memory, not a database: their bytes are lost when the disk is dropped or the process
-/// ends.
+/// A folder in which a disk has scratch files without names. The head of this module says what happens
+/// to them.
 #[derive(Drop)]
-pub struct FileDisk<R> {
+pub struct ScratchFolder<R> {
     rt: R,
     alloc: Global,
     // The folder, and how the names of the files begin.
     stem: String,
-    opened: [Option<File>; CLASSES],
-    // A buffer as long as the longest read so far. It is kept, so that a read seldom has to zero it
-    // first.
-    room: Vec<u8>,
 }
 
-impl<R: Files<File = File> + AllocGlobal + RandomSource + Clone + Drop> FileDisk<R> {
+impl<R: Files<File = File> + AllocGlobal + RandomSource + Clone + Drop> FileDisk<ScratchFolder<R>> {
     /// An empty disk in the folder, for the lane of this number.
     ///
     /// It removes the names of scratch files that killed processes left in the folder, as far as it
@@ -87,47 +75,12 @@ impl<R: Files<File = File> + AllocGlobal + RandomSource + Clone + Drop> FileDisk
             return Err(DiskFault::Io(Step::Random, error.kind()));
         }
         let token = u64::from_le_bytes(token);
-        let mut disk = FileDisk {
+        let folder = ScratchFolder {
             rt,
             alloc,
             stem: format!(in alloc; "{folder}/{BEFORE}{token:016x}-{lane}-")?,
-            opened: array::from_fn(|_| None),
-            room: Vec::new(alloc),
         };
-        disk.file(0)?;
-        Ok(disk)
-    }
-}
-
-impl<R: Files<File = File>> FileDisk<R> {
-    /// How long all files are together, in bytes. That includes parts that were never written. `Io`
-    /// with `Step::Read` if the system does not say how long one is.
-    pub fn len(&self) -> Result<u64, DiskFault> {
-        let mut sum = 0u64;
-        for place in &self.opened {
-            if let Some(file) = place {
-                match file.metadata() {
-                    Ok(metadata) => sum = sum.saturating_add(metadata.len()),
-                    Err(error) => return Err(DiskFault::Io(Step::Read, error.kind())),
-                }
-            }
-        }
-        Ok(sum)
-    }
-
-    /// The file of the class. It is made if there is none.
-    fn file(&mut self, class: u8) -> Result<&File, DiskFault>
-        requires { class < 21 }
-    {
-        let place = &mut self.opened[class as usize];
-        if place.is_none() {
-            let name = format!(in self.alloc; "{}{class}{BEHIND}", self.stem)?;
-            *place = Some(open_unnamed(&self.rt, name.as_str())?);
-        }
-        match place {
-            Some(file) => Ok(file),
-            None => Err(DiskFault::Io(Step::Open, ErrorKind::NotFound)),
-        }
+        FileDisk::new(alloc, folder)
     }
 }
 
@@ -183,57 +136,45 @@ fn open_unnamed<R: Files<File = File>>(rt: &R, name: &str) -> Result<File, DiskF
     }
 }
 
-/// Where the slot begins in the file of its class, in bytes.
-fn offset_of(slot: Slot) -> u64
-    requires { slot.class < 21 }
-{
-    u64::from(slot.number) << (SMALLEST_BITS + u32::from(slot.class))
-}
+impl<R: Files<File = File> + Drop> SlotFolder for ScratchFolder<R> {
+    type File = File;
 
-/// Makes the buffer at least this long.
-fn grow(room: &mut Vec<u8>, count: usize) -> Result<(), DiskFault>
-    ensures { OnOk result (count ≤ length room.new.items) }
-{
-    if room.len() < count {
-        room.resize(count, 0)?;
+    fn make(&mut self, class: u8) -> Result<File, DiskFault> {
+        let name = format!(in self.alloc; "{}{class}{BEHIND}", self.stem)?;
+        open_unnamed(&self.rt, name.as_str())
     }
-    Ok(())
 }
 
-impl<R: Files<File = File> + Drop> Disk for FileDisk<R> {
+impl SlotFile for File {
     ghost HONEST = { false };
 
-    ghost kept = { λ disk slot. [] };
+    ghost byte = { λ file place. 0 };
 
-    fn write_slot(&mut self, slot: Slot, bytes: &[u8]) -> Result<(), DiskFault> {
-        let file = self.file(slot.class)?;
-        match file.write_all_at(bytes, offset_of(slot)) {
+    fn write(&mut self, bytes: &[u8], at: u64) -> Result<(), DiskFault> {
+        match self.write_all_at(bytes, at) {
             Ok(()) => Ok(()),
             Err(error) => Err(DiskFault::Io(Step::Write, error.kind())),
         }
     }
 
-    fn read_slot(&mut self, slot: Slot, len: u32, out: &mut Vec<u8>) -> Result<(), DiskFault> {
-        let count = len as usize;
-        grow(&mut self.room, count)?;
-        let part = &mut self.room[..count];
-        let Some(file) = &self.opened[slot.class as usize] else {
-            return Err(DiskFault::Io(Step::Read, ErrorKind::NotFound));
-        };
-        if let Err(error) = file.read_exact_at(part, offset_of(slot)) {
-            return Err(DiskFault::Io(Step::Read, error.kind()));
+    fn read(&self, buffer: &mut [u8], at: u64) -> Result<(), DiskFault> {
+        match self.read_exact_at(buffer, at) {
+            Ok(()) => Ok(()),
+            Err(error) => Err(DiskFault::Io(Step::Read, error.kind())),
         }
-        out.extend_from_slice(part)?;
-        Ok(())
     }
 
-    fn clear(&mut self, class: u8) -> Result<(), DiskFault> {
-        let Some(file) = &self.opened[class as usize] else {
-            return Ok(());
-        };
-        match file.set_len(0) {
+    fn clear(&mut self) -> Result<(), DiskFault> {
+        match self.set_len(0) {
             Ok(()) => Ok(()),
             Err(error) => Err(DiskFault::Io(Step::Cut, error.kind())),
+        }
+    }
+
+    fn len(&self) -> Result<u64, DiskFault> {
+        match self.metadata() {
+            Ok(metadata) => Ok(metadata.len()),
+            Err(error) => Err(DiskFault::Io(Step::Read, error.kind())),
         }
     }
 }

@@ -2,12 +2,13 @@
 
 use crate::calls::{BrokenDevice, call};
 use crate::disks::{Disks, FlawedDisk, flaw_of};
+use crate::recorded_files::{Notes, Recorded, RecordedFolder};
 use crate::stores;
 use crate::world::{World, run, shown};
 use anyhow::{Result, bail};
 use case_files::{Line, Playing};
 use far_device::{CannedDevice, Device, FakeDevice, FaultyDevice, LyingDevice, WatchedDevice};
-use file_device::{FileDevice, MemoryDisk};
+use file_device::{FileDevice, FileDisk, MemoryDisk};
 use std::alloc::Global;
 use std::env;
 use std::fs::File;
@@ -90,7 +91,13 @@ pub(crate) fn has(first: &Line, name: &str) -> bool {
     first.has(name)
 }
 
-pub(crate) fn play<R>(rt: &R, alloc: Global, first: &Line, playing: &mut Playing<'_>) -> Result<()>
+pub(crate) fn play<R>(
+    rt: &R,
+    host: HostRuntime,
+    alloc: Global,
+    first: &Line,
+    playing: &mut Playing<'_>,
+) -> Result<()>
 where
     R: AllocGlobal + Env + Files<File = File> + RandomSource + Copy + Drop + Send + Sync,
 {
@@ -104,11 +111,14 @@ where
         }
         Some(b"nested") => nested(alloc, first, playing),
         Some(b"memory") => in_memory(rt, alloc, first, playing),
-        Some(b"file") => in_files(rt, alloc, first, playing),
+        Some(b"file") => in_files(host, alloc, first, playing),
         Some(b"flawed") => flawed(rt, alloc, first, playing),
+        Some(b"recorded") => recorded(rt, alloc, first, playing),
         Some(b"store") => stores::play_store(rt, alloc, first, playing),
         Some(b"peer") => stores::play_peer(rt, alloc, first, playing),
-        _ => bail!("a device is fake, broken, nested, memory, file, flawed, store or peer"),
+        _ => bail!(
+            "a device is fake, broken, nested, memory, file, flawed, recorded, store or peer"
+        ),
     }
 }
 
@@ -141,12 +151,9 @@ fn in_memory<R: RandomSource>(
 }
 
 /// In scratch files, in the system's folder for such.
-fn in_files<R>(rt: &R, alloc: Global, first: &Line, playing: &mut Playing<'_>) -> Result<()>
-where
-    R: AllocGlobal + Env + Files<File = File> + RandomSource + Copy + Drop + Send,
-{
-    let folder = env::temp_dir(rt)?;
-    let device = FileDevice::open(*rt, folder.as_str(), 3)?;
+fn in_files(rt: HostRuntime, alloc: Global, first: &Line, playing: &mut Playing<'_>) -> Result<()> {
+    let folder = env::temp_dir(&rt)?;
+    let device = FileDevice::open(rt, folder.as_str(), 3)?;
     if is_wrapped(first) {
         return wrapped(alloc, device, first, playing);
     }
@@ -166,6 +173,31 @@ fn flawed<R: RandomSource>(
     let disk = FlawedDisk::new(alloc, flaw_of(first)?, every);
     let device = FileDevice::new(alloc, disk, RandomState::new(rt)?);
     run(alloc, first, playing, &mut Disks { alloc, device });
+    Ok(())
+}
+
+/// In files that note their calls. If the first file can't be made, the opening fails.
+fn recorded<R: RandomSource>(
+    rt: &R,
+    alloc: Global,
+    first: &Line,
+    playing: &mut Playing<'_>,
+) -> Result<()> {
+    let Some(fails) = first.number_named("fails", 0) else {
+        bail!("fails= is a number");
+    };
+    let notes = Arc::new(alloc, Notes::new(fails))?;
+    let folder = RecordedFolder {
+        alloc,
+        notes: notes.clone()?,
+    };
+    let device = FileDevice::new(alloc, FileDisk::new(alloc, folder)?, RandomState::new(rt)?);
+    let mut world = Recorded {
+        alloc,
+        device,
+        notes,
+    };
+    run(alloc, first, playing, &mut world);
     Ok(())
 }
 

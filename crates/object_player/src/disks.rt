@@ -5,11 +5,14 @@ use crate::runs;
 use crate::world::{World, fault, flag, number, shown, text};
 use anyhow::{Result, bail};
 use case_files::Line;
-use file_device::{CLASSES, Disk, DiskFault, FileDevice, FileDisk, MemoryDisk, Slot, Step};
+use file_device::{
+    CLASSES, Disk, DiskFault, FileDevice, FileDisk, MemoryDisk, Slot, SlotFolder, Step,
+};
 use std::alloc::Global;
-use std::fs::File;
 use std::io::ErrorKind;
-use std::rt::Files;
+
+/// The most bytes of a slot.
+const LARGEST: usize = 64 << 20;
 
 /// A disk that a case looks at.
 pub(crate) trait Seen: Disk {
@@ -30,7 +33,7 @@ impl Seen for MemoryDisk {
     }
 }
 
-impl<R: Files<File = File> + Drop> Seen for FileDisk<R> {
+impl<D: SlotFolder> Seen for FileDisk<D> {
     fn file_bytes(&self) -> Result<u64> {
         Ok(self.len()?)
     }
@@ -123,6 +126,10 @@ pub(crate) enum Flaw {
     Lengthened,
     /// A write is not made, so the slot gives what it had before.
     Forgotten,
+    /// Of a write only the first half reaches the disk. Behind it the slot has what it had.
+    Torn,
+    /// A read gives the bytes of the slot beside it.
+    Neighbour,
     /// A call fails.
     Failing,
 }
@@ -134,8 +141,12 @@ pub(crate) fn flaw_of(first: &Line) -> Result<Flaw> {
         Some(b"shortened") => Ok(Flaw::Shortened),
         Some(b"lengthened") => Ok(Flaw::Lengthened),
         Some(b"forgotten") => Ok(Flaw::Forgotten),
+        Some(b"torn") => Ok(Flaw::Torn),
+        Some(b"neighbour") => Ok(Flaw::Neighbour),
         Some(b"failing") => Ok(Flaw::Failing),
-        _ => bail!("flaw= is flipped_bit, shortened, lengthened, forgotten or failing"),
+        _ => bail!(
+            "flaw= is flipped_bit, shortened, lengthened, forgotten, torn, neighbour or failing"
+        ),
     }
 }
 
@@ -215,6 +226,16 @@ impl Disk for FlawedDisk {
         if self.has(Flaw::Forgotten) {
             return Ok(());
         }
+        if self.has(Flaw::Torn) {
+            let front = &bytes[..bytes.len() / 2];
+            let len = bytes.len().min(LARGEST) as u32;
+            self.room.clear();
+            self.inner.read_slot(slot, len, &mut self.room)?;
+            self.room.resize(bytes.len(), 0)?;
+            self.room[..front.len()].copy_from_slice(front);
+            let len = self.room.len().min(bytes.len());
+            return self.inner.write_slot(slot, &self.room[..len]);
+        }
         self.inner.write_slot(slot, bytes)
     }
 
@@ -228,7 +249,15 @@ impl Disk for FlawedDisk {
             return Err(DiskFault::Io(Step::Read, ErrorKind::Other));
         }
         self.room.clear();
-        self.inner.read_slot(slot, len, &mut self.room)?;
+        let from = if self.has(Flaw::Neighbour) {
+            Slot {
+                class: slot.class,
+                number: slot.number ^ 1,
+            }
+        } else {
+            slot
+        };
+        self.inner.read_slot(from, len, &mut self.room)?;
         if spoils(self.flaw) && !self.room.is_empty() && self.has(self.flaw) {
             spoil(&mut self.room, self.flaw)?;
         }

@@ -8,6 +8,7 @@ mod devices;
 mod disks;
 mod encodings;
 mod folders;
+mod keyed_digests;
 mod logs;
 mod many;
 mod migrations;
@@ -16,6 +17,7 @@ mod objects;
 mod orders;
 mod peers;
 mod pipes;
+mod recorded_files;
 mod replies;
 mod requests;
 mod runs;
@@ -43,12 +45,13 @@ pub const OPENINGS: &[&str] = &[
     "migration",
     "device",
     "folders",
+    "digests",
     "pipes",
     "resp",
 ];
 
-/// Plays the case from its first line, which opens what the others call.
-pub fn play<R>(rt: &R, alloc: Global, playing: &mut Playing<'_>)
+/// Plays the case from its first line, which opens what the others call. Files are opened by `host`.
+pub fn play<R>(rt: &R, host: HostRuntime, alloc: Global, playing: &mut Playing<'_>)
 where
     R: AllocGlobal + Env + Files<File = File> + RandomSource + Threads + Copy + Drop + Send + Sync,
 {
@@ -56,7 +59,7 @@ where
         return;
     };
     for _ in 0..2 {
-        let Err(mistake) = open(rt, alloc, first, playing) else {
+        let Err(mistake) = open(rt, host, alloc, first, playing) else {
             return;
         };
         let reply = world::refused_or(alloc, Err(mistake));
@@ -67,7 +70,13 @@ where
 }
 
 /// Opens what the line says, and plays the rest of the case.
-fn open<R>(rt: &R, alloc: Global, first: &Line, playing: &mut Playing<'_>) -> Result<()>
+fn open<R>(
+    rt: &R,
+    host: HostRuntime,
+    alloc: Global,
+    first: &Line,
+    playing: &mut Playing<'_>,
+) -> Result<()>
 where
     R: AllocGlobal + Env + Files<File = File> + RandomSource + Threads + Copy + Drop + Send + Sync,
 {
@@ -79,8 +88,9 @@ where
         "log" => logs::play(alloc, first, playing),
         "words" => words::play(alloc, first, playing),
         "migration" => migrations::play(alloc, first, playing),
-        "device" => devices::play(rt, alloc, first, playing),
-        "folders" => folders::play(rt, alloc, first, playing),
+        "device" => devices::play(rt, host, alloc, first, playing),
+        "folders" => folders::play(host, alloc, first, playing),
+        "digests" => keyed_digests::play(rt, alloc, first, playing),
         "pipes" => pipes::play(rt, alloc, first, playing),
         "resp" => requests::play(alloc, first, playing),
         _ => bail!("nothing is opened by this call"),

@@ -1,7 +1,7 @@
 -- Packets as they are spelled, and what a reader and a writer tell of them.
-use Rattle.std.specs.Prelude.{◌≡◌, ℕ, Bool, false, List, [], ◌∷◌, ◌++◌, length, Option}
+use Rattle.std.specs.Prelude.{◌≡◌, ℕ, Bool, false, List, [], ◌∷◌, ◌++◌, length, Option, IfSome}
 use Rattle.std.specs.Int.{w32, w64, to_be_bytes}
-use Rattle.std.specs.Io.KnownBytes.{Consumes, Appends}
+use Rattle.std.specs.Io.KnownBytes.{Consumes, Appends, IsAtEnd}
 use Rattle.request_loop.specs.declared.packet.Kind.{Kind}
 use Rattle.request_loop.specs.declared.packet.Kind.TheVariants.{Data, Open, Close, Wake, LetIn, LetOut, Note, Holds}
 use Rattle.request_loop.specs.declared.wire.Wire.{Wire}
@@ -43,6 +43,10 @@ TellsRead began now broken came = (part : List ℕ) × (broken ≡ false → par
 -- the writer has got these packets, and where it failed a part of another
 abbrev pub TellsWritten : Option (List ℕ) → Option (List ℕ) → Bool → List Packet → Type 0
 TellsWritten began now broken sent = (part : List ℕ) × (broken ≡ false → part ≡ []) × Appends began now (packets_bytes sent ++ part)
+
+-- of a first reader that tells its bytes none is left in the second
+abbrev pub WireEnded : {R W : Type 0} → (R → Option (List ℕ)) → Wire R W → Wire R W → Type 0
+WireEnded remaining v w = IfSome (remaining v.input) (λ bytes. IsAtEnd (remaining w.input))
 
 -- what both of them tell
 abbrev pub WireTells : {R W : Type 0} → (R → Option (List ℕ)) → (W → Option (List ℕ)) → Wire R W → Wire R W → List Packet → List Packet → Type 0

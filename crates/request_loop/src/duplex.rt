@@ -1,5 +1,5 @@
 //! The trait of what packets are read from and written to.
-ghost use Rattle.std.specs.Prelude.{◌≡◌, ℕ, List, [], ◌∷◌, ◌++◌, IfOk, OnOk, OnErr, MatchOption};
+ghost use Rattle.std.specs.Prelude.{◌≡◌, ℕ, List, [], ◌∷◌, ◌++◌, Ok, None, IfOk, OnOk, OnErr, MatchOption};
 ghost use Rattle.resp.specs.declared.limits.Limits.{Limits as limits_of_requests};
 ghost use Rattle.request_loop.specs.Workers.{Packet, AreSettled};
 
@@ -22,6 +22,9 @@ pub trait Duplex {
     /// Whether only whole packets were read and written.
     ghost whole: { Self → Type 0 };
 
+    /// Whether nothing that the first state had to read is left in the second.
+    ghost ended: { Self → Self → Type 0 };
+
     /// The limits of requests on its connections.
     ghost limits: { Self → limits_of_requests };
 
@@ -43,6 +46,7 @@ pub trait Duplex {
         ensures came { IfOk result (λ r. MatchOption r
             ((start : Self) (came sent : List Packet) → tells start self.old came sent → tells start self.new came sent)
             (λ h. (start : Self) (came sent : List Packet) → tells start self.old came sent → tells start self.new (came ++ record { head = h; bytes = room.new.items } ∷ []) sent)) }
+        ensures end { result ≡ Ok None → (start : Self) (came sent : List Packet) → tells start self.old came sent → ended start self.new }
         ensures failed { OnErr result ((start : Self) (came sent : List Packet) → tells start self.old came sent → tells start self.new came sent) }
         ensures whole { OnOk result (whole self.new) }
         ensures limits { limits self.new ≡ limits self.old };

@@ -1,5 +1,5 @@
 //! Reads packets from a reader.
-ghost use Rattle.std.specs.Prelude.{◌≡◌, ℕ, ◌+◌, ◌≤◌, List, true, length, IfOk, IfSome, OnErr, MatchOption};
+ghost use Rattle.std.specs.Prelude.{◌≡◌, ℕ, ◌+◌, ◌<◌, ◌≤◌, List, [], ◌++◌, true, false, length, Some, None, Ok, IfOk, IfSome, OnErr, MatchOption};
 ghost use Rattle.std.specs.Int.{w32, w64, from_be_bytes};
 ghost use Rattle.std.specs.Io.KnownBytes.{Keeps, prepend_known, Consumes};
 ghost use Rattle.request_loop.specs.Packets.{kind_byte, packet_bytes};
@@ -17,6 +17,7 @@ fn move_some<R: BufRead>(
 ) -> Result<Option<usize>, PacketFault>
     ensures moved { Keeps (prepend_known room.old.items (R.remaining input.old)) (prepend_known room.new.items (R.remaining input.new)) }
     ensures count { IfOk result (λ r. MatchOption r (length room.new.items ≡ length room.old.items) (λ n. (length room.new.items ≡ length room.old.items + n) × (n ≤ most))) }
+    ensures end { result ≡ Ok (Some 0) → 0 < most → IfSome (R.remaining input.old) (λ bytes. bytes ≡ []) }
 {
     let available = match input.fill_buf() {
         Ok(available) => available,
@@ -45,6 +46,7 @@ fn move_all<R: BufRead>(
 ) -> Result<bool, PacketFault>
     ensures moved { Keeps (prepend_known room.old.items (R.remaining input.old)) (prepend_known room.new.items (R.remaining input.new)) }
     ensures all { IfOk result (λ whole. whole ≡ true → length room.new.items ≡ length room.old.items + count) }
+    ensures end { result ≡ Ok false → IfSome (R.remaining input.old) (λ bytes. length room.new.items ≡ length (room.old.items ++ bytes)) }
 {
     let mut left = count;
     for round in 0..u64::MAX {
@@ -105,6 +107,7 @@ pub(crate) fn read_packet<R: BufRead>(
     room: &mut Vec<u8>,
 ) -> Result<Option<Head>, PacketFault>
     ensures read { IfOk result (λ r. MatchOption r (Keeps (R.remaining input.old) (R.remaining input.new)) (λ h. Consumes (R.remaining input.old) (R.remaining input.new) (packet_bytes (record { head = h; bytes = room.new.items })))) }
+    ensures end { result ≡ Ok None → IfSome (R.remaining input.old) (λ bytes. bytes ≡ []) }
     ensures part { OnErr result ((part : List ℕ) × Consumes (R.remaining input.old) (R.remaining input.new) part) }
 {
     header.clear();

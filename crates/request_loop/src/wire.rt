@@ -1,6 +1,6 @@
 //! A `Duplex` over a reader and a writer.
 ghost use Rattle.std.specs.Prelude.{◌≡◌, [], false};
-ghost use Rattle.request_loop.specs.Packets.{WireTells};
+ghost use Rattle.request_loop.specs.Packets.{WireEnded, WireTells};
 
 use crate::duplex::Duplex;
 use crate::fault::PacketFault;
@@ -46,6 +46,8 @@ impl<R: BufRead, W: Write> Duplex for Wire<R, W> {
     ghost tells = { λ v w came sent. WireTells R.remaining W.contents v w came sent };
 
     ghost whole = { λ w. w.broken ≡ false };
+
+    ghost ended = { λ v w. WireEnded R.remaining v w };
 
     ghost limits = { λ w. w.limits };
 

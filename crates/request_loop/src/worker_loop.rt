@@ -39,6 +39,8 @@ pub fn serve_on<D: Duplex, S: Service>(
     ensures stood { IfOk result (λ left. GoesOnBy D.tells S.does (D.limits duplex.old) duplex.old duplex.new service.old service.new holds left.1) }
     ensures woken { IfOk result (λ left. left.0 ≡ Pause.Wake → (before : S) × S.does before (Awake Woken.Leave) service.new) }
     ensures whole { OnOk result (D.whole duplex.new) }
+    // If no more packets come, all were read.
+    ensures ended { IfOk result (λ left. left.0 ≡ Pause.End → (start : D) (past : List (Mark Exchange)) → Standing D.tells (D.limits duplex.old) start duplex.old holds past → D.ended start duplex.new) }
     ensures fault { OnErr result ((start : D) (past : List (Mark Exchange)) → Standing D.tells (D.limits duplex.old) start duplex.old holds past → Faulty D.tells S.does (D.limits duplex.old) past start duplex.new service.old) }
     ensures limits { D.limits duplex.new ≡ D.limits duplex.old }
 {

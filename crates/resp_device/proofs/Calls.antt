@@ -1,13 +1,14 @@
 -- What a call of a device says, by what its index says.
-use Rattle.std.proofs.Common.{◌≡◌, ℕ, ◌+◌, ◌-◌, ◌^◌, min, true, false, List, [], ◌++◌, length, Option, Some, None, Ok, Err, refl, sym, ap, ◌∙◌, subst}
+use Rattle.std.proofs.Common.{◌≡◌, ℕ, ◌+◌, ◌-◌, ◌^◌, min, true, false, IsTrue, List, [], ◌++◌, length, Option, Some, None, Ok, Err, refl, sym, ap, ◌∙◌, subst}
 use Rattle.std.specs.Option.{is_some, IfSome}
 use Rattle.std.specs.FinMap.{get}
 use Rattle.std.specs.declared.random_state.RandomState.{RandomState}
+use Rattle.digests.specs.Collisions.{nothing_collided}
+use Rattle.digests.specs.Digests.{digest_under, GivesAlike}
 use Rattle.far_device.specs.Calls.{Reads, Removes, Writes}
 use Rattle.far_device.specs.declared.fault.DeviceFault.{DeviceFault}
 use Rattle.far_device.specs.declared.fault.DeviceFault.TheVariants.{Memory, Failed}
 use Rattle.resp_device.specs.declared.object_record.Kept.{Kept}
-use Rattle.resp_device.specs.Digests.{digest_under, GivesAlike}
 use Rattle.resp_device.specs.Objects.{kept_at, bytes_of, contents_of, state_of, ChangesAt, IsSound}
 use Rattle.resp_device.proofs.Contents.{contains_key-contents_of, get-at_kept, contents_of-insert, contents_of-remove, same_elsewhere, absent_stays, changed_twice}
 
@@ -16,22 +17,24 @@ none_there : (found : Option Kept) → is_some found ≡ false → found ≡ Non
 none_there None is = refl
 none_there (Some kept) is = cc
 
-pub reads_absent : (entries : List (ℕ × Kept)) (failures id : ℕ) (before : List ℕ) → kept_at entries id ≡ None → Reads false (state_of entries failures) (state_of entries failures) id before before (Ok false)
+pub reads_absent : (entries : List (ℕ × Kept)) (failures id : ℕ) (before : List ℕ) → kept_at entries id ≡ None → Reads nothing_collided (state_of entries failures) (state_of entries failures) id before before (Ok false)
 reads_absent entries failures id before none = record {
   found = sym (ap is_some none) ∙ sym (contains_key-contents_of entries id);
   appended = tt;
-  honest = λ never. cc;
+  honest = λ then. tt;
   absent = refl;
   fault = tt;
   kept = refl;
   counted = refl;
 }
 
-pub reads_there : (entries : List (ℕ × Kept)) (failures id : ℕ) (kept : Kept) (before given after : List ℕ) → Some kept ≡ kept_at entries id → after ≡ before ++ given → Reads false (state_of entries failures) (state_of entries failures) id before after (Ok true)
-reads_there entries failures id kept before given after found appends = record {
+pub reads_there : (entries : List (ℕ × Kept)) (failures id : ℕ) (kept : Kept) (before given after : List ℕ) → Some kept ≡ kept_at entries id → after ≡ before ++ given → (IsTrue nothing_collided → given ≡ bytes_of kept) → Reads nothing_collided (state_of entries failures) (state_of entries failures) id before after (Ok true)
+reads_there entries failures id kept before given after found appends same = record {
   found = ap is_some found ∙ sym (contains_key-contents_of entries id);
   appended = (given, appends);
-  honest = λ never. cc;
+  honest = λ then.
+      let P : Option (List ℕ) → Type 0 = λ o. IfSome o (λ bytes. after ≡ before ++ bytes) in
+      subst P (sym (get-at_kept entries id kept found)) (appends ∙ ap (λ (l : List ℕ). before ++ l) (same then));
   absent = tt;
   fault = tt;
   kept = refl;

@@ -3,9 +3,9 @@ use Rattle.std.specs.Prelude.{◌≡◌, ℕ, List, length, map, cond, Option, S
 use Rattle.std.specs.Map.{lookup}
 use Rattle.std.specs.FinMap.{from_entries}
 use Rattle.std.specs.declared.random_state.RandomState.{RandomState}
+use Rattle.digests.specs.Digests.{digest_under}
 use Rattle.far_device.specs.DeviceState.{DeviceState, Contents}
 use Rattle.resp_device.specs.declared.object_record.Kept.{Kept}
-use Rattle.resp_device.specs.Digests.{digest_under}
 
 -- what was written
 abbrev pub bytes_of : Kept → List ℕ

@@ -3,14 +3,14 @@ ghost use Rattle.std.specs.Prelude.{◌≡◌, ◌+◌, ◌%◌, ◌^◌, true, 
 ghost use Rattle.std.specs.Bool.{OnTrue, OnFalse};
 ghost use Rattle.std.specs.Option.{IfSome};
 ghost use Rattle.std.specs.FinMap.{empty, get, len};
+ghost use Rattle.digests.specs.Collisions.{nothing_collided};
+ghost use Rattle.digests.specs.Digests.{GivesAlike};
 ghost use Rattle.far_device.specs.Calls.{Constructs, Writes, Reads, Removes};
-ghost use Rattle.resp_device.specs.Digests.{GivesAlike};
 ghost use Rattle.resp_device.specs.Failures.{LivesOn};
 ghost use Rattle.resp_device.specs.Objects.{AreSound};
 ghost use Rattle.resp_device.specs.Wire.{IsStored, IsFetched, IsDeleted};
 
 use crate::StoreFailure;
-use crate::digest::are_alike;
 use crate::failures::Failures;
 use crate::index::Index;
 use crate::link::{Link, part};
@@ -111,7 +111,7 @@ impl<P: Read + Write + Drop> Device for RespDevice<P> {
 
     ghost state = { λ device. state_in device };
 
-    ghost HONEST = { false };
+    ghost HONEST = { nothing_collided };
 
     /// Never fails, and leaves the pipes alone: the next prefix is taken, and what lies under the old one
     /// stays in the store.
@@ -162,10 +162,13 @@ impl<P: Read + Write + Drop> Device for RespDevice<P> {
         }
     }
 
-    /// Whatever the store does, what comes has the length and the digest of what was written; where it
-    /// has not, the call answers `Failed`.
+    /// Whatever the store does, the appended bytes have the length and the digest of what was written.
+    /// So they are what was written, unless a digest collided.
+    ///
+    /// `Failed` if they have not, if the store has lost the object, or if the pipes fail. `Memory` if
+    /// an allocation fails.
     fn read(&mut self, id: u64, out: &mut Vec<u8>) -> Result<bool, DeviceFault>
-        ensures reads { Reads false (state_in self.old) (state_in self.new)
+        ensures reads { Reads nothing_collided (state_in self.old) (state_in self.new)
             id out.old.items out.new.items result }
         ensures alike { IfOk result (λ there. OnTrue there (IfSome (get (contents_in self.old) id)
             (λ bytes. GivesAlike (keys_in self.old) bytes out.old.items out.new.items))) }
@@ -181,15 +184,14 @@ impl<P: Read + Write + Drop> Device for RespDevice<P> {
         let Some(kept) = self.index.kept(id) else {
             return Ok(false);
         };
-        let (len, digest) = (kept.len, kept.digest);
         self.requests.get(id)?;
-        self.link.make_ready(len)?;
-        let span = match self.link.fetch(&self.requests.request, len) {
+        self.link.make_ready(kept.len)?;
+        let span = match self.link.fetch(&self.requests.request, kept.len) {
             Ok(span) => span,
             Err(why) => return Err(self.failures.add(why)),
         };
         let bytes = part(&self.link.room, span);
-        if !are_alike(&self.keys, bytes, len, digest) {
+        if !kept.fits(&self.keys, bytes) {
             return Err(self.failures.add(StoreFailure::Damaged));
         }
         out.extend_from_slice(bytes)?;

@@ -2,7 +2,6 @@
 #![tactic(auto)]
 
 mod device;
-mod digest;
 mod exchange;
 mod failures;
 mod fault;

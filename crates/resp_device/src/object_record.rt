@@ -1,7 +1,10 @@
 //! What is known of an object in the store.
-ghost use Rattle.std.specs.Prelude.{◌≡◌, ◌≤◌, ◌^◌, length};
+ghost use Rattle.std.specs.Prelude.{◌≡◌, ◌≤◌, ◌^◌, IsTrue, length};
+ghost use Rattle.std.specs.Bool.{OnTrue};
+ghost use Rattle.digests.specs.Collisions.{nothing_collided};
+ghost use Rattle.digests.specs.Digests.{digest_under};
 
-use crate::digest::digest_of;
+use digests::{are_same, digest_of};
 use std::hash::RandomState;
 use std::snapshot::Snapshot;
 
@@ -30,5 +33,16 @@ impl Kept {
             digest: digest_of(keys, written),
             written: Snapshot::of(written),
         }
+    }
+
+    /// Whether the bytes have the length and the digest of what was written. If so, they are what was
+    /// written, unless a digest collided.
+    pub(crate) fn fits(&self, keys: &RandomState, bytes: &[u8]) -> bool
+        requires { IsSound keys.now self.now }
+        ensures alike { OnTrue result
+            ((length bytes.now ≡ self.now.len) × (digest_under keys.now bytes.now ≡ self.now.digest)) }
+        ensures same { IsTrue nothing_collided → OnTrue result (bytes.now ≡ bytes_of self.now) }
+    {
+        are_same(keys, bytes, self.len, self.digest, &self.written)
     }
 }

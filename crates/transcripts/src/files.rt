@@ -13,13 +13,20 @@ use std::thread::Threads;
 /// How many cases were played so far, and how many went otherwise.
 #[derive(Drop)]
 pub struct Played {
+    host: HostRuntime,
     is_refused: bool,
     cases: u64,
     wrong: u64,
 }
 
 /// Plays the case by the player of its layer.
-fn play_by<R>(rt: &R, alloc: Global, opening: &str, playing: &mut Playing<'_>) -> Result<()>
+fn play_by<R>(
+    rt: &R,
+    host: HostRuntime,
+    alloc: Global,
+    opening: &str,
+    playing: &mut Playing<'_>,
+) -> Result<()>
 where
     R: AllocGlobal
         + Clock
@@ -34,7 +41,7 @@ where
         + Sync,
 {
     if object_player::OPENINGS.contains(&opening) {
-        object_player::play(rt, alloc, playing);
+        object_player::play(rt, host, alloc, playing);
     } else if row_player::OPENINGS.contains(&opening) {
         row_player::play(rt, alloc, playing);
     } else if table_player::OPENINGS.contains(&opening) {
@@ -55,7 +62,7 @@ where
     Ok(())
 }
 
-fn play<R>(rt: &R, alloc: Global, playing: &mut Playing<'_>) -> Result<()>
+fn play<R>(rt: &R, host: HostRuntime, alloc: Global, playing: &mut Playing<'_>) -> Result<()>
 where
     R: AllocGlobal
         + Clock
@@ -72,7 +79,7 @@ where
     let Some(first) = playing.peek() else {
         bail!("the case has no call");
     };
-    play_by(rt, alloc, first.call(), playing)
+    play_by(rt, host, alloc, first.call(), playing)
 }
 
 /// The text that a line has to reply.
@@ -98,8 +105,9 @@ fn tell<R: Print>(rt: &R, path: &str, case: &Case, difference: Difference) -> Re
 }
 
 impl Played {
-    pub fn new(is_refused: bool) -> Played {
+    pub fn new(host: HostRuntime, is_refused: bool) -> Played {
         Played {
+            host,
             is_refused,
             cases: 0,
             wrong: 0,
@@ -123,7 +131,7 @@ impl Played {
     {
         self.cases = self.cases.saturating_add(1);
         let mut playing = Playing::new(case, self.is_refused);
-        if let Err(mistake) = play(rt, rt.alloc(), &mut playing) {
+        if let Err(mistake) = play(rt, self.host, rt.alloc(), &mut playing) {
             let found = Err(mistake);
             let line = case.lines.first().map_or(case.number, |first| first.number);
             self.wrong = self.wrong.saturating_add(1);

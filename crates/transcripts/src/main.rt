@@ -15,7 +15,7 @@ use std::thread::Threads;
 const USAGE: &str = "usage: transcripts [--refused] FILE...";
 
 /// Plays the files that the program's words name, and gives its status.
-fn run<R>(rt: &R) -> Result<u8>
+fn run<R>(rt: &R, host: HostRuntime) -> Result<u8>
 where
     R: AllocGlobal
         + Clock
@@ -33,7 +33,7 @@ where
 {
     let mut words = env::args(rt)?.skip(1).peekable();
     let is_refused = words.next_if(|word| word.as_str() == "--refused").is_some();
-    let mut played = files::Played::new(is_refused);
+    let mut played = files::Played::new(host, is_refused);
     for word in words {
         if word.as_str().starts_with("-") {
             eprintln!(rt; "{USAGE}")?;
@@ -45,7 +45,7 @@ where
 }
 
 fn main(rt: HostRuntime) -> ExitCode {
-    let status = match run(&rt) {
+    let status = match run(&rt, rt) {
         Ok(status) => status,
         Err(error) => {
             let _ = eprintln!(rt; "{error}");

@@ -2,8 +2,11 @@
 //! be larger than its frames, and prints the most frequent.
 #![tactic(auto)]
 
-ghost use Rattle.std.specs.Prelude.{◌<◌, ◌≤◌, length};
+ghost use Rattle.std.specs.Prelude.{◌≡◌, ◌<◌, ◌≤◌, ℕ, List, length, map, IfOk, OnOk};
+ghost use Rattle.std.specs.Io.KnownBytes.{Appends};
+ghost use Rattle.wordcount.specs.Counted.{line_of, lines_of, word_in, AreCounted, ArePrinted};
 ghost use Rattle.wordcount.specs.Frames.{least_frames};
+ghost use Rattle.wordcount.specs.Tops.{words_in};
 
 mod command_line;
 mod counter;
@@ -18,16 +21,18 @@ use counter::Counting;
 use far_device::{Device, FakeDevice};
 use far_map::{MapFault, Settings, run_through};
 use file_device::FolderFault;
+use itoa::Buffer;
 use pieces::Pieces;
 use std::cmp::Reverse;
 use std::env::Env;
 use std::fs::File;
-use std::io::{BufWriter, ErrorKind, Write};
+use std::io::{ErrorKind, Write};
 use std::process::ExitCode;
 use std::rt::Files;
 use std::sync::Wait;
 use std::thread::Threads;
 use std::{env, io};
+use streams::StreamWriter;
 use top::{Counted, Top};
 
 /// The most bytes of the pairs of one bucket: the most that there can be.
@@ -39,12 +44,24 @@ const DEVICES: u32 = 4;
 /// The most folders: as many as a map may have devices.
 const MOST_FOLDERS: usize = 64;
 
-/// The first words with their counts.
+/// Bytes of output that are written at once.
+const OUT_BYTES: usize = 8_192;
+
+/// The first fault of these, if there is one.
+fn check_all(told: Vec<Result<()>>) -> Result<()> {
+    for counted in told {
+        counted?;
+    }
+    Ok(())
+}
+
+/// Counts the words of the files, and returns the first ones with their counts.
 fn count<D, R>(rt: &R, asked: &CommandLine, files: &[&str], devices: Vec<D>) -> Result<Top>
 where
     D: Device + Send,
     R: Files<File = File> + AllocGlobal + Threads + Wait + Sync,
     requires enough { least_frames asked.now.threads ≤ asked.now.frames }
+    ensures counted { IfOk result (λ top. AreCounted D.HONEST asked.now.top (words_in top.kept)) }
 {
     let alloc = rt.alloc();
     let settings = Settings::new(asked.buckets, asked.frames, LIMIT);
@@ -55,9 +72,7 @@ where
         Ok(both) => both,
         Err(fault) => bail!("the map could not be run: {fault}"),
     };
-    for counted in told {
-        counted?;
-    }
+    check_all(told)?;
     match ended {
         Ok(()) => Ok(top),
         Err(MapFault::Stopped) => bail!("memory"),
@@ -65,27 +80,51 @@ where
     }
 }
 
+/// Writes a word as a line.
+fn write_word<W: Write>(out: &mut W, word: &Counted) -> io::Result<()>
+    ensures { OnOk result (Appends (W.contents out.old) (W.contents out.new)
+        (line_of (word_in word.now))) }
+{
+    let (Reverse(count), text) = word;
+    let mut digits = Buffer::new();
+    out.write_all(digits.format(*count).as_bytes())?;
+    out.write_all(b" ")?;
+    out.write_all(text)?;
+    out.write_all(b"\n")
+}
+
 /// Writes a line for each word.
-fn write<W: Write>(out: &mut W, words: &[Counted]) -> io::Result<()> {
-    for (Reverse(count), word) in words {
-        write!(out, "{count} ")?;
-        out.write_all(word)?;
-        out.write_all(b"\n")?;
+fn write_words<W: Write>(out: &mut W, words: &[Counted]) -> io::Result<()>
+    ensures { OnOk result (Appends (W.contents out.old) (W.contents out.new)
+        (lines_of (map word_in words.now))) }
+{
+    for word in words {
+        write_word(out, word)?;
     }
-    out.flush()
+    Ok(())
 }
 
 /// Counts over these devices, and prints the most frequent words, and on standard error how many there are.
-fn print_top<D, R>(rt: &R, asked: &CommandLine, files: &[&str], devices: Vec<D>) -> Result<()>
+fn print_top<D, R, W>(
+    rt: &R,
+    asked: &CommandLine,
+    files: &[&str],
+    devices: Vec<D>,
+    out: &mut W,
+) -> Result<()>
 where
     D: Device + Send,
-    R: Files<File = File> + AllocGlobal + Print + Eprint + Threads + Wait + Sync,
+    R: Files<File = File> + AllocGlobal + Eprint + Threads + Wait + Sync,
+    W: Write,
     requires enough { least_frames asked.now.threads ≤ asked.now.frames }
+    ensures printed { OnOk result ((words : List (ℕ × List ℕ))
+        × ArePrinted D.HONEST asked.now.top words
+        × Appends (W.contents out.old) (W.contents out.new) (lines_of words)) }
 {
     let top = count(rt, asked, files, devices)?;
     let (distinct, buckets, frames) = (top.distinct(), asked.buckets, asked.frames);
-    let mut out = BufWriter::new(rt.alloc(), io::writer(rt))?;
-    write(&mut out, top.into_first().as_slice())?;
+    write_words(out, top.into_first().as_slice())?;
+    out.flush()?;
     eprintln!(rt; "{distinct} distinct words, {buckets} buckets, {frames} frames")?;
     Ok(())
 }
@@ -100,7 +139,8 @@ where
     for _ in 0..DEVICES {
         devices.push(FakeDevice::new(rt.alloc()))?;
     }
-    print_top(rt, asked, files, devices)
+    let mut out = StreamWriter::buffered(rt.alloc(), OUT_BYTES, io::writer(rt), 0)?;
+    print_top(rt, asked, files, devices, &mut out)
 }
 
 /// The same over devices in these folders, and the status: 2 where one can't be used, which is found before a file is opened. They
@@ -123,7 +163,8 @@ where
     }
     match file_device::open_lanes(host, folders, DEVICES.max(folders.len() as u32)) {
         Ok(devices) => {
-            print_top(rt, asked, files, devices)?;
+            let mut out = StreamWriter::buffered(rt.alloc(), OUT_BYTES, io::writer(rt), 0)?;
+            print_top(rt, asked, files, devices, &mut out)?;
             Ok(0)
         }
         Err(FolderFault::Memory) => bail!("memory"),

@@ -1,10 +1,13 @@
 use Rattle.std.proofs.Common.{rules, refl}
 use Rattle.far_driver.specs.Statuses.{ended_with}
-use Rattle.far_driver.proofs.Running.{ran_words, left_words, told}
+use Rattle.far_driver.proofs.Running.{ran_words, answers_files, left_words, told}
 use Rattle.far_driver.proofs.program.run_words.Goals as goal
 
 pub returns-clause-ran : goal.returns-clause-ran
 returns-clause-ran g c = ran_words _ c.in_ok-sources.sources.items _ c.in-Some.arguments.config _ _ _ c.in-Some.ensures.asked (search rules) c.in_ok-run_files.ensures.opened (c.in_ok-run_files.ensures.ran refl)
+
+pub returns-clause-files : goal.returns-clause-files
+returns-clause-files g c = answers_files _ c.in_ok-sources.sources.items _ c.in-Some.arguments.config _ _ _ c.in-Some.ensures.asked c.in_ok-sources.ensures.unread c.in_ok-run_files.ensures.opened (c.in_ok-run_files.ensures.ran refl)
 
 pub returns-in_err-run_files-clause-before : goal.returns-in_err-run_files-clause-before
 returns-in_err-run_files-clause-before g c =

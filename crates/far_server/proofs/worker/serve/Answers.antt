@@ -68,4 +68,4 @@ returns-in-End g c =
     let left : LeftView _ _ = record { wire = inside.wire; views = inside.holds; connections = inside.kept.connections.entries } in
     let L : LeftView _ _ → Type 0 = λ v. GoesOn g.I.Read.remaining g.O.Write.contents g.S.Calls.limits digest password bounds old (g.S.Calls.shown c.me-1.given.0) v (state.Ended (worker_end.Served (Ok c.into_parts.result))) in
     subst L c.left.view_is (ends_so g.I.Read.remaining g.O.Write.contents g.S.Calls.limits digest password bounds old (g.S.Calls.shown c.me-1.given.0) left wire c.in-Ok.holds y (ap g.S.Calls.shown (sym (last ∙ c.finish-kept.ensures.session))) goes
-    c.into_parts.result.0 c.into_parts.result.1 c.in-Ok.ensures.whole c.into_parts.ensures.0 c.into_parts.ensures.1)
+    c.into_parts.result.0 c.into_parts.result.1 c.in-Ok.ensures.whole (c.in-Ok.ensures.ended c.in-End.is) c.into_parts.ensures.0 c.into_parts.ensures.1)

@@ -1,4 +1,4 @@
-use Rattle.std.proofs.Common.{◌≡◌, [], sym, ◌∙◌, subst, rules}
+use Rattle.std.proofs.Common.{◌≡◌, [], Ok, ap, sym, ◌∙◌, subst, rules}
 use Rattle.resp.specs.declared.limits.Limits.{Limits}
 use Rattle.request_loop.specs.Workers.{AreSettled}
 use Rattle.request_loop.specs.Slots.{Views}
@@ -78,3 +78,10 @@ returns-clause-fault g c =
 
 pub returns-in-Ok-Leave-clause-woken : goal.returns-in-Ok-Leave-clause-woken
 returns-in-Ok-Leave-clause-woken g c = λ is. (c.loop-round.service, c.in-Ok-Leave.ensures.woken c.in-Ok-Leave.field-0-is)
+
+pub returns-in-Ok-None-clause-ended : goal.returns-in-Ok-None-clause-ended
+returns-in-Ok-None-clause-ended g c = λ is start past stood.
+    let inv = c.loop-round.invariant in
+    let A : Limits → Type 0 = λ k. Standing g.D.Duplex.tells k start c.args.duplex.now c.args.holds past in
+    let s = inv.stands start past (subst A inv.limits_then stood) in
+    c.read.ensures.end (c.in-Ok-None.is ∙ ap Ok c.in-Ok-None.field-0-is) start s.came s.sent s.told

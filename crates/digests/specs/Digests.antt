@@ -1,10 +1,10 @@
--- What shows that bytes came back as they were.
+-- The digest of bytes, and what a read appends.
 use Rattle.std.specs.Prelude.{◌≡◌, ℕ, List, ◌++◌, length}
 use Rattle.std.specs.Hash.DefaultHasher.{write, finish}
 use Rattle.std.specs.RandomState.{initial_hasher}
 use Rattle.std.specs.declared.random_state.RandomState.{RandomState}
 
--- SipHash-1-3 of the bytes, under the keys
+-- SipHash-1-3 of the bytes with these keys
 abbrev pub digest_under : RandomState → List ℕ → ℕ
 digest_under keys bytes = finish (write (initial_hasher keys) bytes)
 
@@ -15,6 +15,6 @@ pub record GivesAs (keys : RandomState) (len digest : ℕ) (before after : List 
   pub as_long : length given ≡ len
   pub alike : digest_under keys given ≡ digest
 
--- after is before with bytes at its end that have the length and the digest of those written
+-- after is before with bytes at its end that have the length and the digest of what was written
 abbrev pub GivesAlike : RandomState → List ℕ → List ℕ → List ℕ → Type 0
 GivesAlike keys written before after = GivesAs keys (length written) (digest_under keys written) before after

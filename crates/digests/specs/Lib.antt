@@ -1,0 +1,2 @@
+pub mod Collisions
+pub mod Digests
