@@ -6,19 +6,22 @@ use Rattle.std.specs.declared.alloc.Global.{Global}
 use Rattle.std.specs.declared.cmp.Reverse.{Reverse}
 use Rattle.std.specs.declared.vec.Vec.{Vec}
 use Rattle.far_object.specs.Encodings.{enc_text}
-use Rattle.table_core.specs.declared.limits.Limits.{Limits}
+use Rattle.version_words.specs.Rows.{limits_of}
+use Rattle.hash_table.specs.Configs.{sizes_of}
+use Rattle.hash_table.specs.Openings.{WasOpened}
+use Rattle.hash_table.specs.declared.config.Config.{Config}
 use Rattle.far_map.specs.Runs.{IsEndInOrder}
 use Rattle.far_map.specs.Views.{View, Pairs}
 use Rattle.wordcount.specs.Tops.{AreFirst, counted, print_cmp}
 
--- The map of one history has pairs of words and counts, over devices that were honest or not. These words are the first of
--- them, as many as there may be, in no order.
+-- A table was opened, over devices that were honest or not. The map of one history with which its run ended has pairs of
+-- words and counts. These words are the first of them, as many as there may be, in no order.
 pub record AreCounted (honest : Bool) (most : ℕ) (words : List (ℕ × List ℕ)) : Type 0 where
-  pub limits : Limits
-  pub honest_is : limits.honest ≡ honest
+  pub config : Config
+  pub opened : WasOpened config
   pub passes : List (View (List ℕ))
   pub pairs : Pairs (List ℕ)
-  pub ended : IsEndInOrder enc_text limits passes pairs
+  pub ended : IsEndInOrder enc_text (limits_of (sizes_of config) honest) passes pairs
   pub first : AreFirst (λ one other. is_lt (print_cmp one other)) most (map counted pairs) words
 
 -- a line: the count, a blank, the word, and LF

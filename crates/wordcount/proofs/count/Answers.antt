@@ -1,4 +1,4 @@
-use Rattle.std.proofs.Common.{List, ℕ, map, refl, subst}
+use Rattle.std.proofs.Common.{List, ℕ, map, subst}
 use Rattle.wordcount.specs.Tops.{GoesOn, counted, words_in}
 use Rattle.wordcount.proofs.Counting.{first_of_all, handed_of}
 use Rattle.wordcount.proofs.count.Goals as goal
@@ -11,8 +11,8 @@ returns g c =
     let words = map counted run.handed.0 in
     record {
       counted = record {
-        limits = _;
-        honest_is = refl;
+        config = _;
+        opened = c.in-Ok.ensures.opened;
         passes = run.passes;
         pairs = run.handed.0;
         ended = run.handed.2;
