@@ -10,6 +10,7 @@ VALUES = [b"", b"0", b"1", b"-1", b"17", b"x", b"some text", b"\r\n", b"\x00\x01
           b"-9223372036854775808", b"1.5", b" 1", b"01", b"z" * 300, b"0.25", b"nan"]
 NUMBERS = [b"0", b"1", b"-1", b"5", b"-7", b"100", b"9223372036854775807", b"-9223372036854775808", b"9223372036854775808", b"x",
            b"", b"1.0", b" 1", b"+1"]
+OFFSETS = [b"0", b"1", b"2", b"7", b"8", b"15", b"100", b"4294967295", b"4294967296", b"-1", b"x", b"01", b""]
 PLACES = [b"0", b"1", b"-1", b"3", b"-3", b"100", b"-100", b"x", b"9223372036854775807"]
 # Of these sums no digit is lost, by numbers of 64 bits and of 80.
 STEPS = [b"0.5", b"-0.25", b"1.5", b"2", b"-3", b"1024.125", b"abc", b"", b"1e2"]
@@ -88,6 +89,7 @@ ASKED = [
     (3, lambda: (b"STRLEN", key())),
     (5, lambda: (b"APPEND", key(), value())),
     (4, lambda: (b"GETRANGE", key(), random.choice(PLACES), random.choice(PLACES))),
+    (3, lambda: (b"GETBIT", key(), random.choice(OFFSETS))),
     (3, lambda: (b"SETRANGE", key(), random.choice([*PLACES[:6], b"-1"]), value())),
     (6, lambda: (random.choice([b"INCR", b"DECR"]), random.choice([b"counter", key()]))),
     (5, lambda: (random.choice([b"INCRBY", b"DECRBY"]), random.choice([b"counter", key()]), random.choice(NUMBERS))),

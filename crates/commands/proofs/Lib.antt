@@ -2,3 +2,4 @@ pub mod Numbers
 pub mod Classes
 pub mod Matching
 pub mod Choices
+pub mod Rows

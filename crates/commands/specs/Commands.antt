@@ -70,7 +70,6 @@ IsSpecial special.GetRange rest c = IsGetRange (λ key first last. rest ≡ key.
 IsSpecial special.SetRange rest c = IsSetRange (λ key offset value. rest ≡ key.now ∷ decimal offset ∷ value.now ∷ []) c
 IsSpecial special.Incr rest c = IsAdd (λ key by. (rest ≡ key.now ∷ []) × (by ≡ pos 1)) c
 IsSpecial special.Decr rest c = IsAdd (λ key by. (rest ≡ key.now ∷ []) × (by ≡ negsuc 0)) c
-IsSpecial special.IncrBy rest c = IsAdd (λ key by. rest ≡ key.now ∷ signed_decimal by ∷ []) c
 IsSpecial special.DecrBy rest c = IsAdd (λ key by. (less : ℤ) × (rest ≡ key.now ∷ signed_decimal less ∷ []) × (by ≡ neg_ℤ less)) c
 IsSpecial special.IncrByFloat rest c = IsAddFloat (λ key by. rest ≡ key.now ∷ by.now ∷ []) c
 IsSpecial special.MSet rest c = IsSetMany (λ pairs. (listed pairs ≡ rest) × (0 < length rest) × (length rest % 2 ≡ 0)) c
@@ -82,12 +81,13 @@ IsSpecial special.Ping rest c = IsPing (λ text. MatchOption text (length rest �
 IsSpecial special.Echo rest c = IsEcho (λ text. rest ≡ text.now ∷ []) c
 IsSpecial special.Quit rest c = IsQuit c
 
--- the arguments behind a name spell the command: of those that take nothing, a key, keys, or a key and a value
+-- the arguments after a name spell the command: of those that take nothing, a key, keys, a key and a value, or a key and a number
 abbrev pub IsSpelt : Name → List (List ℕ) → Command → Type 0
 IsSpelt (names.Nothing of) rest (command.Nothing is) = (is ≡ of) × (length rest ≡ 0)
 IsSpelt (names.Key of) rest (command.Key is key) = (is ≡ of) × (rest ≡ key.now ∷ [])
 IsSpelt (names.Keys of) rest (command.Keys is keys) = (is ≡ of) × (listed keys ≡ rest) × (0 < length rest)
 IsSpelt (names.Pair of) rest (command.Pair is key value) = (is ≡ of) × (rest ≡ key.now ∷ value.now ∷ [])
+IsSpelt (names.Number of) rest (command.Number is key number) = (is ≡ of) × (rest ≡ key.now ∷ signed_decimal number ∷ [])
 IsSpelt (names.Special of) rest c = IsSpecial of rest c
 IsSpelt (names.Server of) rest (command.Server c) = IsAsked of rest c
 IsSpelt n rest c = ⊥
@@ -108,6 +108,7 @@ IsCounted (names.Nothing of) rest = length rest ≡ 0
 IsCounted (names.Key of) rest = length rest ≡ 1
 IsCounted (names.Keys of) rest = 0 < length rest
 IsCounted (names.Pair of) rest = length rest ≡ 2
+IsCounted (names.Number of) rest = ⊥
 IsCounted (names.Special of) rest = IsCountedSpecial of rest
 IsCounted (names.Server of) rest = IsCountedServer of rest
 

@@ -4,6 +4,6 @@ pub mod Commands
 pub mod Names
 pub mod Patterns
 pub mod Ranges
-pub mod ServerNames
+pub mod Rows
 pub mod Servers
 pub mod Times

@@ -1,7 +1,7 @@
 //! What a request may ask for.
 
 use crate::arguments::Arguments;
-use crate::name::{OfKey, OfKeys, OfNothing, OfPair};
+use crate::name::{OfKey, OfKeys, OfNothing, OfNumber, OfPair};
 use crate::server::ServerCommand;
 
 /// A command, whose keys and values are lent from the request.
@@ -15,6 +15,8 @@ pub enum Command<'a> {
     Keys(OfKeys, Arguments<'a>),
     /// A command on a key and a value.
     Pair(OfPair, &'a [u8], &'a [u8]),
+    /// A command on a key and a number. That of GETBIT is from 0 to 2^32 - 1.
+    Number(OfNumber, &'a [u8], i64),
     /// SET, SETEX and PSETEX.
     Set {
         key: &'a [u8],
@@ -38,7 +40,7 @@ pub enum Command<'a> {
         offset: u64,
         value: &'a [u8],
     },
-    /// INCR, DECR, INCRBY and DECRBY: a number that is added to a value.
+    /// INCR, DECR and DECRBY: a number that is added to a value.
     Add {
         key: &'a [u8],
         by: i64,

@@ -64,6 +64,9 @@ pub enum CommandFault<'a> {
     /// An option of HELLO that there is none of, or behind which something is missing.
     #[error("ERR Syntax error in HELLO option '{0}'")]
     HelloOption(Shown<'a>),
+    /// A bit's offset that is no number from 0 to 2^32 - 1.
+    #[error("ERR bit offset is not an integer or out of range")]
+    BitOffset,
     /// A number of a database that has more than 32 bits.
     #[error("ERR value is out of range, value must between -2147483648 and 2147483647")]
     WideNumber,

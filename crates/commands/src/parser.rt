@@ -1,6 +1,7 @@
 //! From the arguments of a request to the command that they spell.
 ghost use Rattle.std.specs.Prelude.{◌≡◌, ℕ, List, ◌∷◌, map, IfOk, IsOk};
 ghost use Rattle.std.specs.Char.{to_ascii_lowercase};
+ghost use Rattle.std.specs.Fmt.{signed_decimal};
 ghost use Rattle.commands.specs.declared.name.Name.{Name as any_name};
 ghost use Rattle.commands.specs.Names.{text_of};
 ghost use Rattle.commands.specs.Arguments.{listed};
@@ -12,13 +13,15 @@ use crate::command::Command;
 use crate::connection::{auth, client, hello, select};
 use crate::fault::CommandFault;
 use crate::introspection::{command, config, slow_log};
-use crate::name::{Name, name_of};
+use crate::name::{Name, OfNumber};
+use crate::number::whole_number;
 use crate::refused_commands::refused_name;
 use crate::request_text::Request;
 use crate::scan::{flush, scan};
 use crate::server::ServerCommand;
 use crate::server_name::OfServer;
 use crate::special::read_special;
+use crate::table::name_of;
 
 fn read_server<'a>(of: OfServer, rest: Arguments<'a>) -> Result<ServerCommand<'a>, CommandFault<'a>>
     ensures spelt { IfOk result (λ c. IsAsked of (listed rest.entry) c) }
@@ -36,6 +39,22 @@ fn read_server<'a>(of: OfServer, rest: Arguments<'a>) -> Result<ServerCommand<'a
         OfServer::Scan => scan(rest),
         OfServer::FlushAll => flush(rest),
         OfServer::FlushDb => flush(rest),
+    }
+}
+
+/// The first number that is no bit's offset: Redis has values of 2^29 bytes at most.
+const BITS: i64 = 1 << 32;
+
+/// The number of a command on a key and a number.
+fn number_of<'a>(of: OfNumber, bytes: &[u8]) -> Result<i64, CommandFault<'a>>
+    ensures { IfOk result (λ z. bytes.now ≡ signed_decimal z) }
+{
+    match of {
+        OfNumber::IncrBy => whole_number(bytes).ok_or(CommandFault::Number),
+        OfNumber::GetBit => match whole_number(bytes) {
+            Some(offset) if 0 <= offset && offset < BITS => Ok(offset),
+            _ => Err(CommandFault::BitOffset),
+        },
     }
 }
 
@@ -64,6 +83,13 @@ fn by_name<'a>(name: Name, rest: Arguments<'a>, now: u64) -> Result<Command<'a>,
         }
         Name::Pair(of) => match rest.two() {
             Some((key, value)) => Ok(Command::Pair(of, key, value)),
+            None => Err(CommandFault::Count(name)),
+        },
+        Name::Number(of) => match rest.two() {
+            Some((key, number)) => match number_of(of, number) {
+                Ok(number) => Ok(Command::Number(of, key, number)),
+                Err(fault) => Err(fault),
+            },
             None => Err(CommandFault::Count(name)),
         },
         Name::Special(of) => read_special(of, rest, now),

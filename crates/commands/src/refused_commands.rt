@@ -1,13 +1,12 @@
 //! The commands of Redis that are not answered here.
 
 /// On strings, other than those that are.
-const STRINGS: [&str; 10] = [
+const STRINGS: [&str; 9] = [
     "bitcount",
     "bitfield",
     "bitfield_ro",
     "bitop",
     "bitpos",
-    "getbit",
     "lcs",
     "msetnx",
     "setbit",

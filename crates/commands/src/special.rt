@@ -107,18 +107,6 @@ fn step<'a>(of: Special, by: i64, rest: Arguments<'a>) -> Result<Command<'a>, Co
     Ok(Command::Add { key, by })
 }
 
-fn increase<'a>(rest: Arguments<'a>) -> Result<Command<'a>, CommandFault<'a>>
-    ensures { IfOk result (λ c. IsSpecial Special.IncrBy (listed rest.entry) c) }
-{
-    let (key, by) = rest
-        .two()
-        .ok_or(CommandFault::Count(Name::Special(Special::IncrBy)))?;
-    Ok(Command::Add {
-        key,
-        by: number(by)?,
-    })
-}
-
 fn decrease<'a>(rest: Arguments<'a>) -> Result<Command<'a>, CommandFault<'a>>
     ensures { IfOk result (λ c. IsSpecial Special.DecrBy (listed rest.entry) c) }
 {
@@ -214,7 +202,6 @@ pub(crate) fn read_special<'a>(
         Special::SetRange => set_range(rest),
         Special::Incr => step(of, 1, rest),
         Special::Decr => step(of, -1, rest),
-        Special::IncrBy => increase(rest),
         Special::DecrBy => decrease(rest),
         Special::IncrByFloat => increase_by_float(rest),
         Special::MSet => set_many(rest),

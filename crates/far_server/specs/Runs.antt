@@ -11,7 +11,7 @@ use Rattle.commands.specs.declared.name.OfKeys.{OfKeys}
 use Rattle.commands.specs.declared.name.OfKeys.TheVariants as keys
 use Rattle.commands.specs.declared.server.ServerCommand.TheVariants as server
 use Rattle.key_commands.specs.declared.key_command.KeyCommand.TheVariants as ask
-use Rattle.key_commands.specs.Asked.{of_one_key}
+use Rattle.key_commands.specs.Doing.{of_one_key}
 use Rattle.far_server.specs.Sessions.{Session}
 use Rattle.far_server.specs.Keyed.{IsKeyed}
 use Rattle.far_server.specs.Many.{IsCountedEach, IsListedIfShort, IsSetEach}

@@ -20,7 +20,7 @@ use crate::context::Workspace;
 use crate::deadlines::is_over;
 use crate::refusal::{KEY_TOO_LONG, NO_ROOM, OVERTAKEN, text_of, told_as};
 use crate::reserve::has_room_for;
-use crate::room::{has_room, may_grow};
+use crate::room::has_room;
 use crate::statistics::{Statistics, count};
 use far_blob::Blob;
 use far_map::{Calls, MapRefusal, Value, text};
@@ -97,20 +97,14 @@ fn apply_to(
     }
 }
 
-/// Counts a command that reads a value as a hit or a miss.
+/// Counts a hit or a miss, if the command's look is counted.
 fn count_found(statistics: &mut Statistics, command: KeyCommand<'_>, is_found: bool) {
-    let reads = matches!(
-        command,
-        KeyCommand::Get
-            | KeyCommand::GetDel
-            | KeyCommand::GetEx(_)
-            | KeyCommand::GetRange { first: _, last: _ }
-            | KeyCommand::Exists
-            | KeyCommand::StrLen
-    );
-    if reads && is_found {
+    if !command.is_look_counted() {
+        return;
+    }
+    if is_found {
         count(&mut statistics.hits);
-    } else if reads {
+    } else {
         count(&mut statistics.misses);
     }
 }
@@ -325,7 +319,7 @@ fn answer_short<S: Calls<Blob>, R: Wait>(
     ensures done { OnOk result ((r : Token) × (reply.new.items ≡ reply.old.items ++ token r) × IsOnStored S.limits (stored_key asking.entry.digest_keys key.now) asking.entry.command asking.entry.now asking.entry.most (S.shown me.old) (S.shown me.new) r) }
     ensures kept { OnErr result (reply.new.items ≡ reply.old.items) }
 {
-    if may_grow(asking.command) {
+    if asking.command.row().flags.may_grow() {
         answer_in_room(rt, alloc, me, key, asking, workspace, reply)
     } else {
         answer_now(rt, alloc, me, key, asking, workspace, reply)

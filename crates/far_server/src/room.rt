@@ -14,7 +14,6 @@ ghost use Rattle.version_words.specs.Views.{Goes};
 use crate::context::Workspace;
 use far_blob::Blob;
 use far_map::Calls;
-use key_commands::KeyCommand;
 use std::sync::Wait;
 use std::time::Duration;
 
@@ -30,26 +29,6 @@ const IDLE_NAPS: u32 = 10_000;
 
 /// How many times it sleeps at most in all: for thirty seconds. Others may take the room that was made.
 const MOST_NAPS: u32 = 150_000;
-
-/// Whether a command may leave more bytes than it found.
-pub(crate) fn may_grow(command: KeyCommand<'_>) -> bool {
-    matches!(
-        command,
-        KeyCommand::SetIfAbsent(_)
-            | KeyCommand::GetSet(_)
-            | KeyCommand::Append(_)
-            | KeyCommand::Set {
-                value: _,
-                change: _
-            }
-            | KeyCommand::SetRange {
-                offset: _,
-                value: _
-            }
-            | KeyCommand::Add(_)
-            | KeyCommand::AddFloat(_)
-    )
-}
 
 /// Swaps objects out while the frames have more than `most` bytes. Returns whether they have no more than
 /// that at the end. The evictor comes back below its bound by itself, unless its device fails.

@@ -6,5 +6,4 @@ pub mod Setting
 pub mod Editing
 pub mod Adding
 pub mod Answers
-pub mod Asked
 pub mod Doing

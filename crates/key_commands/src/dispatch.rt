@@ -1,60 +1,17 @@
 //! A command on a key is carried out on the value that the key has.
-ghost use Rattle.std.specs.Prelude.{◌≡◌, ◌≢◌, ◌++◌, ℕ, List, Option, IsTrue, IfOk, OnErr};
+ghost use Rattle.std.specs.Prelude.{◌≡◌, ◌++◌, ℕ, List, Option, IsTrue, IfOk, OnErr};
 ghost use Rattle.std.specs.Option.{option_copied};
-ghost use denote.Ref.{Bor};
 ghost use Rattle.resp.specs.Replies.{Token, token};
-ghost use Rattle.key_commands.specs.Answers.{seen, outcome_of, Performs};
+ghost use Rattle.key_commands.specs.Answers.{seen, Performs};
 ghost use Rattle.key_commands.specs.Outcomes.{Outcome, After, IsEffect, cleaned};
 ghost use Rattle.key_commands.specs.Doing.{IsOutcome, Does};
 
-use crate::answer::Answer;
-use crate::edits::{append, set_range};
-use crate::expiry::{expire, get_for, milliseconds_after, persist, seconds_after};
 use crate::float_increment::add_float;
-use crate::increment::add;
-use crate::key_command::{Effect, KeyCommand};
+use crate::key_command::{Effect, KeyCommand, answer_of};
 use crate::output::perform;
-use crate::range::get_range;
-use crate::reads::{delete, exists, get, get_and_delete, str_len, type_of};
-use crate::setting::{get_and_set, set, set_if_absent};
 use crate::value::{Live, unexpired};
 use commands::{Lifetime, Where};
 use std::alloc::AllocError;
-
-/// What a command answers. INCRBYFLOAT is none of these, since its number has to be spelled first.
-fn answer_of<'a>(
-    command: KeyCommand<'a>,
-    now: u64,
-    most: u32,
-    value: Option<Live<'a>>,
-) -> Answer<'a>
-    requires { (by : Bor (List ℕ)) → command ≢ KeyCommand.AddFloat by }
-    ensures { IsOutcome command.entry now most (seen value.entry) (outcome_of result) }
-{
-    match command {
-        KeyCommand::Get => get(value),
-        KeyCommand::Exists => exists(value),
-        KeyCommand::Delete => delete(value),
-        KeyCommand::StrLen => str_len(value),
-        KeyCommand::TypeOf => type_of(value),
-        KeyCommand::Ttl => seconds_after(now, value),
-        KeyCommand::PTtl => milliseconds_after(now, value),
-        KeyCommand::ExpireTime => seconds_after(0, value),
-        KeyCommand::PExpireTime => milliseconds_after(0, value),
-        KeyCommand::Persist => persist(value),
-        KeyCommand::GetDel => get_and_delete(value),
-        KeyCommand::SetIfAbsent(new) => set_if_absent(new, most, value),
-        KeyCommand::GetSet(new) => get_and_set(new, most, value),
-        KeyCommand::Append(new) => append(new, most, value),
-        KeyCommand::Set { value: new, change } => set(new, change, most, value),
-        KeyCommand::GetEx(lifetime) => get_for(lifetime, now, value),
-        KeyCommand::GetRange { first, last } => get_range(value, first, last),
-        KeyCommand::SetRange { offset, value: new } => set_range(offset, new, most, value),
-        KeyCommand::Add(by) => add(by, value),
-        KeyCommand::AddFloat(_) => unreachable!(),
-        KeyCommand::Expire { deadline, only } => expire(deadline, only, now, value),
-    }
-}
 
 fn carry_out(
     command: KeyCommand<'_>,

@@ -1,7 +1,8 @@
 //! Commands that only read, and those that take out.
 ghost use Rattle.std.specs.Prelude.{◌≡◌};
 ghost use Rattle.key_commands.specs.Answers.{said, seen, outcome_of};
-ghost use Rattle.key_commands.specs.Outcomes.{replies};
+ghost use Rattle.key_commands.specs.Doing.{bit_at};
+ghost use Rattle.key_commands.specs.Outcomes.{number, replies};
 ghost use Rattle.key_commands.specs.Values.{bytes_of as bytes_in};
 ghost use Rattle.key_commands.specs.Reading.{got as got_lem, presence, kind, deleted, got_and_deleted, size_of};
 
@@ -64,4 +65,16 @@ pub(crate) fn get_and_delete(value: Option<Live<'_>>) -> Answer<'_>
         Some(value) => Answer::removes(Reply::String(value.bytes)),
         None => Answer::replies(Reply::Nothing),
     }
+}
+
+/// The bit at an offset, of which 0 is the first byte's highest bit; 0 after the last byte.
+pub(crate) fn get_bit<'a>(offset: u64, value: Option<Live<'_>>) -> Answer<'a>
+    ensures { outcome_of result ≡ replies (number (bit_at offset (bytes_in (seen value.entry)))) }
+{
+    let byte = match bytes_of(value).get((offset / 8) as usize) {
+        Some(byte) => *byte,
+        None => 0,
+    };
+    let behind = 7 - (offset % 8) as u32;
+    Answer::replies(Reply::Number(i64::from((byte >> behind) % 2)))
 }

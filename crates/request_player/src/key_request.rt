@@ -2,7 +2,7 @@
 
 use crate::reply::Reply;
 use crate::server_request::put_server;
-use commands::{Arguments, Change, Command, Lifetime, Only, Where};
+use commands::{Arguments, Change, Command, Lifetime, Name, Only, Where};
 use std::alloc::AllocError;
 
 pub(crate) fn put_all(out: &mut Reply, arguments: Arguments<'_>) -> Result<(), AllocError> {
@@ -105,15 +105,19 @@ fn put_special(out: &mut Reply, command: Command<'_>) -> Result<(), AllocError> 
 /// Puts the command.
 pub(crate) fn put_command(out: &mut Reply, command: Command<'_>) -> Result<(), AllocError> {
     match command {
-        Command::Nothing(of) => out.put(of.text()),
-        Command::Key(of, key) => put_key(out, of.text(), key),
+        Command::Nothing(of) => out.put(Name::Nothing(of).text()),
+        Command::Key(of, key) => put_key(out, Name::Key(of).text(), key),
         Command::Keys(of, keys) => {
-            out.put(of.text())?;
+            out.put(Name::Keys(of).text())?;
             put_all(out, keys)
         }
         Command::Pair(of, key, value) => {
-            put_key(out, of.text(), key)?;
+            put_key(out, Name::Pair(of).text(), key)?;
             out.put_bytes(value)
+        }
+        Command::Number(of, key, number) => {
+            put_key(out, Name::Number(of).text(), key)?;
+            out.put_signed(number)
         }
         Command::SetMany(pairs) => {
             out.put("mset")?;

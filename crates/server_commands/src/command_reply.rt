@@ -4,7 +4,7 @@ ghost use Rattle.resp.specs.Replies.{token, Number};
 ghost use Rattle.server_commands.specs.Replying.{Replies, Grows};
 
 use crate::reply_parts::{put_count, put_line, put_number, put_string, restored};
-use crate::table::{COMMANDS, Flags, Keys, Row, rows};
+use commands::{COMMANDS, Entry, Keys, commands};
 use resp::push_number;
 use std::alloc::AllocError;
 
@@ -30,24 +30,25 @@ fn put_places(keys: Keys, out: &mut Vec<u8>) -> Result<(), AllocError>
 }
 
 /// The name, how many words there are, the flags, and where the keys are.
-fn put_row(row: &Row, out: &mut Vec<u8>) -> Result<(), AllocError>
+fn put_entry(entry: &Entry, out: &mut Vec<u8>) -> Result<(), AllocError>
     ensures done { OnOk result (Replies 1 out.old.items out.new.items) }
     ensures grown { Grows out.old.items out.new.items }
 {
     put_count(6, out)?;
-    put_string(row.name.text().as_bytes(), out)?;
+    let (name, row, _, _) = entry;
+    put_string(name.as_bytes(), out)?;
     put_number(row.arity, out)?;
     put_lines(row.flags.words(), out)?;
     put_places(row.keys, out)
 }
 
-fn put_list(rows: &[Row], out: &mut Vec<u8>) -> Result<(), AllocError>
+fn put_list(entries: &[Entry], out: &mut Vec<u8>) -> Result<(), AllocError>
     ensures done { OnOk result (Replies 1 out.old.items out.new.items) }
     ensures grown { Grows out.old.items out.new.items }
 {
-    put_count(rows.len(), out)?;
-    for row in rows {
-        put_row(row, out)?;
+    put_count(entries.len(), out)?;
+    for entry in entries {
+        put_entry(entry, out)?;
     }
     Ok(())
 }
@@ -60,7 +61,7 @@ pub fn command_list(out: &mut Vec<u8>) -> Result<(), AllocError>
     ensures kept { OnErr result (out.new.items ≡ out.old.items) }
 {
     let before = out.len();
-    let done = put_list(rows(), out);
+    let done = put_list(commands(), out);
     restored(done, before, out)
 }
 

@@ -3,27 +3,27 @@ ghost use Rattle.std.specs.Prelude.{◌≡◌, ◌≤◌, ◌*◌, length, count
 ghost use Rattle.server_commands.specs.Replying.{Replies, Grows};
 
 use crate::reply_parts::{count_asked, put_count, put_string, put_word, restored};
-use crate::table::{COMMANDS, Row, rows};
-use commands::Arguments;
+use commands::{Arguments, COMMANDS, Entry, commands};
 use std::alloc::AllocError;
 
 /// The command's name, and what it is.
-fn put_doc(row: &Row, out: &mut Vec<u8>) -> Result<(), AllocError>
+fn put_doc(entry: &Entry, out: &mut Vec<u8>) -> Result<(), AllocError>
     ensures done { OnOk result (Replies 2 out.old.items out.new.items) }
     ensures grown { Grows out.old.items out.new.items }
 {
-    put_string(row.name.text().as_bytes(), out)?;
+    let (name, row, since, summary) = entry;
+    put_string(name.as_bytes(), out)?;
     put_count(6, out)?;
-    put_word("summary", row.summary, out)?;
-    put_word("since", row.since, out)?;
+    put_word("summary", summary, out)?;
+    put_word("since", since, out)?;
     put_word("group", row.group.word(), out)
 }
 
 /// Whether the command is asked for by one of the names, in upper or lower case; without a name, each is.
-fn is_asked_for(row: &Row, names: Arguments<'_>) -> bool {
+fn is_asked_for(command: &str, names: Arguments<'_>) -> bool {
     for index in 0..names.len() {
         if let Some(name) = names.get(index)
-            && name.eq_ignore_ascii_case(row.name.text().as_bytes())
+            && name.eq_ignore_ascii_case(command.as_bytes())
         {
             return true;
         }
@@ -33,23 +33,23 @@ fn is_asked_for(row: &Row, names: Arguments<'_>) -> bool {
 
 fn asked_for(names: Arguments<'_>) -> [bool; COMMANDS] {
     let mut asked = [false; COMMANDS];
-    for (mark, row) in asked.iter_mut().zip(rows()) {
-        *mark = is_asked_for(row, names);
+    for (mark, entry) in asked.iter_mut().zip(commands()) {
+        *mark = is_asked_for(entry.0, names);
     }
     asked
 }
 
-/// Those of the rows that are asked for.
-fn put_docs(rows: &[Row], asked: &[bool], out: &mut Vec<u8>) -> Result<(), AllocError>
-    requires same { length asked.now ≡ length rows.now }
-    requires few { length rows.now ≤ COMMANDS }
+/// Those of the entries that are asked for.
+fn put_docs(entries: &[Entry], asked: &[bool], out: &mut Vec<u8>) -> Result<(), AllocError>
+    requires same { length asked.now ≡ length entries.now }
+    requires few { length entries.now ≤ COMMANDS }
     ensures done { OnOk result (Replies 1 out.old.items out.new.items) }
     ensures grown { Grows out.old.items out.new.items }
 {
     put_count(2 * count_asked(asked), out)?;
-    for (index, row) in rows.iter().enumerate() {
+    for (index, entry) in entries.iter().enumerate() {
         if asked[index] {
-            put_doc(row, out)?;
+            put_doc(entry, out)?;
         }
     }
     Ok(())
@@ -65,6 +65,6 @@ pub fn command_docs(names: Arguments<'_>, out: &mut Vec<u8>) -> Result<(), Alloc
 {
     let before = out.len();
     let asked = asked_for(names);
-    let done = put_docs(rows(), &asked, out);
+    let done = put_docs(commands(), &asked, out);
     restored(done, before, out)
 }

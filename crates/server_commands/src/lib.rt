@@ -11,7 +11,6 @@ mod info_reply;
 mod page;
 mod reply_parts;
 mod sizes;
-mod table;
 
 pub use command_reply::{command_count, command_list};
 pub use config::config_get;

@@ -4,7 +4,7 @@ use denote.Ref.{Bor}
 use Rattle.std.specs.List.{flat_map}
 use Rattle.resp.specs.Replies.{Token, token}
 use Rattle.key_commands.specs.declared.key_command.KeyCommand.{KeyCommand}
-use Rattle.key_commands.specs.Asked.{of_one_key}
+use Rattle.key_commands.specs.Doing.{of_one_key}
 use Rattle.far_server.specs.Keyed.{IsKeyed}
 use Rattle.far_server.specs.Runs.{IsOther}
 use Rattle.far_server.proofs.Pushed.{on_ok, single}

@@ -1,6 +1,6 @@
 use Rattle.std.proofs.lemmas.Result.{on_ok_weaker}
 use Rattle.server_commands.proofs.Growing.{more_replies, array_reply}
-use Rattle.server_commands.proofs.command_reply.put_row.Goals as goal
+use Rattle.server_commands.proofs.command_reply.put_entry.Goals as goal
 
 pub returns-clause-done : goal.returns-clause-done
 returns-clause-done c =
