@@ -5,8 +5,11 @@ The server is two programs: the proved one, which has no sockets, and the gatewa
 import contextlib
 import os
 import re
+import select
+import shlex
 import signal
 import sys
+from pathlib import Path
 
 import server_programs
 from parts import MOMENT, SIGNALS, Interrupted, Part, Signalled, Signals
@@ -53,6 +56,14 @@ def memory_in(words):
             size = re.fullmatch(r"([0-9]+)([kmg]?)", value.lower())
             return int(size[1]) << {"": 0, "k": 10, "m": 20, "g": 30}[size[2]] if size else 0
     return 0
+
+
+def about(words):
+    """What the log's first line says: the version, and the options that were given. No option has a password, only the path of its file."""
+    version = ""
+    with contextlib.suppress(OSError):
+        version = (Path(__file__).resolve().parent.parent / "VERSION").read_text().strip() + " "
+    return f"farserve {version}{shlex.join(words)}"
 
 
 def malloc_for(words):
@@ -109,8 +120,9 @@ class Server:
             # It is the help, or the fault stands on standard error.
             write(told.decode())
             raise Failed(server.status(), "")
+        asked = words
         count, *words = told[:-2].decode().split("\0")
-        words += ["--server-pid", str(server.process.pid)]
+        words += ["--server-pid", str(server.process.pid), "--about", about(asked)]
         for worker in range(int(count)):
             words += ["--worker", f"{self.folder}/requests{worker}", f"{self.folder}/replies{worker}"]
         write(self.told(self.start("gateway", [*gateway, *words]), b"\n").decode())
@@ -168,8 +180,10 @@ def run(words, signals):
 
 
 def tell(why):
-    with contextlib.suppress(OSError):
-        print(f"farserve: {why}", file=sys.stderr, flush=True)
+    # Standard error may be a pipe that nobody reads.
+    with contextlib.suppress(OSError, ValueError):
+        if select.select([], [sys.stderr], [], MOMENT)[1]:
+            print(f"farserve: {why}", file=sys.stderr, flush=True)
 
 
 def main(words):

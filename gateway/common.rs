@@ -1,6 +1,8 @@
 //! What all workers and links of the gateway share.
 
+use crate::log::Log;
 use crate::memory::Memory;
+use crate::news::News;
 use crate::system::Epoll;
 use crate::turns::ALONE;
 use crate::words::Options;
@@ -23,12 +25,15 @@ pub struct Shared {
     pub now: Instant,
     /// Every worker is to get a WAKE.
     pub wakes: bool,
+    pub log: Log,
+    /// What the server last reported for the log.
+    pub news: News,
     /// A buffer for what is read from a socket.
     pub room: Vec<u8>,
 }
 
 impl Shared {
-    pub fn new(epoll: Epoll, options: &Options) -> Shared {
+    pub fn new(epoll: Epoll, log: Log, options: &Options) -> Shared {
         Shared {
             epoll,
             output_limit: options.output_limit,
@@ -38,6 +43,8 @@ impl Shared {
             memory: Memory::new(options.clients_memory),
             now: Instant::now(),
             wakes: false,
+            log,
+            news: News::default(),
             room: vec![0; ALONE.piece],
         }
     }

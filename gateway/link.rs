@@ -29,6 +29,8 @@ const LIMIT: usize = 1 << 16;
 const KEPT: usize = 1 << 18;
 /// The least time from one attempt to make a spare to the next one, and after an attempt failed.
 const PAUSE: Duration = Duration::from_secs(1);
+/// Why a connection ends for which the system has no memory.
+const SHORTAGE: &str = "no memory for it";
 /// The number in the token of the connection.
 const SOCKET: u64 = 0;
 /// The number in the token of the spare.
@@ -68,6 +70,8 @@ pub struct Link {
     is_greeting: bool,
     /// When the next spare may be made.
     next: Instant,
+    /// Why the last connection ended, until that is taken.
+    failure: Option<&'static str>,
 }
 
 impl Link {
@@ -89,6 +93,7 @@ impl Link {
             spare: None,
             is_greeting: false,
             next: shared.now,
+            failure: None,
         };
         link.take_spare(Some(spare), shared);
         Ok(link)
@@ -112,14 +117,14 @@ impl Link {
         self.flush_socket(shared.now);
         let is_owed = self.awaited > self.given || self.waiting() > 0;
         if self.socket.is_some() && is_owed && shared.now - self.moved >= patience {
-            self.close();
+            self.fail("it is silent for too long");
         }
         self.owes_close = self.owes_close && packet::put(&mut self.replies, CLOSE, self.number, b"").is_err();
         self.replies.flush()?;
         self.replies.shrink(KEPT);
         let has_room = self.replies.waiting() < LIMIT;
         if self.socket.as_mut().is_some_and(|it| it.watch(&shared.epoll, has_room, false).is_err()) {
-            self.close();
+            self.fail(SHORTAGE);
         }
         self.replies.watch(&shared.epoll, false, false)?;
         let has_room = self.waiting() < LIMIT;
@@ -191,6 +196,17 @@ impl Link {
         Ok(())
     }
 
+    /// Why a connection ended by itself since the last call.
+    pub fn take_failure(&mut self) -> Option<&'static str> {
+        self.failure.take()
+    }
+
+    /// Ends a connection that fails.
+    fn fail(&mut self, why: &'static str) {
+        self.failure = Some(why);
+        self.close();
+    }
+
     /// Ends the connection. The device gets a CLOSE once there is memory for it.
     fn close(&mut self) {
         (self.socket, self.owes_close) = (None, true);
@@ -207,7 +223,7 @@ impl Link {
             self.moved = now;
         }
         if socket.put(bytes).is_err() {
-            self.close();
+            self.fail(SHORTAGE);
         }
     }
 
@@ -220,7 +236,7 @@ impl Link {
             self.moved = now;
         }
         if flushed.is_err() {
-            self.close();
+            self.fail("it can't be written to");
         }
     }
 
@@ -228,13 +244,14 @@ impl Link {
         let Some(socket) = self.socket.as_ref().filter(|_| self.replies.waiting() < LIMIT) else { return };
         match socket.read(&mut shared.room) {
             Ok(None) => {}
-            Ok(Some(0)) | Err(_) => self.close(),
+            Ok(Some(0)) => self.fail("it closes the connection"),
+            Err(_) => self.fail("it can't be read from"),
             Ok(Some(count)) => {
                 self.given += 1;
                 self.awaited = self.awaited.min(self.given);
                 self.moved = shared.now;
                 if packet::put(&mut self.replies, DATA, self.number, &shared.room[..count]).is_err() {
-                    self.close();
+                    self.fail(SHORTAGE);
                 }
             }
         }

@@ -12,7 +12,9 @@ mod common;
 mod figures;
 mod link;
 mod listener;
+mod log;
 mod memory;
+mod news;
 mod packet;
 mod resident;
 mod store;
@@ -26,6 +28,7 @@ use common::Shared;
 use figures::Figure;
 use link::Link;
 use listener::{listen_at, Listener};
+use log::{Level, Log, Subject, Why};
 use packet::PLACE;
 use resident::Resident;
 use std::fmt::Display;
@@ -72,11 +75,25 @@ fn main() -> ExitCode {
             return ExitCode::from(2);
         }
     };
-    if let Err(fault) = serve(&options) {
-        eprintln!("gateway: {fault}");
-        return ExitCode::FAILURE;
+    // The signals are taken first: a thread that is started before would be ended by them.
+    let signals = of("signals", system::ends());
+    let (signals, log) = match signals.and_then(|it| Ok((it, of("the log", Log::new(options.log_level))?))) {
+        Ok(made) => made,
+        Err(fault) => {
+            eprintln!("gateway: {fault}");
+            return ExitCode::FAILURE;
+        }
+    };
+    log.tell(Level::Notice, format_args!("starts: {}", options.about));
+    let ended = serve(&options, signals, log.clone());
+    match &ended {
+        Ok(()) => {}
+        // Standard error may be a pipe that nobody reads.
+        Err(fault) if log.is_on() => log.tell(Level::Warning, format_args!("ends: {fault}")),
+        Err(fault) => eprintln!("gateway: {fault}"),
     }
-    ExitCode::SUCCESS
+    log.finish();
+    ended.map_or(ExitCode::FAILURE, |()| ExitCode::SUCCESS)
 }
 
 fn seconds(count: u32) -> Duration {
@@ -88,20 +105,21 @@ fn of<T>(what: impl Display, result: io::Result<T>) -> Result<T, String> {
     result.map_err(|fault| format!("{what}: {fault}"))
 }
 
-fn serve(options: &Options) -> Result<(), String> {
+fn serve(options: &Options, signals: File, log: Log) -> Result<(), String> {
     let epoll = of("events", Epoll::new())?;
-    let signals = of("signals", system::ends().and_then(|it| epoll.watch(&it, 0, INPUT, SIGNALS).map(|()| it)))?;
+    of("signals", epoll.watch(&signals, 0, INPUT, SIGNALS))?;
     let mut gateway = Gateway {
         signals,
         listeners: Vec::new(),
         workers: Vec::new(),
         store: far_store(options)?,
         links: Vec::new(),
-        shared: Shared::new(epoll, options),
-        connections: room_for(options)?,
+        connections: room_for(options, &log)?,
+        shared: Shared::new(epoll, log, options),
         next: 0,
         refused: 0,
         resident: 0,
+        store_fails: false,
         figures: Figure::all(Instant::now()),
     };
     let mut ready = "ready".to_string();
@@ -131,11 +149,15 @@ fn far_store(options: &Options) -> Result<Option<Store>, String> {
 
 /// How many connections there may be, because each is a file and takes memory. Standard error gets a line if
 /// the limit of open files makes them fewer.
-fn room_for(options: &Options) -> Result<usize, String> {
+fn room_for(options: &Options, log: &Log) -> Result<usize, String> {
     let files = of("files", system::raise_files())?;
     let room = files.saturating_sub(FILES + 2 * options.workers.len() + LINK_FILES * options.far_links.len());
     if room < options.connections {
-        eprintln!("gateway: {room} connections at most, since {files} files may be open");
+        let text = format!("{room} connections at most, since {files} files may be open");
+        match log.is_on() {
+            true => log.tell(Level::Warning, format_args!("{text}")),
+            false => eprintln!("gateway: {text}"),
+        }
     }
     Ok(room.min(options.connections).min(options.clients_memory / 2 / BASE))
 }
@@ -156,6 +178,8 @@ struct Gateway {
     refused: u64,
     /// Resident bytes of both programs.
     resident: u64,
+    /// The store could not be reached when it was last tried.
+    store_fails: bool,
     figures: [Figure; 4],
 }
 
@@ -175,6 +199,9 @@ impl Gateway {
         }
         // If nobody reads this line, clients may be served all the same.
         let _ = writeln!(io::stdout(), "{ready}").and_then(|()| io::stdout().flush());
+        let (workers, most) = (self.workers.len(), self.connections);
+        let text = format_args!("{ready}: {workers} threads, {most} connections at most");
+        self.shared.log.tell(Level::Notice, text);
         let (idle, resident) = (seconds(options.timeout), Resident::new(options.server_pid));
         let mut swept = Instant::now();
         while !self.turn(self.patience())? {
@@ -182,9 +209,13 @@ impl Gateway {
                 swept = self.shared.now;
                 self.resident = resident.bytes();
                 self.workers.iter_mut().for_each(|it| it.close_late(idle, &mut self.shared));
+                self.ask_news();
+                self.shared.log.tick(swept);
                 debug_assert!(self.shared.memory.is_sum_of(self.workers.iter().flat_map(Worker::taken)));
             }
         }
+        self.shared.log.tell_rest();
+        self.shared.log.tell(Level::Notice, format_args!("ends: a signal came"));
         self.stop();
         Ok(())
     }
@@ -307,6 +338,10 @@ impl Gateway {
         let Some(store) = &self.store else { return Ok(()) };
         for (number, link) in self.links.iter_mut().enumerate() {
             of(format_args!("far link {number} has ended"), link.hand_over(store.patience(), &mut self.shared))?;
+            if let Some(why) = link.take_failure() {
+                let text = format_args!("far store {}: a connection ends: {why}", store.name());
+                self.shared.log.line(Subject::StoreFails, self.shared.now, text);
+            }
             if link.wants_spare(self.shared.now) {
                 store.greet(number);
             }
@@ -330,6 +365,8 @@ impl Gateway {
             let greatest = each.filter_map(|(place, it)| it.greatest(half).map(|it| (it, place))).max();
             let Some(((_, number), place)) = greatest else { break };
             self.shared.memory.closed += 1;
+            let text = format_args!("a client was closed: all clients take more than their part of the memory {half}");
+            self.shared.log.line(Subject::Memory, self.shared.now, text);
             self.workers[place].drop_client(number, &mut self.shared);
         }
         self.shared.memory.closed > closed
@@ -346,9 +383,31 @@ impl Gateway {
         }
     }
 
+    /// Asks the first worker for what the log is to have. If there is no memory for the note, it is asked at the
+    /// next sweep.
+    fn ask_news(&mut self) {
+        if self.shared.log.is_on() && !self.shared.news.is_asked {
+            self.shared.news.is_asked = self.workers[0].tell(format_args!("news")).is_ok();
+        }
+    }
+
     /// Gives the links the connections that were made for them.
     fn take_spares(&mut self) {
-        for (link, made) in self.store.iter().flat_map(Store::greeted) {
+        let Some(store) = &self.store else { return };
+        for (link, made) in store.greeted() {
+            let (name, now) = (store.name(), self.shared.now);
+            match &made {
+                Ok(_) if self.store_fails => {
+                    let text = format_args!("far store {name}: it is reached again");
+                    self.shared.log.line(Subject::StoreBack, now, text);
+                }
+                Ok(_) => {}
+                Err(fault) => {
+                    let text = format_args!("far store {name}: {}", store.why(fault));
+                    self.shared.log.line(Subject::StoreFails, now, text);
+                }
+            }
+            self.store_fails = made.is_err();
             self.links[link].take_spare(made.ok(), &self.shared);
         }
     }
@@ -363,13 +422,22 @@ impl Gateway {
                     false => Err(socket),
                 };
                 match taken {
-                    Ok(()) => self.next = (self.next + 1) % self.workers.len(),
+                    Ok(()) => {
+                        let (worker, address) = (self.next, address.bytes().escape_ascii());
+                        let text = format_args!("a client has connected from {address}, to worker {worker}");
+                        self.shared.log.line(Subject::Opened, self.shared.now, text);
+                        self.next = (self.next + 1) % self.workers.len();
+                    }
                     Err(socket) => self.refuse(socket),
                 }
             }
             // The client has gone.
             Err(fault) if matches!(fault.kind(), ErrorKind::WouldBlock | ErrorKind::ConnectionAborted) => {}
-            Err(_) => thread::sleep(PAUSE),
+            Err(fault) => {
+                let text = format_args!("a client can't be accepted: {}", Why(&fault));
+                self.shared.log.line(Subject::Shortage, self.shared.now, text);
+                thread::sleep(PAUSE);
+            }
         }
         self.close_greatest();
     }
@@ -379,6 +447,14 @@ impl Gateway {
         // A new socket has room for it.
         let _ = socket.write(REFUSAL);
         self.refused += 1;
+        let (most, now) = (self.connections, self.shared.now);
+        match self.shared.clients < most {
+            true => self.shared.log.line(Subject::Shortage, now, format_args!("a client was refused: no memory")),
+            false => {
+                let text = format_args!("a client was refused: there are {most} connections, the most that may be");
+                self.shared.log.line(Subject::Refused, now, text);
+            }
+        }
     }
 
     /// Takes no more input, and waits until no reply is owed, a second at most. If a worker fails now, it

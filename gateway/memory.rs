@@ -10,6 +10,7 @@
 //! while the workers hold much, one client at a time goes on with a request of which they hold a long part.
 //! The others wait.
 
+use std::fmt::{self, Display, Formatter};
 use std::time::{Duration, Instant};
 
 /// More than a worker can hold for a client, and so little that no sum overflows.
@@ -20,6 +21,15 @@ const MOST: u64 = 1 << 40;
 pub enum Half {
     Gateway,
     Workers,
+}
+
+impl Display for Half {
+    fn fmt(&self, to: &mut Formatter<'_>) -> fmt::Result {
+        to.write_str(match self {
+            Half::Gateway => "in the gateway",
+            Half::Workers => "in the server",
+        })
+    }
 }
 
 /// Bytes that are taken.

@@ -6,6 +6,7 @@
 //! These threads are started once, and allocate nothing later. A thread for which the system has no memory
 //! would end the process.
 
+use crate::log::Why;
 use std::ffi::{OsStr, OsString};
 use std::fmt::{self, Display, Formatter};
 use std::fs::File;
@@ -137,6 +138,16 @@ impl Store {
         (0..count).filter_map(|link| self.greeter.tasks()[link].take().map(|made| (link, made)))
     }
 
+    /// The store's address.
+    pub fn name(&self) -> impl Display + '_ {
+        Path::new(&self.name).display()
+    }
+
+    /// Why there is no connection, in words that need no allocation.
+    pub fn why<'a>(&self, fault: &'a Fault) -> impl Display + 'a {
+        Reason(fault, self.patience())
+    }
+
     /// The text that there is no connection, and why.
     pub fn fault(&self, fault: Fault) -> String {
         let why = match fault {
@@ -243,6 +254,23 @@ impl Line {
             line if line == want => Ok(()),
             line if line.starts_with(b"-NOAUTH") => Err(Fault::AsksForPassword),
             _ => Err(Fault::Replies(self)),
+        }
+    }
+}
+
+/// A fault, and how long the store was waited for.
+struct Reason<'a>(&'a Fault, Duration);
+
+impl Display for Reason<'_> {
+    fn fmt(&self, to: &mut Formatter<'_>) -> fmt::Result {
+        match self.0 {
+            Fault::System(fault) if matches!(fault.kind(), ErrorKind::WouldBlock | ErrorKind::TimedOut) => {
+                write!(to, "no answer within {} seconds", self.1.as_secs())
+            }
+            Fault::System(fault) => Why(fault).fmt(to),
+            // A line of the store may repeat what it was sent, that is the password.
+            Fault::Replies(_) => to.write_str("it replies what no store replies"),
+            other => other.fmt(to),
         }
     }
 }

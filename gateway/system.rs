@@ -1,7 +1,7 @@
 //! The calls of Linux that std lacks, declared by hand. All unsafe code is here.
 #![allow(unsafe_code)]
 
-use std::ffi::{c_int, c_long, c_uint, c_ulong, c_void};
+use std::ffi::{c_char, c_int, c_long, c_uint, c_ulong, c_void};
 use std::fs::File;
 use std::io;
 use std::os::fd::{AsRawFd, FromRawFd};
@@ -43,6 +43,34 @@ pub struct Event {
     pub token: u64,
 }
 
+/// `struct tm` of the C library.
+#[repr(C)]
+struct Moment {
+    second: c_int,
+    minute: c_int,
+    hour: c_int,
+    day: c_int,
+    month: c_int,
+    year: c_int,
+    weekday: c_int,
+    day_of_year: c_int,
+    is_summer: c_int,
+    offset: c_long,
+    zone: *const c_char,
+}
+
+/// A time in the local zone, with months and days from 1 on. `offset` is how many seconds it is ahead of UTC.
+#[derive(Clone, Copy)]
+pub struct LocalTime {
+    pub year: i32,
+    pub month: i32,
+    pub day: i32,
+    pub hour: i32,
+    pub minute: i32,
+    pub second: i32,
+    pub offset: i64,
+}
+
 extern "C" {
     fn accept4(listener: c_int, address: *mut c_void, length: *mut c_void, flags: c_int) -> c_int;
     fn epoll_create1(flags: c_int) -> c_int;
@@ -52,6 +80,7 @@ extern "C" {
     fn getrlimit(what: c_int, limits: *mut [u64; 2]) -> c_int;
     fn ioctl(file: c_int, what: c_ulong, ...) -> c_int;
     fn listen(socket: c_int, waiting: c_int) -> c_int;
+    fn localtime_r(seconds: *const i64, moment: *mut Moment) -> *mut Moment;
     fn mallopt(what: c_int, value: c_int) -> c_int;
     fn setrlimit(what: c_int, limits: *const [u64; 2]) -> c_int;
     fn setsockopt(socket: c_int, level: c_int, name: c_int, value: *const c_int, length: c_uint) -> c_int;
@@ -146,6 +175,33 @@ pub fn free_at_once() {
     unsafe {
         mallopt(M_MMAP_THRESHOLD, LARGE);
         mallopt(M_TRIM_THRESHOLD, LARGE);
+    }
+}
+
+/// The local time of this many seconds since 1970. All zeros if the system knows none.
+pub fn local_time(seconds: i64) -> LocalTime {
+    let mut it = Moment {
+        second: 0,
+        minute: 0,
+        hour: 0,
+        day: 0,
+        month: -1,
+        year: -1900,
+        weekday: 0,
+        day_of_year: 0,
+        is_summer: 0,
+        offset: 0,
+        zone: null_mut(),
+    };
+    unsafe { localtime_r(&seconds, &mut it) };
+    LocalTime {
+        year: it.year + 1900,
+        month: it.month + 1,
+        day: it.day,
+        hour: it.hour,
+        minute: it.minute,
+        second: it.second,
+        offset: it.offset,
     }
 }
 

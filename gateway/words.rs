@@ -1,5 +1,6 @@
 //! The gateway's command line.
 
+use crate::log::Level;
 use std::ffi::OsString;
 use std::fmt::Display;
 use std::net::IpAddr;
@@ -8,7 +9,7 @@ use std::path::PathBuf;
 use std::str::FromStr;
 
 pub const USAGE: &str = "usage: gateway [--port N] [--bind ADDRESS] [--guarded] [--unix PATH] [--timeout SECONDS] \
-    [--auth-timeout SECONDS] [--connections N] [--output-limit BYTES] [--clients-memory BYTES] [--server-pid N] [--far-resp HOST:PORT|PATH --far-link REQUESTS REPLIES... \
+    [--auth-timeout SECONDS] [--connections N] [--output-limit BYTES] [--clients-memory BYTES] [--server-pid N] [--log-level warning|notice|debug] [--about TEXT] [--far-resp HOST:PORT|PATH --far-link REQUESTS REPLIES... \
     [--far-password-file FILE] [--far-timeout SECONDS]] --worker REQUESTS REPLIES [--worker REQUESTS REPLIES]...";
 const FAR_TIMEOUTS: RangeInclusive<u32> = 1..=3600;
 /// The most workers, and the most links. The place of each in a token is a byte.
@@ -36,6 +37,10 @@ pub struct Options {
     pub clients_memory: usize,
     /// The server's process. Its memory is reported together with the gateway's.
     pub server_pid: Option<u32>,
+    /// Which lines the log has. None if there is no log.
+    pub log_level: Option<Level>,
+    /// What the first line of the log says of the server: its version and its settings.
+    pub about: String,
     /// The pipes of each worker: its requests, its replies.
     pub workers: Vec<(PathBuf, PathBuf)>,
     /// The address of the far store.
@@ -62,6 +67,8 @@ impl Options {
             output_limit: 1 << 26,
             clients_memory: 1 << 26,
             server_pid: None,
+            log_level: None,
+            about: String::new(),
             workers: Vec::new(),
             far_resp: None,
             far_password_file: None,
@@ -82,6 +89,8 @@ impl Options {
                 "--output-limit" => it.output_limit = read(&name, value()?)?,
                 "--clients-memory" => it.clients_memory = read(&name, value()?)?,
                 "--server-pid" => it.server_pid = Some(read(&name, value()?)?),
+                "--log-level" => it.log_level = Some(read(&name, value()?)?),
+                "--about" => it.about = value()?.to_string_lossy().into_owned(),
                 "--worker" => it.workers.push((value()?.into(), value()?.into())),
                 "--far-resp" => it.far_resp = Some(address(&name, value()?)?),
                 "--far-password-file" => it.far_password_file = Some(value()?.into()),

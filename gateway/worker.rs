@@ -21,6 +21,7 @@ mod input;
 use crate::channel::Channel;
 use crate::client::{Client, Turn};
 use crate::common::Shared;
+use crate::log::Subject;
 use crate::memory::{Half, Taken};
 use crate::packet::{self, Packet, Packets, CLOSE, DATA, LONGEST, OPEN, PLACE, REPLIES, REQUESTS};
 use crate::system::{Epoll, OUTPUT};
@@ -163,8 +164,11 @@ impl Worker {
 
     /// Handles a note of the worker. Other texts are for later versions, and are ignored.
     fn take_note(&mut self, text: &[u8], shared: &mut Shared) {
-        let number = str::from_utf8(text).ok().and_then(|it| it.strip_prefix("synced ")?.parse().ok());
-        if let Some(number) = number {
+        let Ok(text) = str::from_utf8(text) else { return };
+        if let Some(facts) = text.strip_prefix("news ") {
+            shared.news.take(facts, &mut shared.log, shared.now);
+        }
+        if let Some(number) = text.strip_prefix("synced ").and_then(|it| it.parse().ok()) {
             self.see_answered(number, shared);
         }
     }
@@ -267,7 +271,13 @@ impl Worker {
     pub fn drop_client(&mut self, number: u64, shared: &mut Shared) {
         let place = self.place;
         let Some(client) = self.client(number) else { return };
-        client.socket = None;
+        if client.socket.take().is_some() {
+            shared.log.line(
+                Subject::Closed,
+                shared.now,
+                format_args!("a client of worker {} has gone", place >> PLACE),
+            );
+        }
         shared.memory.count(&mut client.taken, Half::Gateway, 0);
         shared.memory.hold((place, number), &mut client.taken, 0);
         self.end_input(number, shared);
@@ -321,7 +331,13 @@ impl Worker {
         let limit = client.output_limit(shared);
         match client.socket.as_mut().map_or(Ok(()), |it| it.send(bytes, limit)) {
             Ok(()) => self.update(number, shared),
-            Err(_) => self.drop_client(number, shared),
+            Err(fault) => {
+                if fault.kind() == ErrorKind::OutOfMemory {
+                    let text = format_args!("a client was closed: more than {limit} bytes of replies wait for it");
+                    shared.log.line(Subject::Backlog, shared.now, text);
+                }
+                self.drop_client(number, shared);
+            }
         }
     }
 
@@ -350,6 +366,8 @@ impl Worker {
             let Some(client) = self.client(number) else { continue };
             let is_late = client.asked == 0 && client.turn == Turn::None && client.is_late(shared);
             if !idle.is_zero() && shared.now - client.active >= idle {
+                let text = format_args!("a client was closed: it was silent for {} seconds", idle.as_secs());
+                shared.log.line(Subject::Silent, shared.now, text);
                 self.drop_client(number, shared);
             } else if is_late {
                 // If there is no memory for the note, the worker is asked at the next sweep.

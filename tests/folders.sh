@@ -53,17 +53,19 @@ try_same 4 2 4096 "$root/examples/first.txt" "$root/examples/other.txt"
 try_same 256 16 4096 "$work/many.txt"
 /usr/bin/python3 -B "$root/tests/random_runs.py" "$program" "$runs" 1 --far "$work/one" --far "$work/other" || failed=1
 
-try_fault 2 'far 1: cannot open' --far "$work/none" 4 2 4096 "$work/no_file"
-try_fault 2 'far 2: cannot open' --far "$work/one" --far '' 4 2 4096 -
-try_fault 2 'far 1: cannot open' --far "$work/many.txt" 4 2 4096 -
+try_fault 2 "far 1: cannot open: $work/none: No such file or directory; make the folder first" --far "$work/none" 4 2 4096 "$work/no_file"
+try_fault 2 'far 2: cannot open: the path is empty; name a folder' --far "$work/one" --far '' 4 2 4096 -
+try_fault 2 "far 1: cannot open: $work/many.txt: Not a directory; name a folder" --far "$work/many.txt" 4 2 4096 -
 try_fault 1 'file 1: cannot open' --far "$work/one" 4 2 4096 "$work/no_file"
-try_fault 2 'bad config 1' --far "$work/one" 0 2 4096 -
+try_fault 2 'bad config 1: BUCKETS 0: no number from 1 to 65536; 1024 would do' --far "$work/one" 0 2 4096 -
+try_fault 2 'bad config 2: FRAMES 65537: no number from 1 to 65536; 256 would do' 4 65537 4096 -
+try_fault 2 'bad config 3: LIMIT 3: no number from 4 to 1048576; 4096 would do' 4 2 3 -
 try_fault 2 'usage: farrun [--far DIR | --far-resp-in PIPE --far-resp-out PIPE]... [--lanes N] BUCKETS FRAMES LIMIT FILE...' --far "$work/one" 4 2 x -
 
 # Root writes to any folder.
 if [ "$(id -u)" -ne 0 ]; then
     chmod a-w "$work/other"
-    try_fault 2 'far 1: cannot open' --far "$work/other" 4 2 4096 -
+    try_fault 2 "far 1: cannot open: $work/other: Permission denied; the run has to be able to make files in it" --far "$work/other" 4 2 4096 -
     chmod u+w "$work/other"
 fi
 

@@ -16,6 +16,7 @@ import time
 import gateway_ends
 import gateway_link_ends
 import gateway_links
+import gateway_log
 import gateway_memory
 import gateway_refused
 import gateway_unauthenticated
@@ -282,7 +283,7 @@ TRIALS = [
     a_worker_closes_once_all_is_out, who_ends_its_input_gets_what_it_is_owed, a_wake_goes_to_every_worker,
     too_many_are_refused, idle_clients_are_closed, clients_come_and_go_in_any_way, *gateway_ends.TRIALS,
     *gateway_links.TRIALS, *gateway_link_ends.TRIALS, *gateway_unauthenticated.TRIALS, *gateway_turns.TRIALS,
-    *gateway_memory.TRIALS, *gateway_refused.TRIALS,
+    *gateway_memory.TRIALS, *gateway_refused.TRIALS, *gateway_log.TRIALS,
 ]
 
 

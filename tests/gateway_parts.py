@@ -114,6 +114,9 @@ class Worker(threading.Thread):
         self.send(frame(LET_IN, connection))
 
     def take_note(self, text):
+        if text == b"news":
+            # No worker has to answer.
+            return
         word, number = text.split()
         if word == b"sync":
             self.send(frame(NOTE, 0, b"synced " + number))

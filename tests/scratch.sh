@@ -43,10 +43,14 @@ fi
 told=$(/usr/bin/python3 -B "$tests/random_runs.py" "$program" "$runs" 1 --far "$work/page") || status=1
 printf 'on a full disk: %s\n' "$told"
 [[ $told == *"'device'"* ]] || { echo 'WRONG: no reply is device' && status=1; }
+declare -A reasons=(
+    [no_file]='No space left on device; make room on its disk'
+    [read_only]='Read-only file system; name a folder on a disk that takes writes'
+)
 for disk in no_file read_only; do
     is=0
     told=$("$program" --far "$work/page" --far "$work/$disk" 4 2 4096 "$work/none" 2>&1) || is=$?
-    if [ "$is" -ne 2 ] || [ "$told" != 'far 2: cannot open' ]; then
+    if [ "$is" -ne 2 ] || [ "$told" != "far 2: cannot open: $work/$disk: ${reasons[$disk]}" ]; then
         printf 'WRONG: %s: status %s, %s\n' "$disk" "$is" "$told"
         status=1
     fi

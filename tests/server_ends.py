@@ -144,7 +144,7 @@ def a_signal_ends_it(tried, _):
                     server.process.send_signal(name)
                 assert server.process.wait(PATIENCE) == 0, server.text()
                 assert not [it for it in both if os.path.exists(f"/proc/{it}")], "one of the two is left"
-                assert len(server.text().splitlines()) <= 2, server.text()
+                assert len(server.text().splitlines()) <= 5, server.text()
                 assert client.is_ended()
     assert not os.listdir(tried.runtime), "the folder of the pipes is left"
 

@@ -116,10 +116,15 @@ def limits_are_told(tried, _):
     with tried.start("--value-limit", "1000") as server:
         client = server.client()
         assert client.ask("SET", "k", b"x" * 1000) == OK
-        for words in (("SET", "k", b"x" * 1001), ("APPEND", "k", "y"), ("SETRANGE", "k", 1000, "y"), ("MSET", "a", b"x" * 1001),
-                      ("SET", b"k" * 70000, "1")):
+        for words in (("SET", "k", b"x" * 1001), ("APPEND", "k", "y"), ("SETRANGE", "k", 1000, "y"), ("MSET", "a", b"x" * 1001)):
             told = client.ask(*words)
-            assert told[:1] == b"-", (words[0], told)
+            assert told == b"-ERR string exceeds maximum allowed size (proto-max-bulk-len)\r\n", (words[0], told)
+        for length in (65_529, 70_000):
+            long = b"k" * length
+            for words in (("SET", long, "1"), ("GET", long), ("INCR", long), ("MSET", "a", "b", long, "1"), ("DEL", long)):
+                told = client.ask(*words)
+                assert told == b"-ERR key is too long\r\n", (words[0], told)
+        assert client.ask("SET", b"k" * 65_528, "1") == OK
         assert client.value("GET", "k") == b"x" * 1000
         told = client.ask("MGET", *["k"] * 70000)
         assert told.startswith(b"-ERR Protocol error"), told
@@ -134,6 +139,17 @@ def limits_are_told(tried, _):
             client.send(b"PING " + b"x" * 200000)
             assert client.reply().startswith(b"-ERR Protocol error")
         server.answers()
+
+
+def a_byte_in_place_of_a_mark_is_named(tried, _):
+    """Also where that byte would end the error's line. Of redis-server these are the same."""
+    for byte, shown in ((b"f", b"f"), (b"3", b"3"), (b"'", b"'"), (b"\r", b" "), (b"\n", b" "), (b"\xff", b"\xff")):
+        client = tried.server.client()
+        # redis-server looks at it once the line is there.
+        client.send(b"*2\r\n$4\r\nECHO\r\n" + byte + b"3\r\n")
+        told = client.reply()
+        assert told == b"-ERR Protocol error: expected '$', got '" + shown + b"'\r\n", (byte, told)
+        assert client.is_ended()
 
 
 def silent_clients_are_closed(tried, _):
@@ -178,4 +194,4 @@ def a_password_is_asked_for(tried, _):
 
 
 TRIALS = [hostile_bytes_are_answered_or_refused, broken_clients_harm_nobody, who_never_reads_harms_nobody, limits_are_told,
-          silent_clients_are_closed, a_password_is_asked_for]
+          a_byte_in_place_of_a_mark_is_named, silent_clients_are_closed, a_password_is_asked_for]

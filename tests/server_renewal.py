@@ -224,7 +224,7 @@ def what_a_store_lost_goes(client, far, values):
     good, refused = (sum(it[:1] == first for it in told) for first in (b"$", b"-"))
     assert good and refused and good + refused == len(told), (good, refused)
     before = renewals(client)
-    assert client.ask("FLUSHALL") == b"-ERR far device failed\r\n"
+    assert client.ask("FLUSHALL") == b"-ERR far device failed: store has lost the object\r\n"
     until(lambda: renewals(client) == before + 1, "a renewal by FLUSHALL")
     assert client.ask("FLUSHALL") == OK and client.ask("DBSIZE") == b":0\r\n"
     set_all(client, values)

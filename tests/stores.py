@@ -317,18 +317,19 @@ def words(trials, store):
     none, fifo, rest = f"{trials.work}/none", f"{trials.work}/fifo", (4, 2, 4096, "-")
     os.mkfifo(fifo)
     # The pipe for requests is opened first: nobody opens the other end of this one.
-    told(2, "far-resp 1: cannot open", *pair(fifo, none), *rest)
-    told(2, "far-resp 1: cannot open", *pair(fifo, trials.work), *rest)
+    missing = "cannot open: No such file or directory; make both pipes first, and let this user use them"
+    told(2, f"far-resp 1: {missing}", *pair(fifo, none), *rest)
+    told(2, "far-resp 1: cannot open: is a directory", *pair(fifo, trials.work), *rest)
     good = pair(fifo, fifo)
     for given in [good[:2], good[2:], (*good, *good[:2]), (*good, *good[2:]), (*good, "--far", trials.work), (*good, "--lanes", 2),
                   (*good * 2, "--lanes", 1), good * 65]:
         told(2, USAGE, *given, *rest)
     told(2, USAGE, *good, 4, 2, "x", "-")
     for status, text, given in [
-        (2, "far-resp 1: cannot open", lambda options: (options[0], none, *options[2:], *rest)),
-        (2, "far-resp 2: cannot open", lambda options: (*options, *pair(fifo, none), *rest)),
-        (2, "far-resp 2: cannot open", lambda options: (*options, "--lanes", 2, *pair(fifo, none), *rest)),
-        (2, "bad config 1", lambda options: (*options, 0, 2, 4096, "-")),
+        (2, f"far-resp 1: {missing}", lambda options: (options[0], none, *options[2:], *rest)),
+        (2, f"far-resp 2: {missing}", lambda options: (*options, *pair(fifo, none), *rest)),
+        (2, f"far-resp 2: {missing}", lambda options: (*options, "--lanes", 2, *pair(fifo, none), *rest)),
+        (2, "bad config 1: BUCKETS 0: no number from 1 to 65536; 1024 would do", lambda options: (*options, 0, 2, 4096, "-")),
         (1, "file 1: cannot open", lambda options: (*options, 4, 2, 4096, none)),
     ]:
         with Bridge(store, 1) as bridge:

@@ -4,6 +4,7 @@ use super::{Worker, WAKE};
 use crate::before_login;
 use crate::client::Turn;
 use crate::common::Shared;
+use crate::log::Subject;
 use crate::packet::DATA;
 use crate::turns::Share;
 use std::io;
@@ -120,7 +121,10 @@ impl Worker {
     fn go_on(&mut self, number: u64, taken: io::Result<()>, shared: &mut Shared) {
         match taken {
             Ok(()) => self.update(number, shared),
-            Err(_) => self.drop_client(number, shared),
+            Err(_) => {
+                shared.log.line(Subject::Shortage, shared.now, format_args!("a client was closed: no memory"));
+                self.drop_client(number, shared);
+            }
         }
     }
 
@@ -169,10 +173,17 @@ impl Worker {
         match (&client.held, client.unauthenticated) {
             (Some(_), None) => self.want_turn(number, shared),
             (&Some((fault, _)), Some(_)) => {
+                let text = format_args!("a client was closed: it sends more than it may before it gives the password");
+                shared.log.line(Subject::Unauthenticated, shared.now, text);
                 self.send(number, fault.reply(), shared);
                 self.end_input(number, shared);
             }
-            (None, _) if is_late => self.drop_client(number, shared),
+            (None, _) if is_late => {
+                let patience = shared.auth_timeout.as_secs();
+                let text = format_args!("a client was closed: it gave no password within {patience} seconds");
+                shared.log.line(Subject::Unauthenticated, shared.now, text);
+                self.drop_client(number, shared);
+            }
             (None, _) => {}
         }
     }

@@ -1,11 +1,13 @@
 -- What commands are spelled like.
-use Rattle.std.specs.Prelude.{◌≡◌, ℕ, ◌<◌, ◌%◌, ℤ, pos, negsuc, neg_ℤ, List, [], ◌∷◌, length, map, Option, MatchOption, decimal}
+use Rattle.std.specs.Prelude.{◌≡◌, ℕ, ◌<◌, ◌%◌, ◌^◌, ℤ, pos, negsuc, neg_ℤ, List, [], ◌∷◌, length, map, Option, MatchOption, decimal}
 use Rattle.std.specs.Fmt.{signed_decimal}
 use Rattle.std.specs.Char.{to_ascii_lowercase}
 use Rattle.commands.specs.declared.command.Command.{Command}
 use Rattle.commands.specs.declared.command.Command.TheVariants as command
 use Rattle.commands.specs.declared.name.Name.{Name}
 use Rattle.commands.specs.declared.name.Name.TheVariants as names
+use Rattle.commands.specs.declared.name.OfNumber.{OfNumber}
+use Rattle.commands.specs.declared.name.OfNumber.TheVariants as of_number
 use Rattle.commands.specs.declared.name.Special.{Special}
 use Rattle.commands.specs.declared.name.Special.TheVariants as special
 use Rattle.commands.specs.declared.arguments.Arguments.{Arguments}
@@ -81,13 +83,18 @@ IsSpecial special.Ping rest c = IsPing (λ text. MatchOption text (length rest �
 IsSpecial special.Echo rest c = IsEcho (λ text. rest ≡ text.now ∷ []) c
 IsSpecial special.Quit rest c = IsQuit c
 
+-- a number that a command on a key and a number takes: any, or one bit's offset
+abbrev pub IsNumber : OfNumber → ℤ → Type 0
+IsNumber of_number.IncrBy number = Unit {0}
+IsNumber of_number.GetBit number = (offset : ℕ) × (number ≡ pos offset) × (offset < 2 ^ 32)
+
 -- the arguments after a name spell the command: of those that take nothing, a key, keys, a key and a value, or a key and a number
 abbrev pub IsSpelt : Name → List (List ℕ) → Command → Type 0
 IsSpelt (names.Nothing of) rest (command.Nothing is) = (is ≡ of) × (length rest ≡ 0)
 IsSpelt (names.Key of) rest (command.Key is key) = (is ≡ of) × (rest ≡ key.now ∷ [])
 IsSpelt (names.Keys of) rest (command.Keys is keys) = (is ≡ of) × (listed keys ≡ rest) × (0 < length rest)
 IsSpelt (names.Pair of) rest (command.Pair is key value) = (is ≡ of) × (rest ≡ key.now ∷ value.now ∷ [])
-IsSpelt (names.Number of) rest (command.Number is key number) = (is ≡ of) × (rest ≡ key.now ∷ signed_decimal number ∷ [])
+IsSpelt (names.Number of) rest (command.Number is key number) = (is ≡ of) × (rest ≡ key.now ∷ signed_decimal number ∷ []) × IsNumber of number
 IsSpelt (names.Special of) rest c = IsSpecial of rest c
 IsSpelt (names.Server of) rest (command.Server c) = IsAsked of rest c
 IsSpelt n rest c = ⊥

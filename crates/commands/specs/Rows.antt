@@ -12,10 +12,10 @@ nameless = name.Nothing of_nothing.Multi
 unfoldable pub listed_names : List Name
 listed_names = map (λ entry. entry.1.name) TABLE
 
--- the text of the entry at a index
+-- the text of the entry at an index
 unfoldable pub text_at : ℕ → List ℕ
 text_at index = get_or (map (λ entry. entry.0.now) TABLE) index []
 
--- the command of the entry at a index
+-- the command of the entry at an index
 unfoldable pub name_at : ℕ → Name
 name_at index = get_or listed_names index nameless

@@ -52,6 +52,11 @@ abbrev pub info_text : ClientInfo → List ℕ
 info_text LibraryName = codes "lib-name"
 info_text LibraryVersion = codes "lib-ver"
 
+-- how many entries SLOWLOG GET asks for: as many as the number says, 10 without one, and all by -1
+abbrev pub AreEntries : List (List ℕ) → Option ℕ → Type 0
+AreEntries behind (Some most) = ((behind ≡ []) × (most ≡ 10)) ⊎ (behind ≡ decimal most ∷ [])
+AreEntries behind None = behind ≡ codes "-1" ∷ []
+
 -- the arguments behind the name of a command to the server spell it
 abbrev pub IsAsked : OfServer → List (List ℕ) → ServerCommand → Type 0
 IsAsked of args (server.Auth login) = (of ≡ of_server.Auth) × (args ≡ credentials login)
@@ -67,7 +72,7 @@ IsAsked of args server.CommandCount = (of ≡ of_server.Command) × IsPart (code
 IsAsked of args (server.CommandDocs names) = (of ≡ of_server.Command) × IsPart (codes "docs") (listed names) args
 IsAsked of args (server.ConfigGet patterns) = (of ≡ of_server.Config) × (0 < length (listed patterns)) × IsPart (codes "get") (listed patterns) args
 IsAsked of args server.SlowLogLen = (of ≡ of_server.SlowLog) × IsPart (codes "len") [] args
-IsAsked of args server.SlowLogGet = (of ≡ of_server.SlowLog) × ((behind : List (List ℕ)) × IsPart (codes "get") behind args)
+IsAsked of args (server.SlowLogGet most) = (of ≡ of_server.SlowLog) × ((behind : List (List ℕ)) × AreEntries behind most × IsPart (codes "get") behind args)
 IsAsked of args server.SlowLogReset = (of ≡ of_server.SlowLog) × IsPart (codes "reset") [] args
 IsAsked of args (server.Info sections) = (of ≡ of_server.Info) × (listed sections ≡ args)
 IsAsked of args (server.Scan scan) = (of ≡ of_server.Scan) × ((words : List (List ℕ)) × (args ≡ decimal scan.cursor ∷ words) × IsScan words scan)

@@ -20,7 +20,7 @@ pub enum CommandFault<'a> {
     #[error("ERR 'keys' is not supported by farserve, use SCAN")]
     Keys,
     /// A word behind a command's name that names no part of it.
-    #[error("ERR unknown subcommand '{1}'. Try {0} HELP.")]
+    #[error("ERR unknown subcommand '{1}' of {0}")]
     Subcommand(Container, Shown<'a>),
     /// More or fewer arguments than the command takes.
     #[error("ERR wrong number of arguments for '{0}' command")]
@@ -29,7 +29,7 @@ pub enum CommandFault<'a> {
     #[error("ERR wrong number of arguments for '{0}' command")]
     SubcommandCount(Subcommand),
     /// More than SLOWLOG GET takes; the word as it was spelled.
-    #[error("ERR unknown subcommand or wrong number of arguments for '{0}'. Try SLOWLOG HELP.")]
+    #[error("ERR unknown subcommand or wrong number of arguments for '{0}'")]
     SlowLogCount(Shown<'a>),
     /// An option that the command does not have, that another one excludes, or whose value is missing.
     #[error("ERR syntax error")]
@@ -99,13 +99,12 @@ impl CommandFault<'_> {
                 request.push_text(out)
             }
             CommandFault::Subcommand(of, word) => {
-                word.push_between("ERR unknown subcommand '", "'. Try ", out)?;
-                out.extend_from_slice(of.text().as_bytes())?;
-                out.extend_from_slice(b" HELP.")
+                word.push_between("ERR unknown subcommand '", "' of ", out)?;
+                out.extend_from_slice(of.text().as_bytes())
             }
             CommandFault::SlowLogCount(word) => word.push_between(
                 "ERR unknown subcommand or wrong number of arguments for '",
-                "'. Try SLOWLOG HELP.",
+                "'",
                 out,
             ),
             CommandFault::Option(word) => word.push_between("ERR Unsupported option ", "", out),

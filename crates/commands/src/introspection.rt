@@ -2,7 +2,7 @@
 ghost use Rattle.std.specs.Prelude.{◌≡◌, ℕ, List, [], ◌∷◌, length, IfOk, IsOk, codes};
 ghost use Rattle.commands.specs.declared.server_name.OfServer.TheVariants as of_server;
 ghost use Rattle.commands.specs.Arguments.{listed};
-ghost use Rattle.commands.specs.Servers.{IsAsked, IsCountedServer};
+ghost use Rattle.commands.specs.Servers.{AreEntries, IsAsked, IsCountedServer};
 
 use crate::arguments::Arguments;
 use crate::connection::alone;
@@ -45,18 +45,24 @@ pub(crate) fn config<'a>(rest: Arguments<'a>) -> Result<ServerCommand<'a>, Comma
     }
 }
 
-/// SLOWLOG GET, of so many entries at most, or of all where the number is -1.
-fn entries<'a>(word: &'a [u8], rest: Arguments<'a>) -> Result<ServerCommand<'a>, CommandFault<'a>>
-    ensures { IfOk result (λ c. c ≡ ServerCommand.SlowLogGet) }
+/// How many entries SLOWLOG GET asks for where it does not say.
+const USUAL_ENTRIES: u64 = 10;
+
+/// How many entries SLOWLOG GET asks for at most: none where the number is -1, which asks for all.
+fn entries<'a>(word: &'a [u8], rest: Arguments<'a>) -> Result<Option<u64>, CommandFault<'a>>
+    ensures { IfOk result (λ most. AreEntries (listed rest.entry) most) }
 {
     if rest.is_empty() {
-        return Ok(ServerCommand::SlowLogGet);
+        return Ok(Some(USUAL_ENTRIES));
     }
     let Some(count) = rest.one() else {
         return Err(CommandFault::SlowLogCount(Shown(word).short()));
     };
+    if count == b"-1".as_slice() {
+        return Ok(None);
+    }
     match whole_number(count) {
-        Some(count) if count >= -1 => Ok(ServerCommand::SlowLogGet),
+        Some(most) if 0 <= most => Ok(Some(most.unsigned_abs())),
         _ => Err(CommandFault::SlowLogNumber),
     }
 }
@@ -70,7 +76,10 @@ pub(crate) fn slow_log<'a>(rest: Arguments<'a>) -> Result<ServerCommand<'a>, Com
     if word.eq_ignore_ascii_case(b"len") {
         alone(Subcommand::SlowLogLen, rest, ServerCommand::SlowLogLen)
     } else if word.eq_ignore_ascii_case(b"get") {
-        entries(word, rest)
+        match entries(word, rest) {
+            Ok(most) => Ok(ServerCommand::SlowLogGet(most)),
+            Err(fault) => Err(fault),
+        }
     } else if word.eq_ignore_ascii_case(b"reset") {
         alone(Subcommand::SlowLogReset, rest, ServerCommand::SlowLogReset)
     } else {

@@ -6,7 +6,7 @@ ghost use Rattle.commands.specs.declared.name.Name.{Name as any_name};
 ghost use Rattle.commands.specs.Names.{text_of};
 ghost use Rattle.commands.specs.Arguments.{listed};
 ghost use Rattle.commands.specs.Servers.{IsAsked, IsCountedServer};
-ghost use Rattle.commands.specs.Commands.{IsSpelt, IsCounted, Spells};
+ghost use Rattle.commands.specs.Commands.{IsNumber, IsSpelt, IsCounted, Spells};
 
 use crate::arguments::Arguments;
 use crate::command::Command;
@@ -47,7 +47,7 @@ const BITS: i64 = 1 << 32;
 
 /// The number of a command on a key and a number.
 fn number_of<'a>(of: OfNumber, bytes: &[u8]) -> Result<i64, CommandFault<'a>>
-    ensures { IfOk result (λ z. bytes.now ≡ signed_decimal z) }
+    ensures { IfOk result (λ z. (bytes.now ≡ signed_decimal z) × IsNumber of z) }
 {
     match of {
         OfNumber::IncrBy => whole_number(bytes).ok_or(CommandFault::Number),

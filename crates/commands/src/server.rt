@@ -31,8 +31,8 @@ pub enum ServerCommand<'a> {
     ConfigGet(Arguments<'a>),
     /// SLOWLOG LEN.
     SlowLogLen,
-    /// SLOWLOG GET.
-    SlowLogGet,
+    /// SLOWLOG GET: of as many entries as this at most, and of all where there is no number.
+    SlowLogGet(Option<u64>),
     /// SLOWLOG RESET.
     SlowLogReset,
     /// INFO: these sections, and the usual ones where there is none.

@@ -12,7 +12,8 @@ use Rattle.key_commands.specs.Doing.{Does}
 use Rattle.far_map.specs.declared.refusal.MapRefusal.{MapRefusal}
 use Rattle.far_server.specs.Sessions.{Session, Call, Called}
 use Rattle.far_server.specs.Steps.{Steps}
-use Rattle.far_server.specs.Refusing.{IsTold, text_of, overtaken, no_room, key_too_long}
+use Rattle.server_commands.specs.declared.device_reason.DeviceReason.{DeviceReason}
+use Rattle.far_server.specs.Refusing.{IsTold, text_with, overtaken, no_room, key_too_long}
 use Rattle.stored_keys.specs.declared.DigestKeys.{DigestKeys}
 use Rattle.stored_keys.specs.StoredKeys.{stored_key, longest_key}
 
@@ -87,8 +88,8 @@ module _ (l : Limits) (k : List ℕ) where
     abbrev pub IsOnStored : Session → Session → Token → Type 0
     IsOnStored old new reply = (mid : Session) × Idles old mid × (
         Carries mid new reply
-        ⊎ (((why : MapRefusal) × (told : MapRefusal) × IsStopped why mid new × IsTold why told × (reply ≡ Failure (text_of told)))
-        ⊎ ((mid ≡ new) × ((reply ≡ Failure overtaken) ⊎ (reply ≡ Failure no_room)))))
+        ⊎ (((why : MapRefusal) × (told : MapRefusal) × (known : Option DeviceReason) × IsStopped why mid new × IsTold why told × (reply ≡ Failure (text_with told known)))
+        ⊎ ((mid ≡ new) × ((reply ≡ Failure overtaken) ⊎ ((known : Option DeviceReason) × (reply ≡ Failure (no_room known)))))))
 
 -- A command on a client's key is one on its stored key, under these digest keys. Of a key that is too long for one this is told, and no call was made.
 abbrev pub IsKeyed : Limits → DigestKeys → List ℕ → KeyCommand → ℕ → ℕ → Session → Session → Token → Type 0

@@ -10,14 +10,16 @@ use crate::bound::{FRAMING, MOST_PAGE};
 use crate::context::Workspace;
 use crate::deadlines::is_over;
 use crate::one_reply::{push_one_failure, push_one_simple, push_one_string};
-use crate::refusal::text_of;
+use crate::refusal::{text_of, text_with};
 use crate::reserve::has_room_for_short;
+use crate::usage::FarUsage;
 use commands::{Scan, matches};
 use far_blob::Blob;
 use far_map::{Calls, MapRefusal};
 use far_object::Text;
 use itoa::Buffer;
 use resp::{push_count, push_string};
+use server_commands::Statistic;
 use std::alloc::{AllocError, Global};
 use std::sync::Wait;
 use stored_keys::client_key;
@@ -230,6 +232,7 @@ pub(crate) fn answer_scan<S: Calls<Blob>, R: Wait>(
     scan: Scan<'_>,
     now: u64,
     beside: usize,
+    usage: &FarUsage,
     reply: &mut Vec<u8>,
 ) -> Result<(), AllocError>
     ensures goes { Goes (S.shown me.old).pass (S.shown me.new).pass }
@@ -242,7 +245,7 @@ pub(crate) fn answer_scan<S: Calls<Blob>, R: Wait>(
             }
             push_found(reply, next, &found)
         }
-        Err(why) => push_one_failure(reply, text_of(why)),
+        Err(why) => push_one_failure(reply, text_with(why, usage.last_reason())),
     }
 }
 
@@ -263,7 +266,9 @@ pub(crate) fn empty_bucket<S: Calls<Blob>, R: Wait>(
     };
     for key in &keys {
         match me.remove(rt, key) {
-            Ok(value) => workspace.statistics.count_removal(value.is_some()),
+            Ok(value) => workspace
+                .statistics
+                .count_if(Statistic::KeysRemoved, value.is_some()),
             Err(why) => return Err(why),
         }
     }
@@ -311,6 +316,7 @@ pub(crate) fn answer_flush<S: Calls<Blob>, R: Wait>(
     rt: &R,
     alloc: Global,
     me: &mut S,
+    usage: &FarUsage,
     workspace: &mut Workspace,
     reply: &mut Vec<u8>,
 ) -> Result<(), AllocError>
@@ -321,7 +327,7 @@ pub(crate) fn answer_flush<S: Calls<Blob>, R: Wait>(
         Ok(()) => push_one_simple(reply, b"OK"),
         Err(why) => {
             workspace.wants_renewal |= matches!(why, MapRefusal::Device | MapRefusal::Damaged);
-            push_one_failure(reply, text_of(why))
+            push_one_failure(reply, text_with(why, usage.last_reason()))
         }
     }
 }

@@ -12,6 +12,7 @@ use far_blob::Blob;
 use far_map::{Calls, MapRefusal, Value};
 use far_object::Text;
 use key_commands::Effect;
+use server_commands::Statistic;
 use std::alloc::Global;
 use std::sync::Wait;
 
@@ -54,7 +55,9 @@ fn take_out<S: Calls<Blob>, R: Wait>(
 {
     match me.remove_if(rt, key, found) {
         Ok(removal) => {
-            workspace.statistics.count_removal(removal.removed);
+            workspace
+                .statistics
+                .count_if(Statistic::KeysRemoved, removal.removed);
             Ok(removal.removed)
         }
         Err(why) => Err(why),
@@ -95,9 +98,10 @@ pub(crate) fn settle<S: Calls<Blob>, R: Wait>(
     ensures { IsSettled S.limits key.now (lent_value found.entry) effect workspace.old.stored.items (S.shown me.old) (S.shown me.new) result }
 {
     let settled = change(rt, alloc, me, key, found, effect, workspace);
+    let is_gone = is_expired && matches!(settled, Ok(true));
     workspace
         .statistics
-        .count_expired(is_expired && matches!(settled, Ok(true)));
+        .count_if(Statistic::ExpiredKeys, is_gone);
     settled
 }
 

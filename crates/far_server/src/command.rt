@@ -19,6 +19,8 @@ use crate::random_key::answer_random_key;
 use crate::refusal::text_of;
 use crate::reserve::has_room_for;
 use crate::several_keys::{count_keys, get_keys, set_pairs};
+use crate::slow_log::{is_secret, note_slow};
+use crate::usage::FarUsage;
 use commands::{Arguments, Command, CommandFault, OfKeys, OfNothing, ServerCommand};
 use far_blob::Blob;
 use far_map::{Calls, MapRefusal};
@@ -39,6 +41,7 @@ fn run_keys<S: Calls<Blob>, R: Wait>(
     now: u64,
     most: u32,
     limit: usize,
+    usage: &FarUsage,
     workspace: &mut Workspace,
     reply: &mut Vec<u8>,
 ) -> Result<(), AllocError>
@@ -49,18 +52,21 @@ fn run_keys<S: Calls<Blob>, R: Wait>(
         digest_keys,
         now,
         most,
+        usage,
     };
     let looks = Asking {
         command: KeyCommand::Exists,
         digest_keys,
         now,
         most,
+        usage,
     };
     let gets = Asking {
         command: KeyCommand::Get,
         digest_keys,
         now,
         most,
+        usage,
     };
     match of {
         OfKeys::Del => count_keys(rt, alloc, me, keys, deletes, workspace, reply),
@@ -155,6 +161,7 @@ fn run_other<S: Calls<Blob>, C: Clock, R: Wait>(
             now,
             most,
             limit,
+            context.usage,
             workspace,
             reply,
         ),
@@ -166,13 +173,25 @@ fn run_other<S: Calls<Blob>, C: Clock, R: Wait>(
             digest_keys,
             now,
             most,
+            context.usage,
             workspace,
             reply,
         ),
         Command::Server(ServerCommand::Scan(scan)) => {
-            answer_scan(rt, alloc, me, scan, now, workspace.beside, reply)
+            answer_scan(
+                rt,
+                alloc,
+                me,
+                scan,
+                now,
+                workspace.beside,
+                context.usage,
+                reply,
+            )
         }
-        Command::Server(ServerCommand::Flush) => answer_flush(rt, alloc, me, workspace, reply),
+        Command::Server(ServerCommand::Flush) => {
+            answer_flush(rt, alloc, me, context.usage, workspace, reply)
+        }
         _ => answer_or_refuse(context, me, connection, workspace, command, now, reply),
     }
 }
@@ -199,6 +218,7 @@ fn run_command<S: Calls<Blob>, C: Clock, R: Wait>(
                 digest_keys: context.settings.digest_keys,
                 now,
                 most,
+                usage: context.usage,
             };
             answer_key(context.rt, context.alloc, me, key, asking, workspace, reply)
         }
@@ -208,7 +228,7 @@ fn run_command<S: Calls<Blob>, C: Clock, R: Wait>(
     }
 }
 
-/// Runs a request that was read. The reply is that of its command, or the fault that Redis would find first.
+/// Runs a request that was read, and measures its command for SLOWLOG. The reply is that of its command, or the fault that Redis would find first.
 /// `limit` is how many bytes the reply may have.
 pub(crate) fn run<S: Calls<Blob>, C: Clock, R: Wait>(
     context: &ServerContext<'_, C, R>,
@@ -225,11 +245,16 @@ pub(crate) fn run<S: Calls<Blob>, C: Clock, R: Wait>(
     ensures ran { OnOk result ((rs : List Token) × (reply.new.items ≡ reply.old.items ++ flat_map token rs) × IsRequest S.limits context.now.settings.now.digest_keys context.now.settings.now.bounds.longest_value limit (listed request.entry) (S.shown me.old) (S.shown me.new) rs) }
     ensures queue { connection.new.queue ≡ connection.old.queue }
 {
-    let _ = request;
     match asked {
-        Ok(command) => run_command(
-            context, me, connection, workspace, command, now, limit, reply,
-        ),
+        Ok(command) => {
+            let is_secret = is_secret(&command);
+            let began = context.slow_log.begin(context.clock);
+            let done = run_command(
+                context, me, connection, workspace, command, now, limit, reply,
+            );
+            note_slow(context, connection, request, is_secret, now, began);
+            done
+        }
         Err(fault) => push_one_fault(reply, fault, workspace.beside),
     }
 }

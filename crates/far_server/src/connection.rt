@@ -14,6 +14,8 @@ pub(crate) struct Connection {
     pub(crate) id: u64,
     /// Whether it is authenticated: it has logged in, or no password is set.
     pub(crate) is_authenticated: bool,
+    /// The client's address, as the gateway wrote it; empty if memory was refused for it.
+    pub(crate) address: Vec<u8>,
     /// CLIENT GETNAME; empty if it has no name.
     pub(crate) name: Vec<u8>,
     /// What waits for EXEC, after a MULTI. None if there was no MULTI.
@@ -21,14 +23,20 @@ pub(crate) struct Connection {
 }
 
 impl Connection {
-    /// A new connection.
-    pub(crate) fn new(alloc: Global, id: u64, is_authenticated: bool) -> Connection
+    /// A new connection of the client at this address.
+    pub(crate) fn new(
+        alloc: Global,
+        id: u64,
+        is_authenticated: bool,
+        address: Vec<u8>,
+    ) -> Connection
         ensures is_authenticated { result.is_authenticated ≡ is_authenticated }
         ensures queue { result.queue ≡ None }
     {
         Connection {
             id,
             is_authenticated,
+            address,
             name: Vec::new(alloc),
             queue: None,
         }

@@ -12,34 +12,44 @@ use crate::login::excess_of;
 use crate::one_reply::push_one_failure;
 use crate::refusal::text_of;
 use crate::request::answer_request;
-use crate::statistics::count;
 use commands::Arguments;
 use far_blob::Blob;
 use far_map::{Calls, MapRefusal};
 use request_loop::Next;
+use server_commands::Statistic;
 use std::alloc::{AllocError, Global};
 use std::collections::BTreeMap;
 use std::rt::Clock;
 use std::sync::Wait;
 
-/// Makes a place for the connection of this number, if it has none. A new place counts as a connection that
-/// was opened.
+/// A copy of the address. It is empty if memory is refused for it.
+fn copied(alloc: Global, address: &[u8]) -> Vec<u8> {
+    match Vec::from_slice(alloc, address) {
+        Ok(copy) => copy,
+        Err(_) => Vec::new(alloc),
+    }
+}
+
+/// Makes a place for the connection of this number, if it has none, and keeps the client's address there. A new
+/// place counts as a connection that was opened.
 pub(crate) fn make_place<C, R>(
     context: &ServerContext<'_, C, R>,
     connections: &mut BTreeMap<u64, Connection>,
     number: u64,
     workspace: &mut Workspace,
     is_authenticated: bool,
+    address: &[u8],
 ) -> Result<(), AllocError>
     ensures known { (c : ℕ) → known_at connections.new.entries c (new_known is_authenticated) ≡ known_at connections.old.entries c (new_known is_authenticated) }
 {
     if connections.contains_key(&number) {
         return Ok(());
     }
-    let connection = Connection::new(context.alloc, context.next_id(), is_authenticated);
+    let address = copied(context.alloc, address);
+    let connection = Connection::new(context.alloc, context.next_id(), is_authenticated, address);
     match connections.insert(number, connection) {
         Ok(_) => {
-            count(&mut workspace.statistics.connections_opened);
+            workspace.statistics.count(Statistic::ConnectionsOpened);
             Ok(())
         }
         Err(refused) => Err(refused.into()),
@@ -111,7 +121,7 @@ pub(crate) fn answer_at<S: Calls<Blob>, C: Clock, R: Wait>(
 {
     match connections.get_mut(&number) {
         Some(place) => {
-            count(&mut workspace.statistics.commands);
+            workspace.statistics.count(Statistic::Commands);
             let might = place.is_authenticated;
             match answer_request(context, me, place, workspace, request, reply) {
                 Ok(next) => Ok(turned(might, place.is_authenticated, next)),

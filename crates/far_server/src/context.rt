@@ -4,11 +4,13 @@
 use crate::deadlines::has_deadline;
 use crate::renewal::Renewal;
 use crate::settings::ServerSettings;
-use crate::statistics::{SharedStatistics, Statistics, count};
+use crate::slow_log::SlowLog;
+use crate::statistics::{SharedStatistics, see_traffic};
 use crate::turns::{LARGE, Turns};
 use crate::usage::FarUsage;
 use far_map::Traffic;
 use rand::rngs::SmallRng;
+use server_commands::{Statistic, Statistics};
 use std::alloc::Global;
 use std::rt::Clock;
 use std::thread::Parker;
@@ -25,6 +27,7 @@ pub(crate) struct ServerContext<'a, C, R> {
     pub(crate) usage: &'a FarUsage,
     pub(crate) renewal: &'a Renewal,
     pub(crate) turns: &'a Turns,
+    pub(crate) slow_log: &'a SlowLog,
     /// The worker's number, from 0. The sweep has the number after the last worker's.
     pub(crate) worker: u32,
     /// When the server was started, in milliseconds since 1970.
@@ -68,7 +71,7 @@ pub(crate) struct Workspace {
 
 impl Workspace {
     pub(crate) fn new(alloc: Global, settings: &ServerSettings) -> Workspace {
-        let statistics = Statistics::default();
+        let statistics = Statistics::new();
         Workspace {
             stored: Vec::new(alloc),
             statistics,
@@ -93,10 +96,9 @@ impl Workspace {
 
     /// Counts a key that was set to the value in `stored`. `was_none` is whether it had no value before.
     pub(crate) fn count_set(&mut self, was_none: bool) {
-        self.statistics.count_set(was_none);
-        if has_deadline(self.stored.as_slice()) {
-            count(&mut self.statistics.deadlines_set);
-        }
+        self.statistics.count_if(Statistic::KeysAdded, was_none);
+        let is_dated = has_deadline(self.stored.as_slice());
+        self.statistics.count_if(Statistic::DeadlinesSet, is_dated);
     }
 
     /// Gives back the memory of a large value.
@@ -108,7 +110,7 @@ impl Workspace {
 
     /// Publishes the statistics, with what the session has read and moved.
     pub(crate) fn tell<C, R>(&mut self, context: &ServerContext<'_, C, R>, traffic: &Traffic) {
-        self.statistics.see(&self.begun, traffic);
+        see_traffic(&mut self.statistics, &self.begun, traffic);
         context
             .shared_statistics
             .tell(context.worker, &self.told, &self.statistics);

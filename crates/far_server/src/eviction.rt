@@ -24,9 +24,11 @@ ghost use Rattle.far_server.specs.Sweeps.{Sweeps};
 
 use crate::all_keys::{empty_bucket, keys_in};
 use crate::context::{ServerContext, Workspace};
+use crate::statistics::count_evictions;
 use far_blob::Blob;
 use far_map::{Calls, MapRefusal};
 use hash_table::BucketState;
+use server_commands::Statistic;
 use std::alloc::Global;
 use std::rt::Clock;
 use std::sync::Wait;
@@ -218,9 +220,9 @@ fn evict_keys<S: Calls<Blob>, R: Wait>(
     requires { bucket < S.limits.buckets }
     ensures { Sweeps S.limits true (S.shown me.old) (S.shown me.new) }
 {
-    let before = workspace.statistics.keys_removed;
+    let before = workspace.statistics.get(Statistic::KeysRemoved);
     let is_empty = empty_bucket(rt, alloc, me, bucket, workspace).is_ok();
-    workspace.statistics.count_evictions(before);
+    count_evictions(&mut workspace.statistics, before);
     is_empty
 }
 

@@ -8,13 +8,18 @@ use crate::connection::Connection;
 use crate::context::{ServerContext, Workspace};
 use crate::login::{answer_auth, answer_hello, answer_set_name};
 use crate::one_reply::{push_one_nothing, push_one_number, push_one_simple, push_one_string};
+use crate::renewal::Renewal;
+use crate::statistics::GatewayTold;
+use crate::usage::FarUsage;
 use commands::ServerCommand;
 use far_blob::Blob;
 use far_map::Calls;
 use server_commands::{
-    Facts, command_count, command_docs, command_list, config_get, info, slow_log_get, slow_log_len,
+    Facts, Statistic, Statistics, command_count, command_docs, command_list, config_get, info,
+    slow_log_len,
 };
 use std::alloc::AllocError;
+use std::sync::Wait;
 use std::sync::atomic::Ordering;
 
 /// How many keys have a value, by what the workers last published.
@@ -22,81 +27,80 @@ pub(crate) fn keys<C, R>(context: &ServerContext<'_, C, R>) -> i64 {
     context.shared_statistics.keys().min(i64::MAX as u64) as i64
 }
 
+/// Sets what the gateway has reported.
+fn set_of_gateway(statistics: &mut Statistics, gateway: &GatewayTold) {
+    for (statistic, number) in [
+        (Statistic::RejectedConnections, &gateway.rejected),
+        (Statistic::EvictedClients, &gateway.evicted),
+        (Statistic::ClientsMemory, &gateway.memory),
+        (Statistic::ResidentBytes, &gateway.resident),
+    ] {
+        statistics.set(statistic, number.load(Ordering::SeqCst));
+    }
+}
+
+/// Sets what the devices have reported, and what is known of the renewals.
+fn set_of_parts(statistics: &mut Statistics, usage: &FarUsage, renewal: &Renewal) {
+    for (statistic, number) in [
+        (Statistic::FarObjects, usage.objects()),
+        (Statistic::LostBuckets, usage.lost()),
+        (Statistic::FarBytes, usage.bytes()),
+        (Statistic::RestingDevices, usage.resting()),
+        (Statistic::Renewals, renewal.count()),
+        (Statistic::RenewalLostPairs, renewal.lost_pairs()),
+        (Statistic::RenewalLostBuckets, renewal.lost_buckets()),
+        (Statistic::RenewalLastMs, renewal.pause()),
+    ] {
+        statistics.set(statistic, number);
+    }
+}
+
+/// The statistics of the whole server.
+fn statistics<S: Calls<Blob>, C, R>(context: &ServerContext<'_, C, R>, me: &S) -> Statistics {
+    let mut all = context.shared_statistics.sum();
+    set_of_gateway(&mut all, &context.shared_statistics.gateway);
+    set_of_parts(&mut all, context.usage, context.renewal);
+    all.set(Statistic::Keys, context.shared_statistics.keys());
+    all.set(Statistic::BytesInFrames, me.bytes_in_frames());
+    all.set(Statistic::NamesLeft, me.names_left());
+    // If the devices keep nothing, each of their refusals is counted as a failure. INFO reports none then.
+    if !context.settings.is_far {
+        all.set(Statistic::DeviceFailures, 0);
+    }
+    all
+}
+
 /// What INFO reports.
 fn facts<S: Calls<Blob>, C, R>(context: &ServerContext<'_, C, R>, me: &S, now: u64) -> Facts {
-    let sum = context.shared_statistics.sum();
     let settings = context.settings;
+    // If the devices keep nothing, each of their refusals is a failure. INFO reports none then.
+    let (last_device_error, last_device_error_time, device_errors) = if settings.is_far {
+        let usage = context.usage;
+        (usage.last_reason(), usage.last_time(), usage.failures())
+    } else {
+        (None, 0, [0; 10])
+    };
     Facts {
         now,
         started: context.started,
         workers: settings.workers,
         port: settings.options.port,
-        clients: sum
-            .connections_opened
-            .saturating_sub(sum.connections_closed),
-        accepted: sum.connections_opened,
-        commands: sum.commands,
-        rejected: context
-            .shared_statistics
-            .gateway
-            .rejected
-            .load(Ordering::SeqCst),
-        evicted_clients: context
-            .shared_statistics
-            .gateway
-            .evicted
-            .load(Ordering::SeqCst),
-        clients_memory: context
-            .shared_statistics
-            .gateway
-            .memory
-            .load(Ordering::SeqCst),
-        resident_bytes: context
-            .shared_statistics
-            .gateway
-            .resident
-            .load(Ordering::SeqCst),
         most_clients: settings.options.most_clients,
         most_memory: settings.options.most_memory,
         evicts: settings.options.evicts,
-        bytes_in_frames: me.bytes_in_frames(),
         buckets: settings.map.buckets,
         frames: settings.map.frames,
         most_in_frames: settings.map.bytes,
-        keys: context.shared_statistics.keys(),
-        hits: sum.hits,
-        misses: sum.misses,
-        expired: sum.expired,
-        evicted: sum.evicted,
-        local_hits: sum.local_reads,
-        swap_outs: sum.swap_outs,
-        swap_ins: sum.swap_ins,
-        read_throughs: sum.far_reads.saturating_sub(sum.swap_ins),
-        // If the devices keep nothing, each of their refusals is counted as a failure. INFO reports none
-        // then.
-        device_failures: if settings.is_far {
-            sum.device_failures
-        } else {
-            0
-        },
-        refused_memory: sum.refused_memory,
-        refused_full: sum.refused_full,
-        refused_device: sum.refused_device,
-        far_objects: context.usage.objects(),
-        lost_buckets: context.usage.lost(),
-        far_bytes: context.usage.bytes(),
         far_limit: settings.far_limit,
-        is_resting: context.usage.resting() > 0,
-        names_left: me.names_left(),
-        renewals: context.renewal.count(),
-        renewal_lost_pairs: context.renewal.lost_pairs(),
-        renewal_lost_buckets: context.renewal.lost_buckets(),
-        renewal_last_ms: context.renewal.pause(),
+        statistics: statistics(context, me),
+        last_device_error,
+        last_device_error_time,
+        device_errors,
     }
 }
 
 /// Answers a command that asks for no value.
-pub(crate) fn answer_server<S: Calls<Blob>, C, R>(
+pub(crate) fn answer_server<S: Calls<Blob>, C, R: Wait>(
     context: &ServerContext<'_, C, R>,
     me: &S,
     connection: &mut Connection,
@@ -131,11 +135,24 @@ pub(crate) fn answer_server<S: Calls<Blob>, C, R>(
             patterns,
             reply,
         ),
-        ServerCommand::SlowLogLen => slow_log_len(reply),
-        ServerCommand::SlowLogGet => slow_log_get(reply),
+        ServerCommand::SlowLogLen => slow_log_len(context.slow_log.len(context.rt), reply),
+        ServerCommand::SlowLogGet(most) => context.slow_log.push(context.rt, most, reply),
+        ServerCommand::SlowLogReset => answer_slow_log_reset(context, reply),
         ServerCommand::Info(sections) => info(&facts(context, me, now), sections, reply),
         _ => push_one_simple(reply, b"OK"),
     }
+}
+
+/// SLOWLOG RESET: nothing is kept of earlier commands.
+fn answer_slow_log_reset<C, R: Wait>(
+    context: &ServerContext<'_, C, R>,
+    reply: &mut Vec<u8>,
+) -> Result<(), AllocError>
+    ensures said { OnOk result ((rs : List Token) × (reply.new.items ≡ reply.old.items ++ flat_map token rs)) }
+    ensures kept { OnErr result (reply.new.items ≡ reply.old.items) }
+{
+    context.slow_log.reset(context.rt);
+    push_one_simple(reply, b"OK")
 }
 
 fn push_name(reply: &mut Vec<u8>, connection: &Connection) -> Result<(), AllocError>

@@ -1,7 +1,9 @@
 //! Notes of the gateway: texts that belong to no connection.
 
-use crate::statistics::SharedStatistics;
+use crate::context::ServerContext;
+use crate::news::push_news;
 use std::alloc::AllocError;
+use std::sync::Wait;
 use std::sync::atomic::Ordering;
 
 /// Asks for an answer once all that came before is answered. The number after this word is sent back, after
@@ -9,6 +11,9 @@ use std::sync::atomic::Ordering;
 const SYNC: &[u8] = b"sync ";
 
 const SYNCED: &[u8] = b"synced ";
+
+/// Asks for what `news.rt` says.
+const NEWS: &[u8] = b"news";
 
 /// What the gateway reports, each a word and a number: here how many clients it refused.
 const REJECTED: &[u8] = b"rejected_connections ";
@@ -28,8 +33,8 @@ fn number_in(text: &[u8]) -> Option<u64> {
 }
 
 /// Takes a note, and pushes the answer if it asks for one. A text that is not known is ignored.
-pub(crate) fn take_note(
-    shared_statistics: &SharedStatistics,
+pub(crate) fn take_note<C, R: Wait>(
+    context: &ServerContext<'_, C, R>,
     text: &[u8],
     answer: &mut Vec<u8>,
 ) -> Result<(), AllocError> {
@@ -40,7 +45,10 @@ pub(crate) fn take_note(
         }
         return Ok(());
     }
-    let told = &shared_statistics.gateway;
+    if text == NEWS {
+        return push_news(context, answer);
+    }
+    let told = &context.shared_statistics.gateway;
     for (word, place) in [
         (REJECTED, &told.rejected),
         (EVICTED, &told.evicted),

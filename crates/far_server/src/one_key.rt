@@ -18,15 +18,17 @@ ghost use Rattle.stored_keys.specs.StoredKeys.{stored_key};
 use crate::change::settle;
 use crate::context::Workspace;
 use crate::deadlines::is_over;
-use crate::refusal::{KEY_TOO_LONG, NO_ROOM, OVERTAKEN, text_of, told_as};
+use crate::refusal::{KEY_TOO_LONG, OVERTAKEN, no_room, text_with, told_as};
 use crate::reserve::has_room_for;
 use crate::room::has_room;
-use crate::statistics::{Statistics, count};
+use crate::statistics::count_refusal;
+use crate::usage::FarUsage;
 use far_blob::Blob;
 use far_map::{Calls, MapRefusal, Value, text};
 use far_object::Text;
 use key_commands::{Effect, KeyCommand, apply, is_blind};
 use resp::push_failure;
+use server_commands::{DeviceReason, Statistic, Statistics};
 use std::alloc::{AllocError, Global};
 use std::sync::Wait;
 use stored_keys::{DigestKeys, LONGEST_KEY, put_stored_key};
@@ -34,8 +36,8 @@ use stored_keys::{DigestKeys, LONGEST_KEY, put_stored_key};
 /// How many times a command is tried while others change its key.
 const MOST_TRIES: u32 = 1_000;
 
-/// What is asked of a key: the command, the time, the bound of values, and the digest keys under which the
-/// key is stored.
+/// What is asked of a key: the command, the time, the bound of values, the digest keys under which the key is
+/// stored, and where to find out why a device failed.
 #[derive(Clone, Copy)]
 pub(crate) struct Asking<'a> {
     pub(crate) command: KeyCommand<'a>,
@@ -44,6 +46,8 @@ pub(crate) struct Asking<'a> {
     pub(crate) now: u64,
     /// The most bytes of a value.
     pub(crate) most: u32,
+    /// Where a device that fails reports why.
+    pub(crate) usage: &'a FarUsage,
 }
 
 /// Carries the command out on the value that was found. If memory is refused, `reply` is as before.
@@ -103,9 +107,9 @@ fn count_found(statistics: &mut Statistics, command: KeyCommand<'_>, is_found: b
         return;
     }
     if is_found {
-        count(&mut statistics.hits);
+        statistics.count(Statistic::Hits);
     } else {
-        count(&mut statistics.misses);
+        statistics.count(Statistic::Misses);
     }
 }
 
@@ -279,9 +283,18 @@ fn answer_now<S: Calls<Blob>, R: Wait>(
         Ok(false) => fail(before, OVERTAKEN, reply),
         Err(why) => {
             let why = told_as(why, workspace.is_far);
-            workspace.statistics.count_refusal(why);
-            fail(before, text_of(why), reply)
+            count_refusal(&mut workspace.statistics, why);
+            fail(before, text_with(why, asking.usage.last_reason()), reply)
         }
+    }
+}
+
+/// Why no device takes an object, if one failed just now.
+fn full_reason(asking: Asking<'_>, workspace: &Workspace) -> Option<DeviceReason> {
+    if workspace.is_far {
+        asking.usage.reason_at(asking.now)
+    } else {
+        None
     }
 }
 
@@ -301,8 +314,8 @@ fn answer_in_room<S: Calls<Blob>, R: Wait>(
     if has_room(rt, me, workspace) {
         return answer_now(rt, alloc, me, key, asking, workspace, reply);
     }
-    count(&mut workspace.statistics.refused_memory);
-    push_failure(reply, NO_ROOM)
+    workspace.statistics.count(Statistic::RefusedMemory);
+    push_failure(reply, no_room(full_reason(asking, workspace)))
 }
 
 /// Carries out a command on a key that is short enough to be stored. Only a command that may leave more bytes

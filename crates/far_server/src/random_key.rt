@@ -14,7 +14,7 @@ ghost use Rattle.far_server.specs.Lists.{IsToldOne};
 use crate::all_keys::{keys_in, push_key};
 use crate::context::{ServerContext, Workspace};
 use crate::one_reply::{push_one_failure, push_one_nothing};
-use crate::refusal::text_of;
+use crate::refusal::text_with;
 use far_blob::Blob;
 use far_map::{Calls, MapRefusal};
 use far_object::Text;
@@ -152,7 +152,7 @@ pub(crate) fn answer_random_key<S: Calls<Blob>, C, R: Wait>(
     let found = drawn_keys(context.rt, context.alloc, me, &mut draws, now);
     let said = match found {
         Ok(keys) => push_drawn(&mut draws, keys.as_slice(), reply),
-        Err(why) => push_one_failure(reply, text_of(why)),
+        Err(why) => push_one_failure(reply, text_with(why, context.usage.last_reason())),
     };
     workspace.draws = Some(draws);
     said

@@ -11,6 +11,7 @@ use crate::context::milliseconds;
 use crate::pipes::Pipes;
 use crate::renewal::Renewal;
 use crate::settings::ServerSettings;
+use crate::slow_log::SlowLog;
 use crate::states::WorkerState;
 use crate::statistics::SharedStatistics;
 use crate::turns::Turns;
@@ -127,12 +128,14 @@ where
     };
     let renewal = Renewal::new(&settings);
     let turns = Turns::new();
+    let slow_log = SlowLog::new(alloc, settings.options.slow);
     let workers = Workers {
         settings: &settings,
         shared_statistics: &shared_statistics,
         usage,
         renewal: &renewal,
         turns: &turns,
+        slow_log: &slow_log,
         pipes,
         clock,
         started: milliseconds(clock),

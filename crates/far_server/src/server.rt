@@ -7,11 +7,11 @@ use crate::connections::{answer_at, forget, kept_for, make_place};
 use crate::context::{ServerContext, Workspace};
 use crate::notes::take_note;
 use crate::settings::ServerSettings;
-use crate::statistics::count;
 use commands::{Arguments, Span};
 use far_blob::Blob;
 use far_map::Calls;
 use request_loop::{Next, Service, Woken};
+use server_commands::Statistic;
 use std::alloc::{AllocError, Global};
 use std::collections::BTreeMap;
 use std::rt::Clock;
@@ -110,8 +110,8 @@ impl<'a, S: Calls<Blob>, C: Clock, R: Wait> Server<'a, S, C, R, Kept> {
         next
     }
 
-    /// Makes a place for the connection of this number, if it has none.
-    fn make_place(&mut self, connection: u64) -> Result<(), AllocError>
+    /// Makes a place for the connection of this number, if it has none, and keeps the client's address.
+    fn make_place(&mut self, connection: u64, address: &[u8]) -> Result<(), AllocError>
         ensures same_reference { self.new.me.ghost_name ≡ self.old.me.ghost_name }
         ensures session { self.new.me.now ≡ self.old.me.now }
         ensures context { self.new.context.now ≡ self.old.context.now }
@@ -129,6 +129,7 @@ impl<'a, S: Calls<Blob>, C: Clock, R: Wait> Server<'a, S, C, R, Kept> {
             connection,
             workspace,
             is_authenticated,
+            address,
         )
     }
 
@@ -149,10 +150,10 @@ impl<'a, S: Calls<Blob>, C: Clock, R: Wait> Service for Server<'a, S, C, R, Kept
 
     ghost does = { λ s call t. (t.me.ghost_name ≡ s.me.ghost_name) × (t.context.now ≡ s.context.now) × Acts S.limits s.context.now.settings.now.digest_keys s.context.now.settings.now.password s.context.now.settings.now.bounds (worker_view s.context.now.settings.now.password (S.shown s.me.now) s.kept.connections.entries) call (worker_view s.context.now.settings.now.password (S.shown t.me.now) t.kept.connections.entries) };
 
-    fn open(&mut self, connection: u64, _address: &[u8]) -> Result<bool, AllocError> {
+    fn open(&mut self, connection: u64, address: &[u8]) -> Result<bool, AllocError> {
         // If there is no memory for its place, its first request is refused, and the connection is closed
         // then.
-        let _ = self.make_place(connection);
+        let _ = self.make_place(connection, address);
         self.tell();
         Ok(self.context.settings.password.is_none())
     }
@@ -188,7 +189,10 @@ impl<'a, S: Calls<Blob>, C: Clock, R: Wait> Service for Server<'a, S, C, R, Kept
 
     fn leave(&mut self, connection: u64) -> Result<(), AllocError> {
         if forget(&mut self.kept.connections, connection) {
-            count(&mut self.kept.workspace.statistics.connections_closed);
+            self.kept
+                .workspace
+                .statistics
+                .count(Statistic::ConnectionsClosed);
         }
         self.tell();
         Ok(())
@@ -200,7 +204,7 @@ impl<'a, S: Calls<Blob>, C: Clock, R: Wait> Service for Server<'a, S, C, R, Kept
 
     fn note(&mut self, text: &[u8], reply: &mut Vec<u8>) -> Result<(), AllocError> {
         // If there is no memory for the answer, none is sent.
-        if take_note(self.context.shared_statistics, text, reply).is_err() {
+        if take_note(self.context, text, reply).is_err() {
             reply.clear();
         }
         Ok(())

@@ -35,9 +35,9 @@ pub struct ServerSettings {
     /// counted from the request's beginning to the end of what has come, so later requests may count too. At
     /// 0 all requests take turns.
     pub large: u32,
-    /// The most bytes of objects on devices, which INFO reports; 0 if there is no limit. The devices keep to
-    /// it, not this crate.
-    pub far_limit: u64,
+    /// The most bytes of objects on devices, which INFO reports. None if there is no limit. The devices keep
+    /// to it, not this crate.
+    pub far_limit: Option<u64>,
     /// The SHA-256 digest of the password. None if no password is needed.
     pub password: Option<[u8; 32]>,
     /// The keys of the digest that each stored key has, in all maps of the server.

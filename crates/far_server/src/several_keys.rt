@@ -13,6 +13,7 @@ use crate::one_key::{Asking, answer_key, stored_text};
 use crate::one_reply::push_one_failure;
 use crate::refusal::text_of;
 use crate::reserve::has_room_for_short;
+use crate::usage::FarUsage;
 use commands::{Arguments, Change, Lifetime, Where};
 use far_blob::Blob;
 use far_map::{Calls, MapRefusal};
@@ -262,6 +263,7 @@ pub(crate) fn set_pairs<S: Calls<Blob>, R: Wait>(
     digest_keys: DigestKeys,
     now: u64,
     most: u32,
+    usage: &FarUsage,
     workspace: &mut Workspace,
     reply: &mut Vec<u8>,
 ) -> Result<(), AllocError>
@@ -279,6 +281,7 @@ pub(crate) fn set_pairs<S: Calls<Blob>, R: Wait>(
             digest_keys,
             now,
             most,
+            usage,
         };
         match answer_next(
             rt,

@@ -1,145 +1,39 @@
 //! The server's statistics, for INFO. No contract claims anything about them.
 
 use far_map::{MapRefusal, Traffic};
+use server_commands::{STATISTICS, Statistic, Statistics};
 use std::alloc::{AllocError, Global};
 use std::sync::atomic::{AtomicU32, AtomicU64, Ordering};
 
-/// What a worker, or the sweep, has counted since the server's start.
-#[derive(Clone, Copy, Debug, Default, PartialEq, Eq)]
-pub(crate) struct Statistics {
-    /// Connections that were opened, and in `connections_closed` those of them that are over.
-    pub(crate) connections_opened: u64,
-    pub(crate) connections_closed: u64,
-    /// Requests of connections that have a place, whether they were commands or faults.
-    pub(crate) commands: u64,
-    /// Keys that got a value and had none before, and in `keys_removed` those that lost theirs.
-    pub(crate) keys_added: u64,
-    pub(crate) keys_removed: u64,
-    /// Commands that read a value and found one, and in `misses` those that found none.
-    pub(crate) hits: u64,
-    pub(crate) misses: u64,
-    /// Values that were expired when they were met, and that were removed or replaced.
-    pub(crate) expired: u64,
-    /// Keys that were removed to make room.
-    pub(crate) evicted: u64,
-    /// Values with a deadline that were set.
-    pub(crate) deadlines_set: u64,
-    /// From here to `device_failures`: what the sessions' calls have read and moved (`far_map::Traffic`).
-    pub(crate) local_reads: u64,
-    pub(crate) far_reads: u64,
-    pub(crate) swap_ins: u64,
-    pub(crate) swap_outs: u64,
-    pub(crate) device_failures: u64,
-    /// From here on: commands that were refused, by the reason (`count_refusal`). Those for which there was
-    /// no room in frames are counted here.
-    pub(crate) refused_memory: u64,
-    pub(crate) refused_full: u64,
-    pub(crate) refused_device: u64,
+/// Takes over what a session has counted of reads and moves. `begun` is what was counted before the session
+/// began.
+pub(crate) fn see_traffic(statistics: &mut Statistics, begun: &Statistics, traffic: &Traffic) {
+    for (statistic, counted) in [
+        (Statistic::LocalHits, traffic.local_reads),
+        (Statistic::FarReads, traffic.far_reads),
+        (Statistic::SwapIns, traffic.swap_ins),
+        (Statistic::SwapOuts, traffic.swap_outs),
+        (Statistic::DeviceFailures, traffic.device_failures),
+    ] {
+        statistics.set(statistic, begun.get(statistic).wrapping_add(counted));
+    }
 }
 
-/// How many numbers a `Statistics` has.
-const NUMBERS: usize = 18;
-
-/// Adds one.
-pub(crate) fn count(number: &mut u64) {
-    *number = number.wrapping_add(1);
+/// Counts the keys that were removed to make room. `removed` is how many had been removed before that.
+pub(crate) fn count_evictions(statistics: &mut Statistics, removed: u64) {
+    let evicted = statistics.get(Statistic::KeysRemoved).wrapping_sub(removed);
+    statistics.add(Statistic::EvictedKeys, evicted);
 }
 
-impl Statistics {
-    /// Takes over what a session has counted of reads and moves. `begun` is what was counted before the
-    /// session began.
-    pub(crate) fn see(&mut self, begun: &Statistics, traffic: &Traffic) {
-        self.local_reads = begun.local_reads.wrapping_add(traffic.local_reads);
-        self.far_reads = begun.far_reads.wrapping_add(traffic.far_reads);
-        self.swap_ins = begun.swap_ins.wrapping_add(traffic.swap_ins);
-        self.swap_outs = begun.swap_outs.wrapping_add(traffic.swap_outs);
-        self.device_failures = begun.device_failures.wrapping_add(traffic.device_failures);
-    }
-
-    /// Counts a key that was set, if it had no value before.
-    pub(crate) fn count_set(&mut self, was_none: bool) {
-        if was_none {
-            count(&mut self.keys_added);
-        }
-    }
-
-    /// Counts a key that was removed, if it was.
-    pub(crate) fn count_removal(&mut self, is_done: bool) {
-        if is_done {
-            count(&mut self.keys_removed);
-        }
-    }
-
-    /// Counts an expired value, if it is gone.
-    pub(crate) fn count_expired(&mut self, is_gone: bool) {
-        if is_gone {
-            count(&mut self.expired);
-        }
-    }
-
-    /// Counts the keys that were removed to make room. `lost` is how many keys had lost their value before
-    /// that.
-    pub(crate) fn count_evictions(&mut self, lost: u64) {
-        let evicted = self.keys_removed.wrapping_sub(lost);
-        self.evicted = self.evicted.wrapping_add(evicted);
-    }
-
-    /// Counts a command that the map refused, by the reason. `NamesSpent` is not counted.
-    pub(crate) fn count_refusal(&mut self, why: MapRefusal) {
-        match why {
-            MapRefusal::Memory => count(&mut self.refused_memory),
-            MapRefusal::Full(_) => count(&mut self.refused_full),
-            MapRefusal::TooLong => count(&mut self.refused_full),
-            MapRefusal::Device => count(&mut self.refused_device),
-            MapRefusal::Damaged => count(&mut self.refused_device),
-            MapRefusal::NamesSpent => {}
-        }
-    }
-
-    fn numbers(&self) -> [u64; NUMBERS] {
-        [
-            self.connections_opened,
-            self.connections_closed,
-            self.commands,
-            self.keys_added,
-            self.keys_removed,
-            self.hits,
-            self.misses,
-            self.expired,
-            self.evicted,
-            self.deadlines_set,
-            self.local_reads,
-            self.far_reads,
-            self.swap_ins,
-            self.swap_outs,
-            self.device_failures,
-            self.refused_memory,
-            self.refused_full,
-            self.refused_device,
-        ]
-    }
-
-    fn of(numbers: &[u64; NUMBERS]) -> Statistics {
-        Statistics {
-            connections_opened: numbers[0],
-            connections_closed: numbers[1],
-            commands: numbers[2],
-            keys_added: numbers[3],
-            keys_removed: numbers[4],
-            hits: numbers[5],
-            misses: numbers[6],
-            expired: numbers[7],
-            evicted: numbers[8],
-            deadlines_set: numbers[9],
-            local_reads: numbers[10],
-            far_reads: numbers[11],
-            swap_ins: numbers[12],
-            swap_outs: numbers[13],
-            device_failures: numbers[14],
-            refused_memory: numbers[15],
-            refused_full: numbers[16],
-            refused_device: numbers[17],
-        }
+/// Counts a command that the map refused, by the reason. `NamesSpent` is not counted.
+pub(crate) fn count_refusal(statistics: &mut Statistics, why: MapRefusal) {
+    match why {
+        MapRefusal::Memory => statistics.count(Statistic::RefusedMemory),
+        MapRefusal::Full(_) => statistics.count(Statistic::RefusedFull),
+        MapRefusal::TooLong => statistics.count(Statistic::RefusedFull),
+        MapRefusal::Device => statistics.count(Statistic::RefusedDevice),
+        MapRefusal::Damaged => statistics.count(Statistic::RefusedDevice),
+        MapRefusal::NamesSpent => {}
     }
 }
 
@@ -181,8 +75,8 @@ pub(crate) struct SharedStatistics {
     missing: AtomicU64,
 }
 
-/// How far the numbers of a worker are from those of the next one: whole cache lines.
-const STRIDE: usize = 32;
+/// How far the numbers of a worker are from those of the next one: whole cache lines, each of 8 numbers.
+const STRIDE: usize = (STATISTICS + 7) / 8 * 8;
 
 impl SharedStatistics {
     /// The statistics of `workers` workers and the sweep, all 0.
@@ -225,54 +119,58 @@ impl SharedStatistics {
     /// Publishes what a worker has counted. `last` is what it published before, and only numbers that differ
     /// from it are written.
     pub(crate) fn tell(&self, worker: u32, last: &Statistics, now: &Statistics) {
-        let (last, now) = (last.numbers(), now.numbers());
-        for at in 0..NUMBERS {
-            if last[at] != now[at] {
+        for at in 0..STATISTICS {
+            let number = now.numbers[at];
+            if last.numbers[at] != number {
                 let place = (worker as usize).wrapping_mul(STRIDE).wrapping_add(at);
                 if let Some(told) = self.told.get(place) {
-                    told.store(now[at], Ordering::SeqCst);
+                    told.store(number, Ordering::SeqCst);
                 }
             }
         }
     }
 
+    /// How many keys the workers have counted, by what they last published.
+    fn counted_keys(&self) -> u64 {
+        let sum = self.sum();
+        let added = sum.get(Statistic::KeysAdded);
+        added.saturating_sub(sum.get(Statistic::KeysRemoved))
+    }
+
     /// How many keys have a value, by what the workers last published.
     pub(crate) fn keys(&self) -> u64 {
-        let sum = self.sum();
-        let counted = sum.keys_added.saturating_sub(sum.keys_removed);
-        counted.saturating_sub(self.missing.load(Ordering::SeqCst))
+        self.counted_keys()
+            .saturating_sub(self.missing.load(Ordering::SeqCst))
     }
 
     /// The map begins with `keys` keys, and no worker has begun. Keys that were counted and are not among
     /// them are missing.
     pub(crate) fn carry(&self, keys: u64) {
-        let sum = self.sum();
-        let counted = sum.keys_added.saturating_sub(sum.keys_removed);
         self.missing
-            .store(counted.saturating_sub(keys), Ordering::SeqCst);
+            .store(self.counted_keys().saturating_sub(keys), Ordering::SeqCst);
     }
 
     /// What a worker, or the sweep, last published.
     pub(crate) fn told_by(&self, worker: u32) -> Statistics {
-        let mut numbers = [0u64; NUMBERS];
-        for at in 0..NUMBERS {
+        let mut statistics = Statistics::new();
+        for at in 0..STATISTICS {
             let place = (worker as usize).wrapping_mul(STRIDE).wrapping_add(at);
             if let Some(told) = self.told.get(place) {
-                numbers[at] = told.load(Ordering::SeqCst);
+                statistics.numbers[at] = told.load(Ordering::SeqCst);
             }
         }
-        Statistics::of(&numbers)
+        statistics
     }
 
     /// The sum over all workers and the sweep.
     pub(crate) fn sum(&self) -> Statistics {
-        let mut numbers = [0u64; NUMBERS];
+        let mut sum = Statistics::new();
         for (place, told) in self.told.iter().enumerate() {
             let at = place % STRIDE;
-            if at < NUMBERS {
-                numbers[at] = numbers[at].wrapping_add(told.load(Ordering::SeqCst));
+            if at < STATISTICS {
+                sum.numbers[at] = sum.numbers[at].wrapping_add(told.load(Ordering::SeqCst));
             }
         }
-        Statistics::of(&numbers)
+        sum
     }
 }

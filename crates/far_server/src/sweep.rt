@@ -23,6 +23,7 @@ use crate::eviction::{Victims, make_room};
 use far_blob::Blob;
 use far_map::{Calls, MapRefusal};
 use far_object::Text;
+use server_commands::Statistic;
 use std::alloc::Global;
 use std::rt::Clock;
 use std::sync::Wait;
@@ -106,8 +107,9 @@ pub(crate) fn expire<S: Calls<Blob>, R: Wait>(
     }
     match me.remove_if(rt, key, value) {
         Ok(removal) => {
-            workspace.statistics.count_removal(removal.removed);
-            workspace.statistics.count_expired(removal.removed);
+            let statistics = &mut workspace.statistics;
+            statistics.count_if(Statistic::KeysRemoved, removal.removed);
+            statistics.count_if(Statistic::ExpiredKeys, removal.removed);
             Ok(removal.removed)
         }
         Err(why) => Err(why),
@@ -185,7 +187,7 @@ fn expire_next<S: Calls<Blob>, C: Clock, R: Wait>(
 )
     ensures { (evicts : Bool) → Sweeps S.limits evicts (S.shown me.old) (S.shown me.new) }
 {
-    let dated = context.shared_statistics.sum().deadlines_set;
+    let dated = context.shared_statistics.sum().get(Statistic::DeadlinesSet);
     if is_due(hand, me.buckets(), dated) {
         expire_some(context, me, hand, workspace);
     }

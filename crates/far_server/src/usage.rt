@@ -1,6 +1,14 @@
-//! What the devices keep, as they report it, for INFO. No contract claims anything about it.
+//! What the devices keep, and why they failed, as they report it: for INFO and for the errors of clients. No
+//! contract claims anything about it.
 
+use crate::context::milliseconds;
+use server_commands::{DEVICE_REASONS, DeviceReason};
+use std::array;
+use std::rt::Clock;
 use std::sync::atomic::{AtomicU64, Ordering};
+
+/// How many milliseconds old a failure may be that is taken for the reason why no device takes an object.
+const LATELY: u64 = 1_000;
 
 /// What all devices of a server keep, as sums that the devices report and INFO reads:
 /// - how many objects there are;
@@ -10,12 +18,21 @@ use std::sync::atomic::{AtomicU64, Ordering};
 ///
 /// Each device reports by how much its own numbers changed. For example, `tell_objects(2, 3)` adds one object
 /// to the sum.
+///
+/// A device also reports each call that has failed, whoever made it: a worker, the sweep or the evictor.
 #[derive(Drop)]
 pub struct FarUsage {
     objects: AtomicU64,
     lost: AtomicU64,
     bytes: AtomicU64,
     resting: AtomicU64,
+    /// How many calls have failed for each reason, in the order of `DEVICE_REASONS`.
+    failures: [AtomicU64; 10],
+    /// The place in `DEVICE_REASONS` of the last failure's reason, from 1 on; 0 if no call has failed. If two
+    /// devices fail at once, this may be of one of them, and the time of the other one.
+    last_reason: AtomicU64,
+    /// The time of the last failure, in milliseconds since 1970.
+    last_time: AtomicU64,
 }
 
 /// Adds by how much a number of a device changed. The sum may wrap on the way, and is right once all have
@@ -34,6 +51,9 @@ impl FarUsage {
             lost: AtomicU64::new(0),
             bytes: AtomicU64::new(0),
             resting: AtomicU64::new(0),
+            failures: array::from_fn(|_| AtomicU64::new(0)),
+            last_reason: AtomicU64::new(0),
+            last_time: AtomicU64::new(0),
         }
     }
 
@@ -57,6 +77,44 @@ impl FarUsage {
     /// reported, or false.
     pub fn tell_resting(&self, before: bool, after: bool) {
         tell(&self.resting, u64::from(before), u64::from(after));
+    }
+
+    /// A device reports that a call of it has failed now, for this reason.
+    pub fn tell_failure<C: Clock>(&self, reason: DeviceReason, clock: &C) {
+        let place = reason as usize;
+        if let Some(count) = self.failures.get(place) {
+            count.fetch_add(1, Ordering::SeqCst);
+        }
+        self.last_time.store(milliseconds(clock), Ordering::SeqCst);
+        self.last_reason
+            .store((place as u64).saturating_add(1), Ordering::SeqCst);
+    }
+
+    /// Why a call of a device failed last. None if none has failed.
+    pub fn last_reason(&self) -> Option<DeviceReason> {
+        let place = self.last_reason.load(Ordering::SeqCst).checked_sub(1)?;
+        DEVICE_REASONS.get(place as usize).copied()
+    }
+
+    /// When a call of a device failed last, in milliseconds since 1970; 0 if none has failed.
+    pub fn last_time(&self) -> u64 {
+        self.last_time.load(Ordering::SeqCst)
+    }
+
+    /// The last reason, if it is at most a second older than this time, in milliseconds since 1970.
+    pub(crate) fn reason_at(&self, now: u64) -> Option<DeviceReason> {
+        if self.last_time() < now.saturating_sub(LATELY) {
+            return None;
+        }
+        self.last_reason()
+    }
+
+    /// How many calls of devices have failed for each reason, in the order of `DEVICE_REASONS`.
+    pub fn failures(&self) -> [u64; 10] {
+        array::from_fn(|place| match self.failures.get(place) {
+            Some(count) => count.load(Ordering::SeqCst),
+            None => 0,
+        })
     }
 
     /// How many devices are at rest, because their stores fail.

@@ -14,6 +14,7 @@ use crate::pipes::Pipes;
 use crate::renewal::Renewal;
 use crate::server::{Kept, Server};
 use crate::settings::ServerSettings;
+use crate::slow_log::SlowLog;
 use crate::states::{PausedWorker, WorkerState};
 use crate::statistics::SharedStatistics;
 use crate::sweep::sweep;
@@ -36,6 +37,7 @@ pub(crate) struct Workers<'a, P, C> {
     pub(crate) usage: &'a FarUsage,
     pub(crate) renewal: &'a Renewal,
     pub(crate) turns: &'a Turns,
+    pub(crate) slow_log: &'a SlowLog,
     pub(crate) pipes: &'a P,
     pub(crate) clock: &'a C,
     pub(crate) started: u64,
@@ -173,6 +175,7 @@ where
             usage: self.usage,
             renewal: self.renewal,
             turns: self.turns,
+            slow_log: self.slow_log,
             worker: worker,
             started: self.started,
         };

@@ -16,5 +16,5 @@ WasOpenedFor words = (config : Config) × (count : ℕ) × AskFor words config c
 abbrev pub LeavesOutput : List (List ℕ) → Option (List ℕ) → Option (List ℕ) → FarrunFault → Type 0
 LeavesOutput words old new fault.Usage = Keeps old new
 LeavesOutput words old new (fault.Folder f) = Keeps old new
-LeavesOutput words old new (fault.Store number) = Keeps old new
+LeavesOutput words old new (fault.Store number kind) = Keeps old new
 LeavesOutput words old new (fault.Program f) = ProgramLeaves words old new f

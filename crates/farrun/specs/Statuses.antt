@@ -10,5 +10,5 @@ abbrev pub status_of : FarrunFault → ℕ
 status_of fault.Usage = 2
 status_of (fault.Folder (folder.CannotOpen number)) = 2
 status_of (fault.Folder folder.Memory) = 1
-status_of (fault.Store number) = 2
+status_of (fault.Store number kind) = 2
 status_of (fault.Program f) = program_status f

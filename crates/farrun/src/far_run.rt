@@ -88,7 +88,7 @@ where
         }
         return match open_stores(host, replies, requests) {
             Ok(devices) => run_over(rt, words, arguments, devices, out),
-            Err(Some(number)) => Err(FarrunFault::Store(number)),
+            Err(Some((number, kind))) => Err(FarrunFault::Store(number, kind)),
             Err(None) => Err(MEMORY),
         };
     }

@@ -4,6 +4,7 @@ ghost use Rattle.farrun.specs.Statuses.{status_of};
 
 use far_driver::{ProgramFault, RunFault};
 use file_device::FolderFault;
+use std::io::ErrorKind;
 use thiserror::Error;
 
 /// Why the program ends early. Its text is the line on standard error.
@@ -16,9 +17,9 @@ pub enum FarrunFault {
     /// A folder that can't be used.
     #[error("{0}")]
     Folder(FolderFault),
-    /// A pair of pipes that can't be used, by its number from 1.
-    #[error("far-resp {0}: cannot open")]
-    Store(usize),
+    /// A pair of pipes that can't be opened, by its number from 1, with the system's reason.
+    #[error("far-resp {0}: cannot open: {1}")]
+    Store(usize, ErrorKind),
     /// What comes of the files and the run.
     #[error("{0}")]
     Program(ProgramFault),
@@ -38,7 +39,7 @@ impl FarrunFault {
     {
         match self {
             FarrunFault::Usage => 2,
-            FarrunFault::Folder(FolderFault::CannotOpen(_)) | FarrunFault::Store(_) => 2,
+            FarrunFault::Folder(FolderFault::CannotOpen(_)) | FarrunFault::Store(_, _) => 2,
             FarrunFault::Folder(FolderFault::Memory) => 1,
             FarrunFault::Program(fault) => fault.status(),
         }

@@ -2,11 +2,13 @@
 //! table that threads share, over devices of one's choice, and prints the replies and the contents.
 #![tactic(auto)]
 
+mod advice;
 mod command_line;
 mod far_run;
 mod fault;
 mod stores;
 
+use advice::tell_fault;
 use clap::error::ErrorKind;
 use clap::{ArgMatches, Error};
 use command_line::{CommandLine, command};
@@ -24,10 +26,10 @@ use streams::StreamWriter;
 /// Bytes of output that are written at once.
 const OUT_BYTES: usize = 8_192;
 
-/// Runs what these say.
-fn run_matches<R>(rt: &R, host: HostRuntime, matches: &ArgMatches<'_>) -> Result<(), FarrunFault>
+/// Runs what these say, and gives the status. Why a run ended early is printed.
+fn run_matches<R>(rt: &R, host: HostRuntime, matches: &ArgMatches<'_>) -> Result<u8, FarrunFault>
 where
-    R: Files + Input + AllocGlobal + Print + Threads + Wait + Sync,
+    R: Files + Input + AllocGlobal + Print + Eprint + Threads + Wait + Sync,
 {
     let Ok(asked) = CommandLine::of(rt.alloc(), matches) else {
         return Err(MEMORY);
@@ -35,7 +37,10 @@ where
     let Ok(mut out) = StreamWriter::buffered(rt.alloc(), OUT_BYTES, io::writer(rt), 0) else {
         return Err(MEMORY);
     };
-    run_asked(rt, host, &asked, &mut out)
+    match run_asked(rt, host, &asked, &mut out) {
+        Ok(()) => Ok(0),
+        Err(fault) => Ok(tell_fault(rt, host, &asked, fault)),
+    }
 }
 
 /// Prints why these are no words of the program, or its help, and gives the status.
@@ -64,10 +69,7 @@ where
         return Err(MEMORY);
     };
     match command.try_get_matches_from(words.as_slice()) {
-        Ok(matches) => {
-            run_matches(rt, host, &matches)?;
-            Ok(0)
-        }
+        Ok(matches) => run_matches(rt, host, &matches),
         Err(error) => tell(rt, &error),
     }
 }

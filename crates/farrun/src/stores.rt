@@ -2,17 +2,18 @@
 
 use resp_device::{Pipes, RespDevice, StoreOpenFault};
 use std::fs::File;
+use std::io::ErrorKind;
 
 /// The greatest number of a lane.
 const LAST: usize = 63;
 
-/// A device for each pair of pipes, in their order, as the lanes from 0 on. A pipe is opened once its other end is. At Err the
-/// number, from 1, of a pair that can't be opened, and none where a growth of memory was refused.
+/// A device for each pair of pipes, in their order, as the lanes from 0 on. A pipe is opened once its other end is. If a pair
+/// can't be opened, Err has its number, from 1, and the system's reason. If memory is refused, Err has none.
 pub fn open_stores(
     host: HostRuntime,
     replies: &[&str],
     requests: &[&str],
-) -> Result<Vec<RespDevice<Pipes<File, File>>>, Option<usize>> {
+) -> Result<Vec<RespDevice<Pipes<File, File>>>, Option<(usize, ErrorKind)>> {
     let mut devices = Vec::new(host.alloc());
     for (lane, (input, output)) in replies.iter().zip(requests).enumerate() {
         match RespDevice::open(&host, *input, *output, lane.min(LAST) as u8) {
@@ -22,7 +23,7 @@ pub fn open_stores(
                 }
             }
             Err(StoreOpenFault::Memory) => return Err(None),
-            Err(StoreOpenFault::Io(_)) => return Err(Some(lane.saturating_add(1))),
+            Err(StoreOpenFault::Io(kind)) => return Err(Some((lane.saturating_add(1), kind))),
         }
     }
     Ok(devices)

@@ -1,5 +1,5 @@
 -- What the server did, from the bytes of its pipes.
-use Rattle.std.specs.Prelude.{◌≡◌, ℕ, ◌+◌, Bool, true, false, IsTrue, List, All, Option, Err}
+use Rattle.std.specs.Prelude.{◌≡◌, ℕ, ◌+◌, Bool, true, false, IsTrue, List, [], ◌∷◌, ◌++◌, All, Option, Ok}
 use Rattle.std.specs.Option.{is_some}
 use Rattle.std.specs.Io.Buffered.{reader_remaining, writer_contents}
 use Rattle.std.specs.declared.alloc.Global.{Global}
@@ -31,10 +31,10 @@ Replies = BufWriter (StreamWriter File) Global
 abbrev pub End : Type 0
 End = WorkerEnd Requests Replies
 
--- whether a fault ended the worker
-abbrev pub is_failed : End → Bool
-is_failed (worker_end.Served (Err why)) = true
-is_failed end = false
+-- whether a worker served until its requests were at their end
+abbrev pub is_served : End → Bool
+is_served (worker_end.Served (Ok parts)) = true
+is_served end = false
 
 -- The terms of all workers and of the sweep, from one map to the next, end so. Where none is lost, each map begins with
 -- all that the one before it left.
@@ -45,10 +45,11 @@ AreTerms settings devices honest ends lost = IsRenewed enc_blob (λ worker l beg
 -- end. The pipes of the worker with number n are those with this number: it read the first bytes of the one, and wrote
 -- the first bytes of the other.
 pub record IsServed (settings : ServerSettings) (devices : ℕ) (honest : Bool) : Type 0 where
-  pub ends : List End
-  pub unfailed : All (λ end. is_failed end ≡ false) ends
+  pub workers : List End
+  pub sweep : End
+  pub served : All (λ end. is_served end ≡ true) workers
   pub lost : ℕ
-  pub terms : AreTerms settings devices honest ends lost
+  pub terms : AreTerms settings devices honest (workers ++ sweep ∷ []) lost
 
 -- the settings are those that the options ask for
 pub record IsAskedFor (asked : CommandLine) (settings : ServerSettings) : Type 0 where

@@ -31,6 +31,15 @@ const CLIENTS: u32 = 10_000;
 /// Seconds in which a client has to give the password, if `--auth-timeout` is not given.
 const AUTH_TIMEOUT: u32 = 10;
 
+/// What `--log-level` takes, from few lines to many.
+const LOG_LEVELS: [&str; 3] = ["warning", "notice", "debug"];
+
+/// From how many microseconds on a command is a slow one, if `--slow` is not given.
+const SLOW: i64 = 10_000;
+
+/// The largest `--slow`: an hour.
+const MOST_SLOW: i64 = 3_600_000_000;
+
 /// The largest `--maxclients`.
 const MOST_CLIENTS: i64 = 1_000_000;
 
@@ -84,6 +93,10 @@ pub struct CommandLine<'a> {
     pub auth_timeout: u32,
     /// The most connections at once.
     pub most_clients: u32,
+    /// From how many microseconds on a command is a slow one; -1 if none is.
+    pub slow: i64,
+    /// Which lines the gateway writes to its log: `warning`, `notice` or `debug`.
+    pub log_level: &'a str,
     /// The text of `--names`: how many version numbers a map has before it is renewed. It is not checked yet.
     pub names: Option<&'a str>,
     /// The folder of the named pipes to the gateway.
@@ -201,6 +214,18 @@ fn with_addresses<'a>(alloc: Global, command: Command<'a>) -> Result<Command<'a>
         MOST_CLIENTS,
         "The most connections at once, 1 to 1000000; more are refused [10000]",
     );
+    let slow = text(
+        alloc,
+        "slow",
+        "MICROSECONDS",
+        "From how long on SLOWLOG has a command, 0 for all commands, -1 for none [10000]",
+    );
+    let log_level = text(
+        alloc,
+        "log-level",
+        "NAME",
+        "Which lines standard error gets while it serves: warning, notice or debug [notice]",
+    );
     let pipes = text(
         alloc,
         "pipes",
@@ -242,6 +267,11 @@ fn with_addresses<'a>(alloc: Global, command: Command<'a>) -> Result<Command<'a>
         .arg(timeout.value_name("SECONDS"))?
         .arg(auth_timeout.value_name("SECONDS"))?
         .arg(most_clients)?
+        .arg(
+            slow.allow_negative_numbers(true)
+                .value_parser(clap::value_parser!(i64).range(-1..=MOST_SLOW)),
+        )?
+        .arg(log_level.value_parser(LOG_LEVELS.as_slice()))?
         .arg(pipes.hide(true))?
         .arg(names.hide(true))?;
     Ok(command)
@@ -359,6 +389,8 @@ impl<'a> CommandLine<'a> {
                 .get_one::<u32>("auth-timeout")
                 .unwrap_or(AUTH_TIMEOUT),
             most_clients: matches.get_one::<u32>("maxclients").unwrap_or(CLIENTS),
+            slow: matches.get_one::<i64>("slow").unwrap_or(SLOW),
+            log_level: matches.get_str("log-level").unwrap_or("notice"),
             names: matches.get_str("names"),
             pipes,
         };

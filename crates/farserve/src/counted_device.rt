@@ -1,17 +1,20 @@
-//! A device that reports how many objects it keeps, and how many bytes their slots take.
+//! A device that reports how many objects it keeps, how many bytes their slots take, and why its calls fail.
 ghost use Rattle.std.specs.Prelude.{◌≡◌};
 ghost use Rattle.file_device.specs.Honesty.{is_honest_over};
 
 use crate::bounded_disk::Measured;
+use crate::reasons::reason_of_file;
 use far_device::{Device, DeviceFault};
 use far_server::FarUsage;
 use file_device::{Disk, FileDevice};
+use std::rt::Clock;
 
 /// A device over slots that passes each call on. After it, it reports to `usage` by how much its objects and
-/// their bytes have changed.
+/// their bytes have changed, and why the call failed, if it did.
 #[derive(Drop)]
-pub struct CountedDevice<'a, K: Disk> {
+pub struct CountedDevice<'a, K: Disk, C> {
     inner: FileDevice<K>,
+    clock: C,
     usage: &'a FarUsage,
 }
 
@@ -22,12 +25,16 @@ struct Kept {
     bytes: u64,
 }
 
-impl<'a, K: Disk + Measured> CountedDevice<'a, K> {
+impl<'a, K: Disk + Measured, C: Clock> CountedDevice<'a, K, C> {
     /// A counted device over an empty one, of which nothing was reported yet.
-    pub fn new(inner: FileDevice<K>, usage: &'a FarUsage) -> Self
+    pub fn new(inner: FileDevice<K>, clock: C, usage: &'a FarUsage) -> Self
         ensures { result.inner ≡ inner }
     {
-        CountedDevice { inner, usage }
+        CountedDevice {
+            inner,
+            clock,
+            usage,
+        }
     }
 
     fn kept(&self) -> Kept {
@@ -43,9 +50,17 @@ impl<'a, K: Disk + Measured> CountedDevice<'a, K> {
         self.usage.tell_objects(before.objects, now.objects);
         self.usage.tell_bytes(before.bytes, now.bytes);
     }
+
+    /// Reports why a call failed, if it did. Memory that was refused is no failure of the device.
+    fn tell_fault(&self, fault: Option<DeviceFault>) {
+        if fault == Some(DeviceFault::Failed) {
+            let reason = reason_of_file(self.inner.last_failure());
+            self.usage.tell_failure(reason, &self.clock);
+        }
+    }
 }
 
-impl<K: Disk + Measured> Device for CountedDevice<'_, K> {
+impl<K: Disk + Measured, C: Clock + Drop> Device for CountedDevice<'_, K, C> {
     ghost use Rattle.file_device.specs.Devices.{labels_in, state_in};
 
     ghost state = { λ device. state_in device.inner };
@@ -58,6 +73,7 @@ impl<K: Disk + Measured> Device for CountedDevice<'_, K> {
         let before = self.kept();
         let result = self.inner.construct();
         self.tell(before);
+        self.tell_fault(result.err());
         result
     }
 
@@ -65,17 +81,21 @@ impl<K: Disk + Measured> Device for CountedDevice<'_, K> {
         let before = self.kept();
         let result = self.inner.write(id, bytes);
         self.tell(before);
+        self.tell_fault(result.err());
         result
     }
 
     fn read(&mut self, id: u64, out: &mut Vec<u8>) -> Result<bool, DeviceFault> {
-        self.inner.read(id, out)
+        let result = self.inner.read(id, out);
+        self.tell_fault(result.err());
+        result
     }
 
     fn remove(&mut self, id: u64) -> Result<bool, DeviceFault> {
         let before = self.kept();
         let result = self.inner.remove(id);
         self.tell(before);
+        self.tell_fault(result.err());
         result
     }
 
@@ -83,11 +103,14 @@ impl<K: Disk + Measured> Device for CountedDevice<'_, K> {
         let before = self.kept();
         let result = self.inner.write_labelled(id, label, bytes);
         self.tell(before);
+        self.tell_fault(result.err());
         result
     }
 
     fn read_labelled(&mut self, id: u64, out: &mut Vec<u8>) -> Result<Option<u32>, DeviceFault> {
-        self.inner.read_labelled(id, out)
+        let result = self.inner.read_labelled(id, out);
+        self.tell_fault(result.err());
+        result
     }
 
     fn failures(&self) -> u64 {

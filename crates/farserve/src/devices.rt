@@ -7,12 +7,17 @@ use far_server::FarUsage;
 use file_device::{DiskFault, FileDevice, FileDisk, MemoryDisk, ScratchFolder};
 use std::hash::RandomState;
 use std::random::RandomSource;
+use std::rt::Clock;
 
 /// The most devices besides the one for renewals, unless there are more folders.
 pub const DEVICES: u32 = 4;
 
 /// A device over scratch files.
-pub type FarDevice<'a> = CountedDevice<'a, BoundedDisk<FileDisk<ScratchFolder<HostRuntime>>>>;
+pub type FarDevice<'a> = CountedDevice<
+    'a,
+    BoundedDisk<FileDisk<ScratchFolder<HostRuntime>>>,
+    HostRuntime,
+>;
 
 /// Random keys for a device's digests. `FarserveFault::Random` is returned if the system gives no random bytes.
 pub fn keys_of<'f, R: RandomSource>(rt: &R) -> Result<RandomState, FarserveFault<'f>> {
@@ -32,7 +37,7 @@ fn open<'a>(
     usage: &'a FarUsage,
 ) -> Result<FarDevice<'a>, DiskFault> {
     let disk = BoundedDisk::new(FileDisk::open(rt, folder, lane)?, most);
-    Ok(CountedDevice::new(FileDevice::new(rt.alloc(), disk, keys), usage))
+    Ok(CountedDevice::new(FileDevice::new(rt.alloc(), disk, keys), rt, usage))
 }
 
 /// Opens the devices over scratch files, in these folders in turn.
@@ -57,7 +62,7 @@ pub fn open_far<'a, 'b>(
             return Ok(devices);
         };
         if folder.is_empty() {
-            return Err(FarserveFault::Folder(folder));
+            return Err(FarserveFault::Folder(folder, None));
         }
         let share = if lane < count {
             most / u64::from(count)
@@ -71,7 +76,7 @@ pub fn open_far<'a, 'b>(
                 }
             }
             Err(DiskFault::Memory) => return Err(FarserveFault::Memory),
-            Err(DiskFault::Io(_, _)) => return Err(FarserveFault::Folder(folder)),
+            Err(fault) => return Err(FarserveFault::Folder(folder, Some(fault))),
         }
     }
     Ok(devices)
@@ -81,13 +86,13 @@ pub fn open_far<'a, 'b>(
 fn open_one_of_none<'a, 'f, R>(
     rt: &R,
     usage: &'a FarUsage,
-) -> Result<CountedDevice<'a, BoundedDisk<MemoryDisk>>, FarserveFault<'f>>
+) -> Result<CountedDevice<'a, BoundedDisk<MemoryDisk>, R>, FarserveFault<'f>>
 where
-    R: AllocGlobal + RandomSource,
+    R: AllocGlobal + RandomSource + Clock + Copy,
 {
     let keys = keys_of(rt)?;
     let disk = BoundedDisk::new(MemoryDisk::new(rt.alloc()), 0);
-    Ok(CountedDevice::new(FileDevice::new(rt.alloc(), disk, keys), usage))
+    Ok(CountedDevice::new(FileDevice::new(rt.alloc(), disk, keys), *rt, usage))
 }
 
 /// Opens the devices of a server that keeps all objects in frames. Both refuse to keep anything; the second
@@ -95,9 +100,9 @@ where
 pub fn open_none<'a, 'f, R>(
     rt: &R,
     usage: &'a FarUsage,
-) -> Result<Vec<CountedDevice<'a, BoundedDisk<MemoryDisk>>>, FarserveFault<'f>>
+) -> Result<Vec<CountedDevice<'a, BoundedDisk<MemoryDisk>, R>>, FarserveFault<'f>>
 where
-    R: AllocGlobal + RandomSource,
+    R: AllocGlobal + RandomSource + Clock + Copy,
 {
     let mut devices = Vec::new(rt.alloc());
     for _ in 0..2 {

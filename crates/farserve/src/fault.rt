@@ -1,7 +1,9 @@
 //! Faults that end the program, and the exit status of each.
 
+use crate::reasons::folder_words;
 use far_map::MapFault;
 use far_server::ServeFault;
+use file_device::DiskFault;
 use std::fmt::{Display, Formatter};
 use std::{fmt, io};
 
@@ -27,8 +29,8 @@ pub enum FarserveFault<'a> {
     Unread(&'a str, io::Error),
     /// This password file begins with an empty line.
     Empty(&'a str),
-    /// This folder can't be used.
-    Folder(&'a str),
+    /// This folder can't be used, because of this fault. None if the path is empty.
+    Folder(&'a str, Option<DiskFault>),
     /// There are more than 64 folders.
     Folders,
     /// The text of `--far-resp` is no address of a store.
@@ -51,6 +53,15 @@ pub enum FarserveFault<'a> {
     Worker(ServeFault),
 }
 
+/// A size that this option takes.
+fn size_for(option: &str) -> &'static str {
+    match option {
+        "memory" => "256m",
+        "value-limit" => "1m",
+        _ => "10g",
+    }
+}
+
 impl FarserveFault<'_> {
     /// The exit status: 1 for what the system refused and for parts that failed, 2 for wrong options, folders
     /// and password files.
@@ -70,14 +81,19 @@ impl FarserveFault<'_> {
 impl Display for FarserveFault<'_> {
     fn fmt<W: fmt::Write>(&self, f: &mut Formatter<W>) -> fmt::Result {
         match self {
-            FarserveFault::Size(option, text, least, most) => write!(
-                f,
-                "--{option} {text}: no size from {least} to {most} bytes; 64k, 256m and 2g are sizes"
-            ),
+            FarserveFault::Size(option, text, least, most) => {
+                let example = size_for(option);
+                write!(
+                    f,
+                    "--{option} {text}: no size from {least} to {most} bytes; {example} would do"
+                )
+            }
             FarserveFault::Names(text, least, most) => {
                 write!(f, "--names {text}: no number from {least} to {most}")
             }
-            FarserveFault::Bind(text) => write!(f, "--bind {text}: no IP address"),
+            FarserveFault::Bind(text) => {
+                write!(f, "--bind {text}: no IP address; 127.0.0.1 would do")
+            }
             FarserveFault::Open(text) => write!(
                 f,
                 "--bind {text}: others than this machine could get in, so it needs --password-file"
@@ -97,7 +113,17 @@ impl Display for FarserveFault<'_> {
                 f,
                 "--password-file {path}: its first line is empty"
             ),
-            FarserveFault::Folder(path) => write!(f, "--far {path}: cannot open"),
+            FarserveFault::Folder(path, None) => write!(
+                f,
+                "--far {path}: cannot open: the path is empty; name a folder"
+            ),
+            FarserveFault::Folder(path, Some(fault)) => match folder_words(*fault) {
+                Some((reason, advice)) => write!(
+                    f,
+                    "--far {path}: cannot open: {reason}; {advice}"
+                ),
+                None => write!(f, "--far {path}: cannot open: {fault}"),
+            },
             FarserveFault::Folders => f.write_str("--far: more than 64 folders"),
             FarserveFault::Store(text) => write!(
                 f,

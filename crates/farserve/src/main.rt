@@ -5,9 +5,9 @@
 //! was chosen. Then the program serves until the gateway has ended.
 #![tactic(auto)]
 
-ghost use Rattle.std.specs.Prelude.{◌≡◌, ◌≤◌, ◌-◌, false, All, OnOk, vec_len};
+ghost use Rattle.std.specs.Prelude.{◌≡◌, ◌≤◌, ◌-◌, true, All, OnOk, vec_len};
 ghost use Rattle.std.specs.Option.{is_some};
-ghost use Rattle.farserve.specs.Serving.{is_failed, IsServed, IsAskedFor, HasServed};
+ghost use Rattle.farserve.specs.Serving.{is_served, IsServed, IsAskedFor, HasServed};
 
 mod bounded_disk;
 mod command_line;
@@ -18,6 +18,7 @@ mod link;
 mod memory_plan;
 mod password;
 mod pipes;
+mod reasons;
 mod rest;
 mod resting_store;
 mod sizes;
@@ -27,8 +28,8 @@ use anyhow::{Result, bail};
 use command_line::{CommandLine, Store, command};
 use devices::{DEVICES, open_far, open_none};
 use far_device::Device;
-use far_map::Settings;
-use far_server::{Bounds, FarUsage, ServeFault, ServerSettings, WorkerEnd, run_server};
+use far_map::{MapFault, Settings};
+use far_server::{Bounds, FarUsage, ServerSettings, WorkerEnd, run_server};
 use fault::FarserveFault;
 use memory_plan::{Sizes, Tier, divide, least_memory};
 use pipes::{Input, NamedPipes, Output};
@@ -90,9 +91,9 @@ fn devices_for(sizes: Sizes) -> u32
     if sizes.large > 0 { DEVICES } else { 1 }
 }
 
-/// The limit of scratch files as INFO reports it: 0 for none.
-fn told_limit(limit: u64) -> u64 {
-    if limit == u64::MAX { 0 } else { limit }
+/// The limit of scratch files as INFO reports it.
+fn told_limit(limit: u64) -> Option<u64> {
+    if limit == u64::MAX { None } else { Some(limit) }
 }
 
 /// The settings of the server.
@@ -142,6 +143,7 @@ fn settings(
             longest_value: u64::from(value),
             port: u32::from(asked.port),
             workers: asked.threads,
+            slow: asked.slow,
         },
     }
 }
@@ -173,10 +175,11 @@ fn tell_links(rt: &impl Print, folder: &str, store: Store<'_>, devices: u32) -> 
 fn tell_gateway(rt: &impl Print, asked: &CommandLine<'_>, sizes: Sizes) -> io::Result<()> {
     let (workers, port, bind, timeout) = (asked.threads, asked.port, asked.bind, asked.timeout);
     let (auth_timeout, clients) = (asked.auth_timeout, asked.most_clients);
-    let (memory, reply) = (sizes.clients, sizes.reply);
+    let (memory, reply, level) = (sizes.clients, sizes.reply, asked.log_level);
     print!(rt; "{workers}\0--port\0{port}\0--bind\0{bind}\0--timeout\0{timeout}\0")?;
     print!(rt; "--auth-timeout\0{auth_timeout}\0--connections\0{clients}\0")?;
     print!(rt; "--clients-memory\0{memory}\0--output-limit\0{reply}\0")?;
+    print!(rt; "--log-level\0{level}\0")?;
     if let Some(path) = asked.unix {
         print!(rt; "--unix\0{path}\0")?;
     }
@@ -238,24 +241,23 @@ fn tell<'a, R: Print + Eprint>(
     }
 }
 
-/// The fault that ended the worker, if one did.
-fn fault_of(end: &End) -> Option<ServeFault>
-    ensures { is_some result ≡ is_failed end.now }
+/// `FarserveFault::Worker` with the fault that ended the worker, if one did. The sweep is no worker.
+fn check_end<'a>(end: &End) -> Result<(), FarserveFault<'a>>
+    ensures { OnOk result (is_served end.now ≡ true) }
 {
     match end {
-        WorkerEnd::Served(Err(fault)) => Some(*fault),
-        _ => None,
+        WorkerEnd::Served(Ok(_)) => Ok(()),
+        WorkerEnd::Served(Err(fault)) => Err(FarserveFault::Worker(*fault)),
+        WorkerEnd::Sweep => Err(FarserveFault::Run(MapFault::Stopped)),
     }
 }
 
-/// `FarserveFault::Worker` with the fault of the first worker that a fault ended, if there is one.
+/// The same for all workers. The fault is that of the first that has one.
 fn check_ends<'a>(ends: &[End]) -> Result<(), FarserveFault<'a>>
-    ensures unfailed { OnOk result (All (λ end. is_failed end ≡ false) ends.now) }
+    ensures served { OnOk result (All (λ end. is_served end ≡ true) ends.now) }
 {
     for end in ends {
-        if let Some(fault) = fault_of(end) {
-            return Err(FarserveFault::Worker(fault));
-        }
+        check_end(end)?;
     }
     Ok(())
 }
@@ -285,7 +287,7 @@ where
         rt: host,
         folder: asked.pipes,
     };
-    let ends = match run_server(
+    let mut ends = match run_server(
         rt,
         rt.alloc(),
         settings,
@@ -297,6 +299,9 @@ where
     ) {
         Ok(ends) => ends,
         Err(fault) => return Err(FarserveFault::Run(fault)),
+    };
+    let Some(_sweep) = ends.pop() else {
+        return Err(FarserveFault::Run(MapFault::Stopped));
     };
     check_ends(ends.as_slice())
 }

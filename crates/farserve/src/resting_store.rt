@@ -5,14 +5,16 @@
 //! after such a failure no call of this kind is made for a while: each fails at once.
 ghost use Rattle.digests.specs.Collisions.{nothing_collided};
 
+use crate::reasons::reason_of_store;
 use crate::rest::Rest;
 use crate::stores::StoreDevice;
 use far_device::{Device, DeviceFault};
-use far_server::FarUsage;
+use far_server::{DeviceReason, FarUsage};
 use resp_device::StoreFailure;
 use std::rt::Clock;
 
-/// A device over a store that makes no call while it rests. It reports to INFO whether it rests.
+/// A device over a store that makes no call while it rests. It reports to INFO whether it rests, and why calls
+/// fail. A call that is not made fails for the reason for which the store rests.
 ///
 /// Reads rest on their own, because a store may answer them while it refuses writes and removals, as a
 /// replica does. Reads don't rest after an error reply. It arrives soon. It may also be a proxy's, for one of
@@ -23,6 +25,9 @@ pub struct RestingStore<'a, C> {
     clock: C,
     reads: Rest,
     writes: Rest,
+    /// Why the last read failed, and the last write or removal. A call that is not made has this reason.
+    read_reason: DeviceReason,
+    write_reason: DeviceReason,
     /// Calls that failed because they were not made.
     rested: u64,
     usage: &'a FarUsage,
@@ -49,6 +54,8 @@ impl<'a, C: Clock> RestingStore<'a, C> {
             clock,
             reads: Rest::none(),
             writes: Rest::none(),
+            read_reason: DeviceReason::Other,
+            write_reason: DeviceReason::Other,
             rested: 0,
             usage,
         }
@@ -94,6 +101,17 @@ impl<'a, C: Clock> RestingStore<'a, C> {
     fn is_resting(&self) -> bool {
         self.reads.is_on() || self.writes.is_on()
     }
+
+    /// Reports why a call failed, if it did, and returns that. Otherwise it returns `last`. Memory that was
+    /// refused is no failure of the store.
+    fn tell_fault(&self, fault: Option<DeviceFault>, last: DeviceReason) -> DeviceReason {
+        if fault != Some(DeviceFault::Failed) {
+            return last;
+        }
+        let reason = reason_of_store(self.inner.last_failure());
+        self.usage.tell_failure(reason, &self.clock);
+        reason
+    }
 }
 
 impl<C: Clock + Drop> Device for RestingStore<'_, C> {
@@ -104,17 +122,21 @@ impl<C: Clock + Drop> Device for RestingStore<'_, C> {
     ghost HONEST = { nothing_collided };
 
     fn construct(&mut self) -> Result<(), DeviceFault> {
-        self.inner.construct()
+        let result = self.inner.construct();
+        self.write_reason = self.tell_fault(result.err(), self.write_reason);
+        result
     }
 
     fn write(&mut self, id: u64, bytes: &[u8]) -> Result<(), DeviceFault> {
         if self.writes.forbids(self.now()) {
             self.rested = self.rested.saturating_add(1);
+            self.usage.tell_failure(self.write_reason, &self.clock);
             return Err(DeviceFault::Failed);
         }
         let was = self.is_resting();
         let result = self.inner.write(id, bytes);
         self.writes = self.after_write(result.and(Ok(true)));
+        self.write_reason = self.tell_fault(result.err(), self.write_reason);
         self.usage.tell_resting(was, self.is_resting());
         result
     }
@@ -122,11 +144,13 @@ impl<C: Clock + Drop> Device for RestingStore<'_, C> {
     fn read(&mut self, id: u64, out: &mut Vec<u8>) -> Result<bool, DeviceFault> {
         if self.reads.forbids(self.now()) {
             self.rested = self.rested.saturating_add(1);
+            self.usage.tell_failure(self.read_reason, &self.clock);
             return Err(DeviceFault::Failed);
         }
         let was = self.is_resting();
         let result = self.inner.read(id, out);
         self.reads = self.after_read(result);
+        self.read_reason = self.tell_fault(result.err(), self.read_reason);
         self.usage.tell_resting(was, self.is_resting());
         result
     }
@@ -134,11 +158,13 @@ impl<C: Clock + Drop> Device for RestingStore<'_, C> {
     fn remove(&mut self, id: u64) -> Result<bool, DeviceFault> {
         if self.writes.forbids(self.now()) {
             self.rested = self.rested.saturating_add(1);
+            self.usage.tell_failure(self.write_reason, &self.clock);
             return Err(DeviceFault::Failed);
         }
         let was = self.is_resting();
         let result = self.inner.remove(id);
         self.writes = self.after_write(result);
+        self.write_reason = self.tell_fault(result.err(), self.write_reason);
         self.usage.tell_resting(was, self.is_resting());
         result
     }

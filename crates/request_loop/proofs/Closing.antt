@@ -164,7 +164,7 @@ stopped_gone limits c slots came came' sent steps h is o =
 begun_over : (limits : Limits) (came sent : List ℕ) (es : List Exchange) → IsOver limits came sent es → IsBegunBy limits came sent es
 begun_over limits came sent es o =
     elim o [
-      | inl b ↦ record { rest = b.rest ++ b.behind; is = b.is; each = b.each; owed = []; error = protocol_error b.fault; error_is = inr (b.fault, refl); sent_is = append-nil sent ∙ b.sent_is }
+      | inl b ↦ record { rest = b.rest ++ b.behind; is = b.is; each = b.each; owed = []; error = protocol_error b.rest b.at b.fault; error_is = inr (b.rest, b.at, b.fault, refl); sent_is = append-nil sent ∙ b.sent_is }
       | inr e ↦ elim e [
         | inl b ↦ record { rest = b.rest; is = b.is; each = b.each; owed = []; error = []; error_is = inl refl; sent_is = append-nil sent ∙ (b.sent_is ∙ sym (append-nil (replied es))) }
         | inr b ↦ record { rest = b.rest; is = b.is; each = b.each; owed = []; error = []; error_is = inl refl; sent_is = append-nil sent ∙ (b.sent_is ∙ sym (append-nil (replied es))) }

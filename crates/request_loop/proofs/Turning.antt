@@ -70,7 +70,7 @@ answered_last limits rest rest' out out' e is out_is taken last a b es o = inr (
 }))
 
 -- what follows is no request
-answered_bad : (limits : Limits) (rest out out' : List ℕ) (at : ℕ) (fault : ParseFault) → out' ≡ out ++ protocol_error fault → Spoilt command (IsAdmitted limits) rest at → IsCause limits rest at fault → (a b : List ℕ) (es : List Exchange) → IsAnswered limits rest a (b ++ out) es → IsOver limits a (b ++ out') (es ++ [])
+answered_bad : (limits : Limits) (rest out out' : List ℕ) (at : ℕ) (fault : ParseFault) → out' ≡ out ++ protocol_error rest at fault → Spoilt command (IsAdmitted limits) rest at → IsCause limits rest at fault → (a b : List ℕ) (es : List Exchange) → IsAnswered limits rest a (b ++ out) es → IsOver limits a (b ++ out') (es ++ [])
 answered_bad limits rest out out' at fault out_is bad cause a b es o =
     let P : List Exchange → Type 0 = λ l. IsOver limits a (b ++ out') l in
     subst P (sym (append-nil es)) (inl (record {
@@ -83,7 +83,7 @@ answered_bad limits rest out out' at fault out_is bad cause a b es o =
       spoilt = bad;
       fault = fault;
       cause = cause;
-      sent_is = ap (λ l. b ++ l) out_is ∙ (sym (append_assoc b out (protocol_error fault)) ∙ ap (λ l. l ++ protocol_error fault) o.sent_is);
+      sent_is = ap (λ l. b ++ l) out_is ∙ (sym (append_assoc b out (protocol_error rest at fault)) ∙ ap (λ l. l ++ protocol_error rest at fault) o.sent_is);
     }))
 
 -- what follows is not kept
@@ -132,7 +132,7 @@ turn_last tells does limits past c start now x y z slots rest out out' consumed 
       (took (IsAnswered limits rest) (IsOver limits) limits c slots out out' (w.what ∷ []) (marks t.came) (marks t.sent) (past ++ step_marks t.steps) (past ++ step_marks t.steps ++ Piece c (w.what ∷ []) ∷ []) (answered_last limits rest w.rest out out' w.what w.is w.out_is w.taken w.next_is) (says_piece c (w.what ∷ []) (past ++ step_marks t.steps)) t.turn);
 }
 
-pub turn_bad : {D X : Type 0} (tells : D → D → List Packet → List Packet → Type 0) (does : X → Call → X → Type 0) (limits : Limits) (past : List (Mark Exchange)) (c : ℕ) (start now : D) (x y : X) (slots : Slots) (rest out out' : List ℕ) (at : ℕ) (fault : ParseFault) → Spoilt command (IsAdmitted limits) rest at → IsCause limits rest at fault → out' ≡ out ++ protocol_error fault → Turns (IsAnswered limits rest) tells does limits past c start now x y slots out → Turns (IsOver limits) tells does limits past c start now x y slots out'
+pub turn_bad : {D X : Type 0} (tells : D → D → List Packet → List Packet → Type 0) (does : X → Call → X → Type 0) (limits : Limits) (past : List (Mark Exchange)) (c : ℕ) (start now : D) (x y : X) (slots : Slots) (rest out out' : List ℕ) (at : ℕ) (fault : ParseFault) → Spoilt command (IsAdmitted limits) rest at → IsCause limits rest at fault → out' ≡ out ++ protocol_error rest at fault → Turns (IsAnswered limits rest) tells does limits past c start now x y slots out → Turns (IsOver limits) tells does limits past c start now x y slots out'
 turn_bad tells does limits past c start now x y slots rest out out' at fault bad cause is t = record {
   came = t.came;
   sent = t.sent;

@@ -22,7 +22,7 @@ pub record IsBegunBy (limits : Limits) (came sent : List ℕ) (es : List Exchang
   pub each : AreTaken limits es
   pub owed : List ℕ
   pub error : List ℕ
-  pub error_is : (error ≡ []) ⊎ ((fault : ParseFault) × (error ≡ protocol_error fault))
+  pub error_is : (error ≡ []) ⊎ ((bytes : List ℕ) × (at : ℕ) × (fault : ParseFault) × (error ≡ protocol_error bytes at fault))
   pub sent_is : sent ++ owed ≡ replied es ++ error
 
 abbrev pub AreBegun : Limits → List (Mark ℕ) → List (Mark ℕ) → List (Mark Exchange) → Type 0

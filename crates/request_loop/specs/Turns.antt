@@ -109,7 +109,7 @@ pub record TakesWhole {X : Type 0} (does : X → Call → X → Type 0) (limits 
 abbrev pub Takes : {X : Type 0} → (X → Call → X → Type 0) → Limits → ℕ → X → X → List ℕ → List ℕ → List ℕ → Taken → Type 0
 Takes does limits c x y bytes old out (Whole consumed next) = TakesWhole does limits c x y bytes consumed next old out
 Takes does limits c x y bytes old out (Short missing) = (x ≡ y) × Lacks command (IsAdmitted limits) bytes missing × (length bytes + missing ≤ longest limits) × (out ≡ old)
-Takes does limits c x y bytes old out Bad = (x ≡ y) × (at : ℕ) × (fault : ParseFault) × Spoilt command (IsAdmitted limits) bytes at × IsCause limits bytes at fault × (out ≡ old ++ protocol_error fault)
+Takes does limits c x y bytes old out Bad = (x ≡ y) × (at : ℕ) × (fault : ParseFault) × Spoilt command (IsAdmitted limits) bytes at × IsCause limits bytes at fault × (out ≡ old ++ protocol_error bytes at fault)
 Takes does limits c x y bytes old out Refused = (x ≡ y) × (out ≡ old)
 
 -- so far as the requests were answered: the beginning of one is left, or the connection is over

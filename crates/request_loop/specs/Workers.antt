@@ -1,5 +1,5 @@
 -- What came on a connection, and what has to be sent on it.
-use Rattle.std.specs.Prelude.{◌≡◌, ℕ, ◌+◌, ◌<◌, ◌≤◌, Bool, true, List, [], ◌∷◌, ◌++◌, length, map, ◌⊎◌, codes}
+use Rattle.std.specs.Prelude.{◌≡◌, ℕ, ◌+◌, ◌<◌, ◌≤◌, ◌==◌, if◌then◌else◌, Bool, true, List, [], ◌∷◌, ◌++◌, length, map, slice_index, ◌⊎◌, codes}
 use Rattle.resp.specs.declared.limits.Limits.{Limits}
 use Rattle.resp.specs.Lines.{Lacks, Spoilt}
 use Rattle.resp.specs.Requests.{command, IsAdmitted, longest}
@@ -33,17 +33,23 @@ packet_mark f = mark_of f.head.kind f.head.connection f.bytes
 abbrev pub marks : List Packet → List (Said ℕ)
 marks packets = map packet_mark packets
 
-abbrev pub fault_text : ParseFault → List ℕ
-fault_text ArrayLength = codes "ERR Protocol error: invalid multibulk length"
-fault_text Mark = codes "ERR Protocol error: expected '$'"
-fault_text StringLength = codes "ERR Protocol error: invalid bulk length"
-fault_text StringEnd = codes "ERR Protocol error: expected CR LF"
-fault_text LongLine = codes "ERR Protocol error: too big inline request"
-fault_text Quote = codes "ERR Protocol error: unbalanced quotes in request"
-fault_text Control = codes "ERR Protocol error: control character in request"
+-- a byte in an error: one that would end the error's line is a blank there
+abbrev pub shown_byte : ℕ → ℕ
+shown_byte byte = if byte == 13 then 32 else (if byte == 10 then 32 else byte)
 
-abbrev pub protocol_error : ParseFault → List ℕ
-protocol_error fault = token (Failure (fault_text fault))
+-- the text for a fault, found at this byte
+abbrev pub fault_text : ParseFault → ℕ → List ℕ
+fault_text ArrayLength byte = codes "ERR Protocol error: invalid multibulk length"
+fault_text Mark byte = codes "ERR Protocol error: expected '$', got '" ++ (shown_byte byte ∷ codes "'")
+fault_text StringLength byte = codes "ERR Protocol error: invalid bulk length"
+fault_text StringEnd byte = codes "ERR Protocol error: expected CR LF"
+fault_text LongLine byte = codes "ERR Protocol error: too big inline request"
+fault_text Quote byte = codes "ERR Protocol error: unbalanced quotes in request"
+fault_text Control byte = codes "ERR Protocol error: control character in request"
+
+-- the error where bytes are no request's at this place
+abbrev pub protocol_error : List ℕ → ℕ → ParseFault → List ℕ
+protocol_error bytes at fault = token (Failure (fault_text fault (slice_index bytes at)))
 
 -- No whole request stands at the front of what is held: it has the beginning of one, and fewer bytes behind that than it
 -- lacks at least. Once so many bytes are there as are wanted, it is looked at again.
@@ -77,7 +83,7 @@ pub record IsBroken (limits : Limits) (came sent : List ℕ) (es : List Exchange
   pub spoilt : Spoilt command (IsAdmitted limits) rest at
   pub fault : ParseFault
   pub cause : IsCause limits rest at fault
-  pub sent_is : sent ≡ replied es ++ protocol_error fault
+  pub sent_is : sent ≡ replied es ++ protocol_error rest at fault
 
 -- the connection ends behind the last request: of the bytes behind it none was read; what was sent are the replies
 pub record IsEnded (limits : Limits) (came sent : List ℕ) (es : List Exchange) : Type 0 where

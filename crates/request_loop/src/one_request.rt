@@ -1,6 +1,7 @@
 //! Takes one request from the front of a connection's bytes.
-ghost use Rattle.std.specs.Prelude.{◌≡◌, IfOk};
-ghost use Rattle.request_loop.specs.Workers.{fault_text as text_of};
+ghost use Rattle.std.specs.Prelude.{◌≡◌, ◌++◌, IfOk, OnOk, OnErr};
+ghost use Rattle.resp.specs.Replies.{token, Failure};
+ghost use Rattle.request_loop.specs.Workers.{fault_text, shown_byte};
 ghost use Rattle.request_loop.specs.Turns.{Takes};
 
 use crate::service::{Next, Service};
@@ -24,18 +25,43 @@ pub(crate) enum Taken {
 /// a longer reply have fewer bytes. So a request whose reply can't be written changes nothing.
 const ROOM: usize = 1 << 10;
 
-/// The text of the error that the client gets, as Redis has it if it has such an error.
-fn fault_text(fault: ParseFault) -> &'static [u8]
-    ensures { result.now ≡ text_of fault }
+/// A byte as it is shown in an error. One that would end the error's line is a blank, as Redis has it.
+fn shown(byte: u8) -> u8
+    ensures { result ≡ shown_byte byte }
+{
+    if byte == b'\r' {
+        b' '
+    } else if byte == b'\n' {
+        b' '
+    } else {
+        byte
+    }
+}
+
+/// Pushes the error for a fault that was found at this byte, as Redis has it if it has such an error. If
+/// memory is refused, `out` is as before.
+fn push_fault(out: &mut Vec<u8>, fault: ParseFault, byte: u8) -> Result<(), AllocError>
+    ensures done { OnOk result (out.new.items ≡ out.old.items ++ token (Failure (fault_text fault byte))) }
+    ensures kept { OnErr result (out.new.items ≡ out.old.items) }
 {
     match fault {
-        ParseFault::ArrayLength => b"ERR Protocol error: invalid multibulk length",
-        ParseFault::Mark => b"ERR Protocol error: expected '$'",
-        ParseFault::StringLength => b"ERR Protocol error: invalid bulk length",
-        ParseFault::StringEnd => b"ERR Protocol error: expected CR LF",
-        ParseFault::LongLine => b"ERR Protocol error: too big inline request",
-        ParseFault::Quote => b"ERR Protocol error: unbalanced quotes in request",
-        ParseFault::Control => b"ERR Protocol error: control character in request",
+        ParseFault::ArrayLength => {
+            push_failure(out, b"ERR Protocol error: invalid multibulk length")
+        }
+        ParseFault::Mark => {
+            let mut text = *b"ERR Protocol error: expected '$', got '?'";
+            text[39] = shown(byte);
+            push_failure(out, &text)
+        }
+        ParseFault::StringLength => push_failure(out, b"ERR Protocol error: invalid bulk length"),
+        ParseFault::StringEnd => push_failure(out, b"ERR Protocol error: expected CR LF"),
+        ParseFault::LongLine => push_failure(out, b"ERR Protocol error: too big inline request"),
+        ParseFault::Quote => {
+            push_failure(out, b"ERR Protocol error: unbalanced quotes in request")
+        }
+        ParseFault::Control => {
+            push_failure(out, b"ERR Protocol error: control character in request")
+        }
     }
 }
 
@@ -70,7 +96,7 @@ pub(crate) fn take_one<S: Service>(
             Ok(Taken::Whole { consumed, next })
         }
         Parsed::Incomplete { missing } => Ok(Taken::Short { missing }),
-        Parsed::Malformed { at: _, fault } => match push_failure(out, fault_text(fault)) {
+        Parsed::Malformed { at, fault } => match push_fault(out, fault, bytes[at]) {
             Ok(()) => Ok(Taken::Bad),
             Err(_) => Ok(Taken::Refused),
         },

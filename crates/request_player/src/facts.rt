@@ -1,52 +1,32 @@
 //! What a server knows of itself, set by the names of the fields.
 
 use case_files::Line;
-use server_commands::{Facts, Options};
+use server_commands::{
+    DEVICE_REASONS, Facts, Options, Section, StatisticKind, StatisticRow, Statistics,
+    statistic_rows,
+};
+use std::alloc::{AllocError, Global};
 
 /// A server that knows of nothing.
-pub(crate) const NO_FACTS: Facts = Facts {
-    now: 0,
-    started: 0,
-    workers: 0,
-    port: 0,
-    clients: 0,
-    accepted: 0,
-    commands: 0,
-    rejected: 0,
-    evicted_clients: 0,
-    clients_memory: 0,
-    resident_bytes: 0,
-    most_clients: 0,
-    most_memory: 0,
-    evicts: false,
-    bytes_in_frames: 0,
-    buckets: 0,
-    frames: 0,
-    most_in_frames: 0,
-    far_objects: 0,
-    lost_buckets: 0,
-    far_bytes: 0,
-    far_limit: 0,
-    is_resting: false,
-    keys: 0,
-    hits: 0,
-    misses: 0,
-    expired: 0,
-    evicted: 0,
-    local_hits: 0,
-    swap_outs: 0,
-    swap_ins: 0,
-    read_throughs: 0,
-    device_failures: 0,
-    refused_memory: 0,
-    refused_full: 0,
-    refused_device: 0,
-    names_left: 0,
-    renewals: 0,
-    renewal_lost_pairs: 0,
-    renewal_lost_buckets: 0,
-    renewal_last_ms: 0,
-};
+pub(crate) fn no_facts() -> Facts {
+    Facts {
+        now: 0,
+        started: 0,
+        workers: 0,
+        port: 0,
+        most_clients: 0,
+        most_memory: 0,
+        evicts: false,
+        buckets: 0,
+        frames: 0,
+        most_in_frames: 0,
+        far_limit: None,
+        statistics: Statistics::new(),
+        last_device_error: None,
+        last_device_error_time: 0,
+        device_errors: [0; 10],
+    }
+}
 
 pub(crate) const NO_OPTIONS: Options = Options {
     most_memory: 0,
@@ -56,6 +36,7 @@ pub(crate) const NO_OPTIONS: Options = Options {
     longest_value: 0,
     port: 0,
     workers: 0,
+    slow: 0,
 };
 
 /// `NAME=NUMBER`.
@@ -64,69 +45,83 @@ fn pair_of(word: &[u8]) -> Option<(&str, u64)> {
     Some((name, number.parse::<u64>().ok()?))
 }
 
-/// The field of 64 bits that has this name: of clients and of what is done for them.
-fn asked_field<'f>(facts: &'f mut Facts, name: &str) -> Option<&'f mut u64> {
-    match name {
-        "now" => Some(&mut facts.now),
-        "started" => Some(&mut facts.started),
-        "clients" => Some(&mut facts.clients),
-        "accepted" => Some(&mut facts.accepted),
-        "commands" => Some(&mut facts.commands),
-        "rejected" => Some(&mut facts.rejected),
-        "evicted_clients" => Some(&mut facts.evicted_clients),
-        "clients_memory" => Some(&mut facts.clients_memory),
-        "resident_bytes" => Some(&mut facts.resident_bytes),
-        "most_clients" => Some(&mut facts.most_clients),
-        "most_memory" => Some(&mut facts.most_memory),
-        "keys" => Some(&mut facts.keys),
-        "hits" => Some(&mut facts.hits),
-        "misses" => Some(&mut facts.misses),
-        "expired" => Some(&mut facts.expired),
-        "evicted" => Some(&mut facts.evicted),
-        _ => far_field(facts, name),
+/// Sets the statistic that has this name in the table.
+fn set_statistic(statistics: &mut Statistics, name: &str, number: u64) -> Option<()> {
+    for row in statistic_rows() {
+        if row.name == name {
+            statistics.set(row.statistic, number);
+            return Some(());
+        }
     }
+    None
 }
 
-/// Of frames, devices and refusals.
-fn far_field<'f>(facts: &'f mut Facts, name: &str) -> Option<&'f mut u64> {
-    match name {
-        "bytes_in_frames" => Some(&mut facts.bytes_in_frames),
-        "most_in_frames" => Some(&mut facts.most_in_frames),
-        "far_objects" => Some(&mut facts.far_objects),
-        "lost_buckets" => Some(&mut facts.lost_buckets),
-        "far_bytes" => Some(&mut facts.far_bytes),
-        "far_limit" => Some(&mut facts.far_limit),
-        "local_hits" => Some(&mut facts.local_hits),
-        "swap_outs" => Some(&mut facts.swap_outs),
-        "swap_ins" => Some(&mut facts.swap_ins),
-        "read_throughs" => Some(&mut facts.read_throughs),
-        "device_failures" => Some(&mut facts.device_failures),
-        "refused_memory" => Some(&mut facts.refused_memory),
-        "refused_full" => Some(&mut facts.refused_full),
-        "refused_device" => Some(&mut facts.refused_device),
-        "names_left" => Some(&mut facts.names_left),
-        "renewals" => Some(&mut facts.renewals),
-        "renewal_lost_pairs" => Some(&mut facts.renewal_lost_pairs),
-        "renewal_lost_buckets" => Some(&mut facts.renewal_lost_buckets),
-        "renewal_last_ms" => Some(&mut facts.renewal_last_ms),
-        _ => None,
-    }
+/// `device_errorN`: how many calls of devices have failed for the reason with the number N, from 0 to 9.
+fn device_error<'f>(facts: &'f mut Facts, name: &str) -> Option<&'f mut u64> {
+    let number = name.strip_prefix("device_error")?;
+    facts.device_errors.get_mut(number.parse::<usize>().ok()?)
 }
 
 fn set_fact(facts: &mut Facts, name: &str, number: u64) -> Option<()> {
     match name {
+        "now" => facts.now = number,
+        "started" => facts.started = number,
         "workers" => facts.workers = u32::try_from(number).ok()?,
         "port" => facts.port = u32::try_from(number).ok()?,
+        "maxclients" => facts.most_clients = number,
+        "maxmemory" => facts.most_memory = number,
+        "evicts" => facts.evicts = number != 0,
         "buckets" => facts.buckets = u32::try_from(number).ok()?,
         "frames" => facts.frames = u32::try_from(number).ok()?,
-        "evicts" => facts.evicts = number != 0,
-        "is_resting" => facts.is_resting = number != 0,
-        _ => {
-            let field = asked_field(facts, name)?;
-            *field = number;
+        "most_in_frames" => facts.most_in_frames = number,
+        "far_limit" => facts.far_limit = Some(number),
+        "last_device_error" => {
+            let place = usize::try_from(number).ok()?;
+            facts.last_device_error = Some(*DEVICE_REASONS.get(place)?);
         }
+        "last_device_error_time" => facts.last_device_error_time = number,
+        _ => match device_error(facts, name) {
+            Some(count) => *count = number,
+            None => set_statistic(&mut facts.statistics, name, number)?,
+        },
     }
     Some(())
+}
+
+/// `NAME KIND SECTION NUMBER`, after `misplaced` if the row is not at the statistic's place.
+fn shown_row(
+    alloc: Global,
+    place: usize,
+    row: &StatisticRow,
+    number: u64,
+) -> Result<String, AllocError> {
+    let kind = match row.kind {
+        StatisticKind::Counter => "counter",
+        StatisticKind::Gauge => "gauge",
+    };
+    let section = row.section.map_or("-", Section::heading);
+    let before = if row.statistic.index() == place {
+        ""
+    } else {
+        "misplaced "
+    };
+    let name = row.name;
+    format!(in alloc; "{before}{name} {kind} {section} {number}")
+}
+
+/// Each row of the table, with the statistic's number.
+pub(crate) fn statistics(alloc: Global, facts: &Facts) -> Result<String, AllocError> {
+    let all = facts.statistics.with_derived();
+    let mut out = String::new(alloc);
+    for (place, row) in statistic_rows().iter().enumerate() {
+        if place > 0 {
+            out.push('\n')?;
+        }
+        let number = all.get(row.statistic);
+        let shown = shown_row(alloc, place, row, number)?;
+        out.push_str(shown.as_str())?;
+    }
+    Ok(out)
 }
 
 fn set_option(options: &mut Options, name: &str, number: u64) -> Option<()> {
@@ -138,6 +133,7 @@ fn set_option(options: &mut Options, name: &str, number: u64) -> Option<()> {
         "longest_value" => options.longest_value = number,
         "port" => options.port = u32::try_from(number).ok()?,
         "workers" => options.workers = u32::try_from(number).ok()?,
+        "slow" => options.slow = i64::try_from(number).ok()?,
         _ => return None,
     }
     Some(())

@@ -1,6 +1,6 @@
 //! The opening `server_replies`: what the commands to the server itself reply.
 
-use crate::facts::{NO_FACTS, NO_OPTIONS, set_facts, set_options};
+use crate::facts::{NO_OPTIONS, no_facts, set_facts, set_options, statistics};
 use crate::mistake::{Mistake, WORDS};
 use crate::reply::truth;
 use crate::request::Request;
@@ -8,8 +8,8 @@ use crate::token::{BEFORE, behind_before, elements, shown, text_of};
 use case_files::{Line, spelled};
 use commands::read;
 use server_commands::{
-    Facts, Options, command_count, command_docs, command_list, config_get, fault, hello, info,
-    slow_log_get, slow_log_len,
+    Facts, Options, SlowCommand, command_count, command_docs, command_list, config_get, fault,
+    hello, info, kept_arguments, slow_log_get, slow_log_len,
 };
 use std::alloc::{AllocError, Global};
 
@@ -22,6 +22,8 @@ pub(crate) struct Server {
     alloc: Global,
     facts: Facts,
     options: Options,
+    /// What SLOWLOG GET replies.
+    slow: Vec<SlowCommand>,
 }
 
 /// The string's lines, each of which ends with CR LF, or the string in quotes where they do not.
@@ -67,8 +69,9 @@ impl Server {
     pub(crate) fn new(alloc: Global) -> Server {
         Server {
             alloc,
-            facts: NO_FACTS,
+            facts: no_facts(),
             options: NO_OPTIONS,
+            slow: Vec::new(alloc),
         }
     }
 
@@ -93,11 +96,32 @@ impl Server {
     fn bare(&self, line: &Line) -> Result<String, Mistake> {
         let mut out = self.buffer()?;
         let done = match line.call() {
-            "slow_log_get" => slow_log_get(&mut out),
-            "slow_log_len" => slow_log_len(&mut out),
+            "slow_log_get" => slow_log_get(self.slow.as_slice(), &mut out),
+            "slow_log_len" => slow_log_len(self.slow.len().min(u32::MAX as usize) as u32, &mut out),
             _ => command_count(&mut out),
         };
         self.shown_behind(done, out.as_slice())
+    }
+
+    /// One more slow command: its number, when it began, how long it took, the client's address and name, and its words.
+    fn add_slow(&mut self, line: &Line, is_secret: bool) -> Result<String, Mistake> {
+        let (alloc, request) = (self.alloc, Request::of(self.alloc, line, 6)?);
+        let mut texts = [Vec::new(alloc), Vec::new(alloc)];
+        for (place, text) in texts.iter_mut().enumerate() {
+            let word = line.text_at(4 + place).ok_or(WORDS)?;
+            text.extend_from_slice(word.as_bytes())?;
+        }
+        let [address, name] = texts;
+        let command = SlowCommand {
+            id: line.number_at(1).ok_or(WORDS)?,
+            began: line.number_at(2).ok_or(WORDS)?,
+            took: line.number_at(3).ok_or(WORDS)?,
+            arguments: kept_arguments(alloc, request.arguments(), is_secret)?,
+            address,
+            name,
+        };
+        self.slow.push(command)?;
+        Ok(String::new(alloc))
     }
 
     /// The entry of a command, or how many there are and the first of them.
@@ -190,12 +214,15 @@ impl Server {
     pub(crate) fn call(&mut self, line: &Line) -> Result<String, Mistake> {
         match line.call() {
             "facts" | "options" => self.set(line),
+            "slow" => self.add_slow(line, false),
+            "slow_secret" => self.add_slow(line, true),
             "hello" => self.hello(line),
             "slow_log_get" | "slow_log_len" | "command_count" => self.bare(line),
             "command_list" => self.command_list(line),
             "command_docs" => self.command_docs(line),
             "config_get" => self.config_get(line),
             "info" => self.page(line, 1),
+            "statistics" => Ok(statistics(self.alloc, &self.facts)?),
             "is_whole_page" => self.is_whole_page(line),
             "info_line" => self.info_line(line),
             "fault" => self.fault(line),

@@ -58,6 +58,14 @@ fn put_client(out: &mut Reply, asked: ServerCommand<'_>) -> Result<(), AllocErro
     }
 }
 
+fn put_slow_log_get(out: &mut Reply, most: Option<u64>) -> Result<(), AllocError> {
+    out.put("slowlog get")?;
+    match most {
+        Some(most) => out.put_number(most),
+        None => out.put("all"),
+    }
+}
+
 /// Puts the command.
 pub(crate) fn put_server(out: &mut Reply, asked: ServerCommand<'_>) -> Result<(), AllocError> {
     match asked {
@@ -78,7 +86,7 @@ pub(crate) fn put_server(out: &mut Reply, asked: ServerCommand<'_>) -> Result<()
             put_all(out, patterns)
         }
         ServerCommand::SlowLogLen => out.put("slowlog len"),
-        ServerCommand::SlowLogGet => out.put("slowlog get"),
+        ServerCommand::SlowLogGet(most) => put_slow_log_get(out, most),
         ServerCommand::SlowLogReset => out.put("slowlog reset"),
         ServerCommand::Info(sections) => {
             out.put("info")?;

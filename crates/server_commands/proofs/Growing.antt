@@ -6,7 +6,7 @@ use Rattle.std.proofs.lemmas.List.Sums.{count_by_more_yes, count_by_more_no}
 use Rattle.resp.specs.Replies.{Token, token, Count, Number, String}
 use Rattle.server_commands.specs.Replying.{members, AreReplies, Replies, RepliesEven, Tells, Grows}
 
-both : (n m : ℕ) (r s : List Token) → AreReplies n r → AreReplies m s → AreReplies (n + m) (r ++ s)
+pub both : (n m : ℕ) (r s : List Token) → AreReplies n r → AreReplies m s → AreReplies (n + m) (r ++ s)
 both n m [] s e h =
     let k : m ≡ n + m = omega arith in
     subst (λ k. AreReplies k s) k h

@@ -1,2 +1,3 @@
 pub mod Replying
 pub mod Greeting
+pub mod SlowLog

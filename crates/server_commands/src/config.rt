@@ -4,6 +4,7 @@ ghost use Rattle.server_commands.specs.Replying.{Replies, Grows, RepliesEven};
 
 use crate::facts::{Options, policy};
 use crate::reply_parts::{count_asked, put_count, put_string, restored};
+use crate::slow_log::SLOW_COMMANDS;
 use commands::{Arguments, matches};
 use itoa::Buffer;
 use std::alloc::AllocError;
@@ -12,6 +13,7 @@ use std::alloc::AllocError;
 #[derive(Clone, Copy)]
 enum Value {
     Number(u64),
+    Signed(i64),
     Word(&'static str),
 }
 
@@ -22,7 +24,7 @@ struct Setting {
     value: Value,
 }
 
-const SETTINGS: usize = 10;
+const SETTINGS: usize = 12;
 
 fn settings(options: &Options) -> [Setting; SETTINGS] {
     let number = |name, value| Setting {
@@ -42,6 +44,11 @@ fn settings(options: &Options) -> [Setting; SETTINGS] {
         number("port", u64::from(options.port)),
         number("io-threads", u64::from(options.workers)),
         number("databases", 1),
+        Setting {
+            name: "slowlog-log-slower-than",
+            value: Value::Signed(options.slow),
+        },
+        number("slowlog-max-len", SLOW_COMMANDS as u64),
         word("save", ""),
         word("appendonly", "no"),
     ]
@@ -91,6 +98,10 @@ fn put_value(value: Value, out: &mut Vec<u8>) -> Result<(), AllocError>
             let mut digits = Buffer::new();
             put_string(digits.format(number).as_bytes(), out)
         }
+        Value::Signed(number) => {
+            let mut digits = Buffer::new();
+            put_string(digits.format(number).as_bytes(), out)
+        }
     }
 }
 
@@ -118,9 +129,9 @@ fn put_settings(settings: &[Setting], asked: &[bool], out: &mut Vec<u8>) -> Resu
     Ok(())
 }
 
-/// CONFIG GET: an array of the names of settings, in lower case, each with its value behind it as a string: of those whose
-/// names match one of the patterns (`commands::matches`), in which upper and lower case are one; each once. After want of
-/// memory `out` has what it had.
+/// CONFIG GET: an array of names of settings, in lower case, each followed by its value as a string. It has each setting
+/// once whose name matches one of the patterns (`commands::matches`). Upper and lower case in a pattern are one. If memory is
+/// refused, `out` is as before.
 pub fn config_get(
     options: &Options,
     patterns: Arguments<'_>,

@@ -1,5 +1,5 @@
 //! Replies that are the same for every server of this kind, and errors.
-ghost use Rattle.std.specs.Prelude.{◌≡◌, [], ◌∷◌, ◌++◌, ℕ, List, pos, codes, OnOk, OnErr};
+ghost use Rattle.std.specs.Prelude.{◌≡◌, [], ◌∷◌, ◌++◌, ℕ, List, codes, OnOk, OnErr};
 ghost use Rattle.resp.specs.Replies.{token, Failure, Number, String, Count};
 ghost use Rattle.server_commands.specs.Replying.{Replies, Tells, Grows};
 ghost use Rattle.server_commands.specs.Greeting.{greeting as greeting_lem};
@@ -7,7 +7,7 @@ ghost use Rattle.server_commands.specs.Greeting.{greeting as greeting_lem};
 use crate::facts::REDIS_VERSION;
 use crate::reply_parts::{put_count, put_number, put_string, put_word, restored};
 use commands::CommandFault;
-use resp::{push_count, push_failure, push_number};
+use resp::push_failure;
 use std::alloc::AllocError;
 
 /// A name, and a number.
@@ -53,22 +53,6 @@ pub fn hello(client: u64, out: &mut Vec<u8>) -> Result<(), AllocError>
     let before = out.len();
     let done = put_greeting(client, out);
     restored(done, before, out)
-}
-
-/// SLOWLOG GET: no entry. After want of memory `out` has what it had.
-pub fn slow_log_get(out: &mut Vec<u8>) -> Result<(), AllocError>
-    ensures done { OnOk result (out.new.items ≡ out.old.items ++ token (Count 0)) }
-    ensures kept { OnErr result (out.new.items ≡ out.old.items) }
-{
-    push_count(out, 0)
-}
-
-/// SLOWLOG LEN: no entry. After want of memory `out` has what it had.
-pub fn slow_log_len(out: &mut Vec<u8>) -> Result<(), AllocError>
-    ensures done { OnOk result (out.new.items ≡ out.old.items ++ token (Number (pos 0))) }
-    ensures kept { OnErr result (out.new.items ≡ out.old.items) }
-{
-    push_number(out, 0)
 }
 
 /// The error's text, as `CommandFault::push_text` has it, which has neither CR nor LF. After want of memory `out` has what it had.

@@ -47,7 +47,11 @@ pub fn info(facts: &Facts, sections: Arguments<'_>, out: &mut Vec<u8>) -> Result
     ensures text { OnOk result ((text : List ℕ) × (out.new.items ≡ out.old.items ++ token (String text))) }
     ensures kept { OnErr result (out.new.items ≡ out.old.items) }
 {
+    let facts = Facts {
+        statistics: facts.statistics.with_derived(),
+        ..*facts
+    };
     let mut text = Vec::new(*out.allocator());
-    push_page(facts, sections, &mut text)?;
+    push_page(&facts, sections, &mut text)?;
     push_string(out, text.as_slice())
 }

@@ -1,13 +1,14 @@
 //! The page of INFO, section by section.
 
 use crate::facts::{Facts, REDIS_VERSION, policy};
-use crate::far::push_far;
+use crate::far::{push_device_errors, push_hit_rate, push_limit_and_state, push_sizes};
 use crate::sizes::{push_number, push_size};
+use crate::statistics::{Statistic, StatisticRow, statistic_rows};
 use std::alloc::AllocError;
 
 /// What stands under one heading.
-#[derive(Clone, Copy)]
-pub(crate) enum Section {
+#[derive(Clone, Copy, PartialEq, Eq, Debug)]
+pub enum Section {
     Server,
     Clients,
     Memory,
@@ -31,7 +32,8 @@ const SECOND: u64 = 1000;
 const DAY: u64 = 24 * 60 * 60 * SECOND;
 
 impl Section {
-    pub(crate) fn heading(self) -> &'static str {
+    /// Its name, as INFO has it and as a client asks for it.
+    pub fn heading(self) -> &'static str {
         match self {
             Section::Server => "Server",
             Section::Clients => "Clients",
@@ -42,18 +44,34 @@ impl Section {
         }
     }
 
-    /// Puts the section behind what is there.
+    /// Puts the section behind what is there: its heading, and its statistics between its other lines.
     pub(crate) fn push(self, facts: &Facts, text: &mut Vec<u8>) -> Result<(), AllocError> {
         text.extend_from_slice(b"# ")?;
         text.extend_from_slice(self.heading().as_bytes())?;
         text.extend_from_slice(b"\r\n")?;
+        self.push_first(facts, text)?;
+        push_rows(text, statistic_rows(), self, facts)?;
+        self.push_last(facts, text)
+    }
+
+    /// The lines before its statistics.
+    fn push_first(self, facts: &Facts, text: &mut Vec<u8>) -> Result<(), AllocError> {
         match self {
             Section::Server => push_server(facts, text),
-            Section::Clients => push_clients(facts, text),
-            Section::Memory => push_memory(facts, text),
-            Section::Stats => push_stats(facts, text),
+            Section::Memory => push_used(facts, text),
             Section::Keyspace => push_keys(facts, text),
-            Section::Far => push_far(facts, text),
+            Section::Far => push_sizes(facts, text),
+            Section::Clients | Section::Stats => Ok(()),
+        }
+    }
+
+    /// The lines after its statistics.
+    fn push_last(self, facts: &Facts, text: &mut Vec<u8>) -> Result<(), AllocError> {
+        match self {
+            Section::Clients => push_clients(facts, text),
+            Section::Memory => push_most(facts, text),
+            Section::Far => push_device_errors(facts, text),
+            Section::Server | Section::Stats | Section::Keyspace => Ok(()),
         }
     }
 }
@@ -79,13 +97,50 @@ pub(crate) fn push_words(text: &mut Vec<u8>, lines: &[(&str, &str)]) -> Result<(
     Ok(())
 }
 
-/// Bytes as a number, and as people read them.
-fn push_bytes(text: &mut Vec<u8>, name: &str, bytes: u64) -> Result<(), AllocError> {
-    push_numbers(text, &[(name, bytes)])?;
+/// Bytes as people read them.
+fn push_human(text: &mut Vec<u8>, name: &str, bytes: u64) -> Result<(), AllocError> {
     text.extend_from_slice(name.as_bytes())?;
     text.extend_from_slice(b"_human:")?;
     push_size(text, bytes)?;
     text.extend_from_slice(b"\r\n")
+}
+
+/// Bytes as a number, and as people read them.
+fn push_bytes(text: &mut Vec<u8>, name: &str, bytes: u64) -> Result<(), AllocError> {
+    push_numbers(text, &[(name, bytes)])?;
+    push_human(text, name, bytes)
+}
+
+/// The lines that are no plain number and come after that of a statistic.
+fn push_after(
+    text: &mut Vec<u8>,
+    row: &StatisticRow,
+    number: u64,
+    facts: &Facts,
+) -> Result<(), AllocError> {
+    match row.statistic {
+        Statistic::ResidentBytes => push_human(text, row.name, number),
+        Statistic::FarBytes => push_limit_and_state(facts, text),
+        Statistic::LocalHits => push_hit_rate(facts, text),
+        _ => Ok(()),
+    }
+}
+
+/// A line for each of the rows that are of this section, in their order.
+fn push_rows(
+    text: &mut Vec<u8>,
+    rows: &[StatisticRow],
+    section: Section,
+    facts: &Facts,
+) -> Result<(), AllocError> {
+    for row in rows {
+        if row.section == Some(section) {
+            let number = facts.statistics.get(row.statistic);
+            push_numbers(text, &[(row.name, number)])?;
+            push_after(text, row, number, facts)?;
+        }
+    }
+    Ok(())
 }
 
 fn push_server(facts: &Facts, text: &mut Vec<u8>) -> Result<(), AllocError> {
@@ -118,49 +173,27 @@ fn push_server(facts: &Facts, text: &mut Vec<u8>) -> Result<(), AllocError> {
 fn push_clients(facts: &Facts, text: &mut Vec<u8>) -> Result<(), AllocError> {
     push_numbers(
         text,
-        &[
-            ("connected_clients", facts.clients),
-            ("maxclients", facts.most_clients),
-            ("blocked_clients", 0),
-        ],
+        &[("maxclients", facts.most_clients), ("blocked_clients", 0)],
     )
 }
 
-fn push_memory(facts: &Facts, text: &mut Vec<u8>) -> Result<(), AllocError> {
-    push_bytes(text, "used_memory", facts.bytes_in_frames)?;
-    push_bytes(text, "used_memory_rss", facts.resident_bytes)?;
-    push_numbers(text, &[("clients_memory", facts.clients_memory)])?;
+fn push_used(facts: &Facts, text: &mut Vec<u8>) -> Result<(), AllocError> {
+    let used = facts.statistics.get(Statistic::BytesInFrames);
+    push_bytes(text, "used_memory", used)
+}
+
+fn push_most(facts: &Facts, text: &mut Vec<u8>) -> Result<(), AllocError> {
     push_bytes(text, "maxmemory", facts.most_memory)?;
     push_words(text, &[("maxmemory_policy", policy(facts.evicts))])
 }
 
-fn push_stats(facts: &Facts, text: &mut Vec<u8>) -> Result<(), AllocError> {
-    let refused = facts
-        .refused_memory
-        .saturating_add(facts.refused_full)
-        .saturating_add(facts.refused_device);
-    push_numbers(
-        text,
-        &[
-            ("total_connections_received", facts.accepted),
-            ("total_commands_processed", facts.commands),
-            ("rejected_connections", facts.rejected),
-            ("evicted_clients", facts.evicted_clients),
-            ("expired_keys", facts.expired),
-            ("evicted_keys", facts.evicted),
-            ("keyspace_hits", facts.hits),
-            ("keyspace_misses", facts.misses),
-            ("rejected", refused),
-        ],
-    )
-}
-
 /// The one database, where it has a key. How many keys have a deadline is not counted.
 fn push_keys(facts: &Facts, text: &mut Vec<u8>) -> Result<(), AllocError> {
-    if facts.keys == 0 {
+    let keys = facts.statistics.get(Statistic::Keys);
+    if keys == 0 {
         return Ok(());
     }
     text.extend_from_slice(b"db0:keys=")?;
-    push_number(text, facts.keys)?;
+    push_number(text, keys)?;
     text.extend_from_slice(b",expires=0,avg_ttl=0\r\n")
 }

@@ -1,5 +1,6 @@
 //! The calls of a case, while a server is open.
 
+use crate::clock::SetClock;
 use crate::device::ALL;
 use crate::draws::Draws;
 use crate::gateway::Gateway;
@@ -9,6 +10,7 @@ use crate::stage::Stage;
 use crate::summary::Summary;
 use anyhow::{Result, bail};
 use case_files::{Line, Playing};
+use server_commands::DEVICE_REASONS;
 use std::alloc::Global;
 use std::rt::Clock;
 use std::sync::Wait;
@@ -92,7 +94,7 @@ impl<'a, R> Player<'a, R> {
             Some("lost") => usage.tell_lost(before, after),
             Some("bytes") => usage.tell_bytes(before, after),
             Some("resting") => usage.tell_resting(before > 0, after > 0),
-            _ => bail!("a device tells of objects, lost, bytes or resting"),
+            _ => bail!("a device tells of objects, lost, bytes, resting or a failure"),
         }
         self.nothing()
     }
@@ -107,6 +109,19 @@ impl<'a, R> Player<'a, R> {
 }
 
 impl<'a, R: Wait + Clock> Player<'a, R> {
+    /// `tells failure 0`: a call of a device has failed, for the reason with this number, from 0 on.
+    fn tells_failure(&self, line: &Line) -> Result<String> {
+        let Some(reason) = DEVICE_REASONS.get(number_at(line, 2)? as usize) else {
+            bail!("there is no such reason");
+        };
+        let clock = SetClock {
+            rt: self.rt,
+            now: &self.stage.clock,
+        };
+        self.stage.usage.tell_failure(*reason, &clock);
+        self.nothing()
+    }
+
     fn client(&mut self, line: &Line) -> Result<usize> {
         self.gateway.client(line.thread())
     }
@@ -246,6 +261,7 @@ impl<'a, R: Wait + Clock> Player<'a, R> {
             "clock" => self.set_clock(line),
             "device" => self.switch(line, &stage.device),
             "spool" => self.switch(line, &stage.spool),
+            "tells" if line.text_at(1) == Some("failure") => self.tells_failure(line),
             "tells" => self.tells(line),
             "info" => self.info(line),
             "until" => self.until(line),

@@ -41,6 +41,14 @@ fn flag(line: &Line, name: &str, otherwise: bool) -> Result<bool> {
     Ok(number(line, name, u64::from(otherwise), 1)? == 1)
 }
 
+/// The limit that INFO shows, if one is given.
+fn far_limit(line: &Line) -> Result<Option<u64>> {
+    if line.named("far_limit").is_none() {
+        return Ok(None);
+    }
+    Ok(Some(number(line, "far_limit", 0, u64::MAX)?))
+}
+
 fn map(line: &Line) -> Result<Settings> {
     let buckets = small(line, "buckets", 16)?;
     let frames = small(line, "frames", 16)?;
@@ -53,6 +61,14 @@ fn map(line: &Line) -> Result<Settings> {
     })
 }
 
+/// From how many microseconds on a command is a slow one. None is if the line does not say.
+fn slow(line: &Line) -> Result<i64> {
+    Ok(match line.number_named("slow", u64::MAX) {
+        Some(number) => i64::try_from(number).unwrap_or(-1),
+        None => bail!("behind `slow=` stands a number"),
+    })
+}
+
 fn options(line: &Line, workers: u32, longest_value: u32) -> Result<Options> {
     Ok(Options {
         most_memory: number(line, "memory", 1 << 24, u64::MAX)?,
@@ -62,6 +78,7 @@ fn options(line: &Line, workers: u32, longest_value: u32) -> Result<Options> {
         longest_value: u64::from(longest_value),
         port: 0,
         workers,
+        slow: slow(line)?,
     })
 }
 
@@ -86,7 +103,7 @@ fn settings(line: &Line, workers: u32) -> Result<ServerSettings> {
         },
         longest_queue: small(line, "longest_queue", 1_000)?,
         large: small(line, "large", 10)?,
-        far_limit: number(line, "far_limit", 0, u64::MAX)?,
+        far_limit: far_limit(line)?,
         password: match line.named("password") {
             Some(password) => Some(Sha256::digest(password)),
             None => None,

@@ -11,7 +11,7 @@ pub returns-in-Ok-clause-ran : goal.returns-in-Ok-clause-ran
 returns-in-Ok-clause-ran g c =
     let Q : Result Command CommandFault → Type 0 = λ r. IfOk r (λ x. Spells (listed c.args.request) x) in
     let spells : Spells (listed c.args.request) c.in-Ok.command = subst Q c.in-Ok.is c.requires in
-    on_ok c.run_command.result (λ p. (p.0, p.1, (c.args.now, inl (c.in-Ok.command, spells, p.2)))) c.run_command.ensures.ran
+    on_ok c.run_command-done.result (λ p. (p.0, p.1, (c.args.now, inl (c.in-Ok.command, spells, p.2)))) c.run_command-done.ensures.ran
 
 pub returns-in-Err-clause-ran : goal.returns-in-Err-clause-ran
 returns-in-Err-clause-ran g c = on_ok c.push_one_fault.result (λ said. (Failure said.0 ∷ [], said.1, (c.args.now, inr (refl, (said.0, refl))))) c.push_one_fault.ensures

@@ -10,10 +10,7 @@ pub returns-in-ConfigGet-clause-said : goal.returns-in-ConfigGet-clause-said
 returns-in-ConfigGet-clause-said g c = on_ok c.config_get.result (λ p. (Count (2 * p.pairs) ∷ p.tokens, p.spelled)) c.config_get.ensures.done
 
 pub returns-in-SlowLogLen-clause-said : goal.returns-in-SlowLogLen-clause-said
-returns-in-SlowLogLen-clause-said g c = on_ok c.slow_log_len.result (λ is. (Number (pos 0) ∷ [], single c.args.reply.now.items (Number (pos 0)) c.slow_log_len.new.out.items is)) c.slow_log_len.ensures.done
-
-pub returns-in-SlowLogGet-clause-said : goal.returns-in-SlowLogGet-clause-said
-returns-in-SlowLogGet-clause-said g c = on_ok c.slow_log_get.result (λ is. (Count 0 ∷ [], single c.args.reply.now.items (Count 0) c.slow_log_get.new.out.items is)) c.slow_log_get.ensures.done
+returns-in-SlowLogLen-clause-said g c = on_ok c.slow_log_len.result (λ is. (Number (pos _) ∷ [], single c.args.reply.now.items (Number (pos _)) c.slow_log_len.new.out.items is)) c.slow_log_len.ensures.done
 
 pub returns-in-Info-clause-said : goal.returns-in-Info-clause-said
 returns-in-Info-clause-said g c = on_ok c.info.result (λ said. (String said.0 ∷ [], single c.args.reply.now.items (String said.0) c.info.new.out.items said.1)) c.info.ensures.text

@@ -1,5 +1,5 @@
-use Rattle.std.proofs.Common.{refl, inr}
-use Rattle.resp.specs.Replies.{Failure}
+use Rattle.std.proofs.Common.{ℕ, List, ◌++◌, refl, ap, ◌∙◌, inr}
+use Rattle.resp.specs.Replies.{Failure, token}
 use Rattle.far_server.specs.Refusing.{no_room}
 use Rattle.far_server.proofs.Pushed.{on_ok}
 use Rattle.far_server.proofs.Trying.{went, stored_after}
@@ -15,7 +15,7 @@ returns-then-has_room-clause-done g c = on_ok c.answer_now.result (λ p. (
 
 pub returns-clause-done : goal.returns-clause-done
 returns-clause-done g c = on_ok c.push_failure.result (λ is. (
-  Failure no_room,
-  is,
-  (g.S.Calls.shown c.has_room.new.me, went g.S.Calls.limits (stored_key c.args.asking.digest_keys c.args.key.now) (g.S.Calls.shown c.args.me.now) (g.S.Calls.shown c.has_room.new.me) c.has_room.ensures, inr (inr (refl, inr refl))),
+  Failure (no_room c.full_reason.result),
+  is ∙ ap (λ (text : List ℕ). c.args.reply.now.items ++ token (Failure text)) c.no_room.ensures,
+  (g.S.Calls.shown c.has_room.new.me, went g.S.Calls.limits (stored_key c.args.asking.digest_keys c.args.key.now) (g.S.Calls.shown c.args.me.now) (g.S.Calls.shown c.has_room.new.me) c.has_room.ensures, inr (inr (refl, inr (c.full_reason.result, refl)))),
 )) c.push_failure.ensures.items

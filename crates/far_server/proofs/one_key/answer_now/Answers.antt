@@ -1,6 +1,6 @@
 use Rattle.std.proofs.Common.{◌≡◌, ℕ, Bool, false, List, length, ◌++◌, Ok, refl, ap, subst, ◌∙◌, inl, inr}
 use Rattle.resp.specs.Replies.{Failure, token}
-use Rattle.far_server.specs.Refusing.{text_of, overtaken}
+use Rattle.far_server.specs.Refusing.{text_with, overtaken}
 use Rattle.far_server.specs.Keyed.{IsEnded}
 use Rattle.far_server.proofs.Pushed.{on_ok, cut}
 use Rattle.stored_keys.specs.StoredKeys.{stored_key}
@@ -25,7 +25,7 @@ returns-in-Err-clause-done g c =
     let before = c.args.reply.now.items in
     let len : c.len-before.result ≡ length before = search in
     on_ok c.fail-in-Err.result (λ is. (
-      Failure (text_of c.told_as-why.result),
-      is ∙ (ap (λ (l : List ℕ). l ++ token (Failure c.text_of.result.now)) (cut c.len-before.result before e.0 c.try_key.new.reply.items len e.1) ∙ ap (λ (t : List ℕ). before ++ token (Failure t)) c.text_of.ensures),
-      (e.2.0, e.2.1, inr (inl (c.in-Err.why, c.told_as-why.result, e.2.2, c.told_as-why.ensures.told, refl))),
+      Failure (text_with c.told_as-why.result c.last_reason.result),
+      is ∙ (ap (λ (l : List ℕ). l ++ token (Failure c.text_with.result.now)) (cut c.len-before.result before e.0 c.try_key.new.reply.items len e.1) ∙ ap (λ (t : List ℕ). before ++ token (Failure t)) c.text_with.ensures),
+      (e.2.0, e.2.1, inr (inl (c.in-Err.why, c.told_as-why.result, c.last_reason.result, e.2.2, c.told_as-why.ensures.told, refl))),
     )) c.fail-in-Err.ensures.done

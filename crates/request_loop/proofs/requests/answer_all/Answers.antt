@@ -130,13 +130,14 @@ returns-in-Ok-Bad-clause-answered g c =
     let out = c.requests.out.items in
     let made = c.take_one.new.out.items in
     let P : Taken → Type 0 = λ t. Takes g.S.Service.does c.args.limits c.args.connection c.requests.service c.take_one.new.service (take (length bytes - at) (drop at bytes)) out made t in
-    let b : (c.requests.service ≡ c.take_one.new.service) × (i : ℕ) × (fault : ParseFault) × Spoilt command (IsAdmitted c.args.limits) (take (length bytes - at) (drop at bytes)) i × IsCause c.args.limits (take (length bytes - at) (drop at bytes)) i fault × (made ≡ out ++ protocol_error fault) = subst P c.in-Ok-Bad.field-0-is c.in-Ok-Bad.ensures in
+    let b : (c.requests.service ≡ c.take_one.new.service) × (i : ℕ) × (fault : ParseFault) × Spoilt command (IsAdmitted c.args.limits) (take (length bytes - at) (drop at bytes)) i × IsCause c.args.limits (take (length bytes - at) (drop at bytes)) i fault × (made ≡ out ++ protocol_error (take (length bytes - at) (drop at bytes)) i fault) = subst P c.in-Ok-Bad.field-0-is c.in-Ok-Bad.ensures in
     let S : List ℕ → Type 0 = λ l. Spoilt command (IsAdmitted c.args.limits) l b.1 in
     let C : List ℕ → Type 0 = λ l. IsCause c.args.limits l b.1 b.2 in
+    let E : List ℕ → Type 0 = λ l. made ≡ out ++ protocol_error l b.1 b.2 in
     λ start x past slots entered.
     let t = c.requests.invariant.turns start x past slots entered in
     let Y = λ (y : g.row.S.Denot). Turns (IsOver c.args.limits) g.D.Duplex.tells g.S.Service.does c.args.limits past c.args.connection start c.requests.duplex x y slots made in
-    subst Y b.0 (turn_bad g.D.Duplex.tells g.S.Service.does c.args.limits past c.args.connection start c.requests.duplex x c.requests.service slots (drop at bytes) out made b.1 b.2 (subst S (take_rest bytes at) b.3) (subst C (take_rest bytes at) b.4) b.5 t)
+    subst Y b.0 (turn_bad g.D.Duplex.tells g.S.Service.does c.args.limits past c.args.connection start c.requests.duplex x c.requests.service slots (drop at bytes) out made b.1 b.2 (subst S (take_rest bytes at) b.3) (subst C (take_rest bytes at) b.4) (subst E (take_rest bytes at) b.5) t)
 
 pub returns-in-Err-clause-begun : goal.returns-in-Err-clause-begun
 returns-in-Err-clause-begun g c =
