@@ -28,10 +28,10 @@ RUNS = {
     "docs": [], "transcripts": ["transcripts"], "arguments": ["fartable"], "threads": ["fartable"], "thread_starts": ["fartable"], "gateway": [],
     "starts": ["fartable", "farrun", "wordcount", "farserve"], "wordcount_frames": ["wordcount"], "folders": ["fartable", "farrun"],
     "allocation_failures": ["fartable", "transcripts"], "scratch": ["farrun"], "server": ["farserve"],
-    "cluster": ["farserve"], "stores": ["fartable", "farrun"],
+    "fardump": ["farserve"], "cluster": ["farserve"], "stores": ["fartable", "farrun"],
 }
 # Those whose trials have bounds of time, as the 60 seconds that a run of random files has. The longest is first.
-QUIET = ["server", "gateway", "starts", "cluster", "stores", "threads", "folders", "scratch"]
+QUIET = ["server", "gateway", "starts", "fardump", "cluster", "stores", "threads", "folders", "scratch"]
 HALVED = ["server"]
 # The status of a script that lacks what it needs.
 SKIPPED = 77
