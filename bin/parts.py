@@ -5,9 +5,14 @@ import os
 import select
 import signal
 import subprocess
+import time
 
-# How long a part is waited for that was told to end, in seconds. The gateway has one second for replies.
+# How long a part is waited for that ends by itself, in seconds.
 PATIENCE = 5
+# How long both have to end that were told to. The gateway has one second of it for replies, and then the server ends with its pipes.
+LIMIT = 10
+# Seconds between two looks whether they have ended.
+TICK = 0.01
 # Seconds after the end of one part in which the end of another, or a signal, counts as one with it.
 MOMENT = 0.2
 PR_SET_PDEATHSIG = 1
@@ -38,12 +43,19 @@ class Signals:
         for end in (self.input, self.output):
             os.set_blocking(end, False)
         signal.set_wakeup_fd(self.output, warn_on_full_buffer=False)
-        self.handle(lambda *_: None)
+        # When the first one came, and whether a second did. (One that came with it, for example to the process and to its group, is none.)
+        self.first, self.is_second = None, False
+        self.handle(self.note)
         signal.pthread_sigmask(signal.SIG_UNBLOCK, SIGNALS)
 
     def handle(self, handler):
         for name in SIGNALS:
             signal.signal(name, handler)
+
+    def note(self, *_):
+        now = time.monotonic()
+        self.first = now if self.first is None else self.first
+        self.is_second = self.is_second or now - self.first > MOMENT
 
     def come_within(self, seconds):
         return bool(select.select([self.input], [], [], seconds)[0])
@@ -59,6 +71,16 @@ class Signals:
             raise Signalled
         return [it for it in parts if it.output in ready]
 
+    def wait_for_ends(self, parts, limit):
+        """Waits until all of these have ended. Gives "", or why it waits no more: at this time, or at a second signal."""
+        while any(it.process.poll() is None for it in parts):
+            if self.is_second:
+                return "at a second signal"
+            if time.monotonic() > limit:
+                return f"since {LIMIT} seconds were not enough"
+            time.sleep(TICK)
+        return ""
+
     @contextlib.contextmanager
     def interrupting(self):
         """A signal breaks off what is done here."""
@@ -68,7 +90,7 @@ class Signals:
         try:
             yield
         finally:
-            self.handle(lambda *_: None)
+            self.handle(self.note)
 
 
 class Part:
@@ -99,7 +121,9 @@ class Part:
         self.process.kill()
         return self.process.wait()
 
-    def end(self, name):
-        """Has it end by this signal, if it hasn't, and gives the status."""
-        self.process.send_signal(name)
-        return self.status()
+    def kill(self):
+        """Ends it at once, if it hasn't ended. Gives whether it had not."""
+        if self.process.poll() is not None:
+            return False
+        self.process.kill()
+        return self.process.wait() == -signal.SIGKILL

@@ -8,11 +8,13 @@ import re
 import select
 import shlex
 import signal
+import stat
 import sys
+import time
 from pathlib import Path
 
 import server_programs
-from parts import MOMENT, SIGNALS, Interrupted, Part, Signalled, Signals
+from parts import LIMIT, MOMENT, SIGNALS, Interrupted, Part, Signalled, Signals
 from runtime_folder import runtime_folder
 from server_programs import Answered, Lacking
 
@@ -77,6 +79,8 @@ class Server:
     def __init__(self, folder, signals):
         self.folder, self.signals = folder, signals
         self.parts = []
+        # Whether clients may have come, and the path of the Unix socket.
+        self.is_serving, self.path = False, None
 
     def start(self, name, words, ignored=(), environment=None):
         self.parts.append(Part(name, words, ignored, environment or {}))
@@ -122,18 +126,49 @@ class Server:
             raise Failed(server.status(), "")
         asked = words
         count, *words = told[:-2].decode().split("\0")
+        self.path = words[words.index("--unix") + 1] if "--unix" in words else None
         words += ["--server-pid", str(server.process.pid), "--about", about(asked)]
         for worker in range(int(count)):
             words += ["--worker", f"{self.folder}/requests{worker}", f"{self.folder}/replies{worker}"]
-        write(self.told(self.start("gateway", [*gateway, *words]), b"\n").decode())
+        ready = self.told(self.start("gateway", [*gateway, *words]), b"\n")
+        self.is_serving = ready.endswith(b"\n")
+        write(ready.decode())
         self.fail(self.signals.wait(self.parts))
 
     def end(self):
-        """Ends the gateway, and then the server. Gives the gateway's status, 0 where there is none."""
-        statuses = [it.end(signal.SIGTERM) for it in self.parts[1:]]
-        for it in self.parts[:1]:
-            it.end(signal.SIGKILL)
-        return max(statuses, default=0)
+        """Ends the gateway, and so the server, which ends with its pipes. Gives the gateway's status, 0 where there is none."""
+        limit, gateway = time.monotonic() + LIMIT, self.parts[1:]
+        for it in gateway:
+            it.process.send_signal(signal.SIGTERM)
+        why = self.signals.wait_for_ends(gateway, limit)
+        if why or self.has_served():
+            why = self.signals.wait_for_ends(self.parts, limit)
+            killed = [it.name for it in reversed(self.parts) if it.kill()]
+            if killed:
+                tell(f"killed the {' and the '.join(killed)}, {why}")
+        else:
+            # It waits for the other ends of its pipes, and no client ever came.
+            for it in self.parts:
+                it.kill()
+        if self.path and any(it.process.returncode < 0 for it in gateway):
+            remove_socket(self.path)
+        return max((it.process.returncode for it in gateway), default=0)
+
+    def has_served(self):
+        """Whether clients may have come: also if a signal came before the line of the gateway, which has ended, was read."""
+        return self.is_serving or any(os.read(it.output.fileno(), 1 << 16) for it in self.parts[1:])
+
+
+def remove_socket(path):
+    """Removes the socket that a killed gateway left, unless somebody listens there."""
+    # (it takes a while, and is seldom needed)
+    import socket
+    with contextlib.suppress(OSError), socket.socket(socket.AF_UNIX) as tried:
+        if stat.S_ISSOCK(os.lstat(path).st_mode):
+            try:
+                tried.connect(path)
+            except ConnectionRefusedError:
+                os.unlink(path)
 
 
 def serve(program, gateway, words, signals):

@@ -1,12 +1,15 @@
 """Trials of server.py: memory, how the server starts and ends, and what it refuses at the start."""
 import contextlib
 import os
+import re
 import signal
 import socket
 import stat
 import subprocess
 import tempfile
+import threading
 import time
+from concurrent.futures import ThreadPoolExecutor
 from pathlib import Path
 
 from server_parts import MEBIBYTE, NONE, OK, PATIENCE, PONG, ROOT, Client, bulk, children, request, until
@@ -149,6 +152,86 @@ def a_signal_ends_it(tried, _):
     assert not os.listdir(tried.runtime), "the folder of the pipes is left"
 
 
+def is_gone(tried, both, path):
+    assert not [it for it in both if os.path.exists(f"/proc/{it}")], "one of the two is left"
+    assert not os.path.lexists(path), "the socket is left"
+    assert not os.listdir(tried.runtime), "the folder of the pipes is left"
+
+
+def a_signal_while_clients_write(tried, _):
+    """All that was replied has been done, nothing is killed, and it takes less than the limit."""
+    path, told = Path(tried.work) / "ending", []
+
+    def write(client):
+        with contextlib.suppress(OSError, EOFError):
+            for at in range(10**9):
+                assert client.ask_all([("SET", f"key{at % 500}", b"%01000d" % at)] * 20) == [OK] * 20
+                told.append(at)
+
+    for name in (signal.SIGTERM, signal.SIGINT):
+        with tried.start("--unix", path) as server:
+            both = [server.pid("gateway"), server.pid("farserve")]
+            threads = [threading.Thread(target=write, args=(server.client(),), daemon=True) for _ in range(6)]
+            for it in threads:
+                it.start()
+            until(lambda: len(told) > 200, "calls")
+            began = time.monotonic()
+            server.process.send_signal(name)
+            said = server.ended(0)
+            took = time.monotonic() - began
+            for it in threads:
+                it.join(PATIENCE)
+            assert took < 10 and "killed" not in said, (took, said)
+            is_gone(tried, both, path)
+        told.clear()
+
+
+def has_killed(tried, stopped, names, more=()):
+    """Ends a server of whose programs some are stopped. Gives how long it took; `more` are seconds after which another signal comes."""
+    path = Path(tried.work) / f"ending-{'-'.join(stopped)}-{len(more)}"
+    with tried.start("--unix", path) as server:
+        assert server.client().ask("SET", "k", "1") == OK
+        both = [server.pid("gateway"), server.pid("farserve")]
+        for name in stopped:
+            os.kill(server.pid(name), signal.SIGSTOP)
+        began = time.monotonic()
+        server.process.terminate()
+        for seconds in more:
+            time.sleep(seconds)
+            with contextlib.suppress(ProcessLookupError):
+                server.process.terminate()
+        said, took = server.ended(0), time.monotonic() - began
+        why = "since 10 seconds were not enough" if not more or sum(more) < 0.2 else "at a second signal"
+        assert re.search(rf"^farserve: killed the {names}, {why}$", said, re.M) and said.count("killed") == 1, said
+        assert not [it for it in both if os.path.exists(f"/proc/{it}")] and not os.path.lexists(path)
+    return took
+
+
+# Where the gateway alone is stopped, the server may end as soon as the gateway is killed.
+STOPPED = {("farserve",): "server", ("gateway",): "gateway( and the server)?", ("gateway", "farserve"): "gateway and the server"}
+
+
+def what_does_not_end_is_killed(tried, _):
+    """After 10 seconds, with a line that says so. Two signals in the same moment are one."""
+    cases = [(stopped, names, more) for stopped, names in STOPPED.items() for more in [(), (0.01,)][:1 + (len(stopped) == 1)]]
+    with ThreadPoolExecutor(len(cases)) as pool:
+        took = list(pool.map(lambda case: has_killed(tried, *case), cases))
+    assert all(10 <= it < 25 for it in took), took
+    assert not os.listdir(tried.runtime), "a folder of pipes is left"
+    return f"after {min(took):.1f} to {max(took):.1f} s"
+
+
+def a_second_signal_kills_at_once(tried, _):
+    took = [has_killed(tried, stopped, names, more=(1.5,)) for stopped, names in STOPPED.items()]
+    assert all(1.5 <= it < 8 for it in took), took
+    assert not os.listdir(tried.runtime), "a folder of pipes is left"
+    with tried.start() as server:
+        # Two in the same moment, as `timeout` sends them, are one.
+        for _ in range(2):
+            server.process.terminate()
+        assert "killed" not in server.ended(0)
+
+
 def who_dies_is_named(tried, _):
     for name, told in (("gateway", "the gateway has ended with status -9"), ("farserve", "the server has ended with status -9")):
         with tried.start() as server:
@@ -188,6 +271,36 @@ def who_dies_early_is_named(tried, _):
     ran = subprocess.run(words, stdin=subprocess.DEVNULL, capture_output=True, text=True, timeout=PATIENCE)
     assert (ran.returncode, ran.stdout, ran.stderr) == (1, "", "farserve: the server has ended with status 3\n"), ran
     assert not os.listdir(tried.runtime), "the folder of the pipes is left"
+
+
+# In the place of the server: it takes a while after the end of its pipes, and says that it has ended by itself.
+LEISURELY = """#!/usr/bin/python3 -B
+import sys, time
+folder, left = sys.argv[sys.argv.index("--pipes") + 1], "LEFT"
+print("1", "--port", "0", "", "", sep="\\0", end="", flush=True)
+with open(folder + "/requests0", "rb") as requests, open(folder + "/replies0", "wb"):
+    requests.read()
+time.sleep(1.5)
+open(left, "w").close()
+"""
+
+
+def a_server_may_take_a_while_to_end(tried, _):
+    """The launcher waits for it, and leaves nothing of its own."""
+    program, left = Path(tried.work) / "leisurely", Path(tried.work) / "left"
+    program.write_text(LEISURELY.replace("LEFT", str(left)))
+    program.chmod(0o700)
+    words = ["/usr/bin/python3", "-B", "-c", INSTEAD, ROOT / "bin", program]
+    for name in (signal.SIGTERM, signal.SIGINT):
+        process = subprocess.Popen(words, stdin=subprocess.DEVNULL, stdout=subprocess.PIPE, stderr=subprocess.PIPE, text=True)
+        assert process.stdout.readline().startswith("ready ")
+        began = time.monotonic()
+        process.send_signal(name)
+        said = process.communicate(timeout=PATIENCE)[1]
+        assert process.returncode == 0 and "killed" not in said, (process.returncode, said)
+        assert left.exists() and time.monotonic() - began >= 1.5, said
+        assert not os.listdir(tried.runtime), "the folder of the pipes is left"
+        left.unlink()
 
 
 def started(*words):
@@ -313,6 +426,7 @@ def info_tells_what_lies_on_disk(tried, _):
 
 
 TRIALS = [small_values_stay_within_memory, large_values_stay_within_memory, what_has_no_room_is_refused, keys_are_evicted_where_they_may_be,
-          a_full_disk_harms_nothing, a_signal_ends_it, who_dies_is_named, who_dies_early_is_named, faults_at_the_start,
+          a_full_disk_harms_nothing, a_signal_ends_it, a_signal_while_clients_write, what_does_not_end_is_killed,
+          a_second_signal_kills_at_once, who_dies_is_named, who_dies_early_is_named, a_server_may_take_a_while_to_end, faults_at_the_start,
           all_addresses_are_served, info_tells_what_the_system_does, info_tells_who_is_connected,
           info_tells_what_lies_on_disk, scratch_files_are_private]

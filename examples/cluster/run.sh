@@ -58,7 +58,8 @@ export XDG_RUNTIME_DIR=$work
 # Whether a process is there that has not ended.
 is_alive() { [[ $(cat "/proc/$1/stat" 2>/dev/null) =~ \)\ [^ZX] ]]; }
 
-# Ends what was started, and removes what it left. One that was just forked may miss a signal, so it has some, and at last SIGKILL.
+# Ends what was started, and removes what it left. One that was just forked may miss a signal, so it has some, and at last SIGKILL. A farserve
+# takes a second one as soon after the first as one with it, and ends within 10 seconds; a later one kills it.
 leave() {
     local name process running
     trap '' INT TERM
@@ -68,7 +69,10 @@ leave() {
             if is_alive "$process"; then running+=("$process"); fi
         done
         if [ "${#running[@]}" -eq 0 ]; then break; fi
-        kill -"${name/[0-9]*/TERM}" "${running[@]}" 2>/dev/null || true
+        case "$name" in
+        1 | 2 | 12[0-9]) kill -TERM "${running[@]}" 2>/dev/null || true ;;
+        KILL) kill -KILL "${running[@]}" 2>/dev/null || true ;;
+        esac
         sleep 0.1
     done
     rm -rf "$work"
