@@ -103,6 +103,14 @@ def versions(root, folder, version, kind):
         assert ran.returncode == 126 and "a release has no sources to prove" in ran.stderr and not ran.stdout, ran
 
 
+def a_dump_is_made(root, folder, address, version):
+    """By a Python that may be as old as the oldest that is supported."""
+    assert inside(root, f"{folder}/fardump", "--version") == f"version: {version}\n"
+    assert inside(root, f"{folder}/fardump", "--port", address[1], "/tmp/dump.resp") == ""
+    assert inside(root, f"{folder}/fardump", "--check", "/tmp/dump.resp") == "ok 3001 keys\n"
+    (root / "tmp/dump.resp").unlink()
+
+
 def sums_are_right(folder, work, version):
     for line in the_only(folder, "*.sha256").read_text().splitlines():
         digest, name = line.split()
@@ -126,6 +134,7 @@ def the_archive_runs(folder, work, version, kind):
         assert "farserve [OPTIONS] --memory <SIZE>" in inside(root, f"/opt/{name}/bin/farserve", "--help")
         with served(root, f"/opt/{name}/bin/farserve", "--memory", "32m", "--far", "/var/tmp", "--port", 0) as address:
             a_client_is_served(address, version)
+            a_dump_is_made(root, f"/opt/{name}/bin", address, version)
         with served(root, f"/opt/{name}/bin/farserve", "--memory", "32m", "--far", "/var/tmp", "--port", 0, user="nobody:nogroup") as address:
             a_client_is_served(address, version)
 
@@ -146,6 +155,7 @@ def the_package_installs_and_leaves(folder, work, version, kind):
             words = re.search(r'^FARSERVE_OPTIONS="(.*)"$', (root / "etc/default/farserve").read_text(), re.M)[1].replace("6380", "0").split()
             with served(root, "/usr/bin/farserve", *words, user="farserve:farserve") as address:
                 a_client_is_served(address, version)
+                a_dump_is_made(root, "/usr/bin", address, version)
             # What an operator changed stays at a removal, and goes at a purge.
             with (root / "etc/default/farserve").open("a") as file:
                 file.write("# changed\n")
