@@ -1,4 +1,5 @@
 pub mod Numbers
+mod Saying
 pub mod Classes
 pub mod Matching
 pub mod Choices

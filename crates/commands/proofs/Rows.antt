@@ -1,5 +1,6 @@
 -- Each name has its entry in the table, and each entry its name.
-use Rattle.std.proofs.Common.{ℕ, ◌≡◌, ◌<◌, true, map, Some, refl, arith}
+use Rattle.std.proofs.Common.{ℕ, suc, ◌≡◌, ◌<◌, ◌+◌, ◌*◌, nat_eq, true, List, [], ◌∷◌, map, Some, refl, sym, ap, ◌∙◌, arith}
+use Rattle.std.specs.Prelude.{if◌then◌else◌}
 use Rattle.std.specs.Char.{to_ascii_lowercase}
 use Rattle.std.specs.List.{slice_get}
 use Rattle.std.proofs.Math.Dec.{eqb}
@@ -15,7 +16,7 @@ use Rattle.commands.specs.declared.server_name.OfServer.TheVariants as of_server
 use Rattle.commands.specs.declared.name.Name.{Name}
 use Rattle.commands.specs.declared.name.Name.TheVariants as name
 use Rattle.commands.specs.Names.{index_of, text_of}
-use Rattle.commands.specs.declared.table.TheConstants.{COMMANDS}
+use Rattle.commands.specs.declared.table.TheConstants.{COMMANDS, TABLE}
 use Rattle.commands.specs.Rows.{listed_names, text_at, name_at, nameless}
 
 -- by its index a name finds its entry, which has its text, and that is in lower case
@@ -92,3 +93,27 @@ named n = get_or_from_slice_get listed_names (index_of n) n nameless (entered n)
 -- so an entry's text is its name's
 pub texted : (index : ℕ) → index < COMMANDS → (text_at index ≡ text_of (name_at index)) × (map to_ascii_lowercase (text_at index) ≡ text_at index)
 texted index within = grind (arith, entered (name_at index), numbered index within)
+
+-- ---- no two names have one text
+
+-- a number of a text, and the place of a number among others
+code_of : List ℕ → ℕ
+code_of [] = 1
+code_of (c ∷ text) = c + 256 * code_of text
+
+place_of : ℕ → List ℕ → ℕ
+place_of n [] = 0
+place_of n (m ∷ others) = if nat_eq n m then 0 else suc (place_of n others)
+
+codes_of_all : List ℕ
+codes_of_all = map (λ entry. code_of entry.0.now) TABLE
+
+spelled_once : (index : ℕ) → index < COMMANDS → place_of (code_of (text_at index)) codes_of_all ≡ index
+unfolding text_at code_of place_of codes_of_all
+spelled_once index within = eqb-true (place_of (code_of (text_at index)) codes_of_all) index (agree_below_at (λ i. eqb (place_of (code_of (text_at i)) codes_of_all) i) (λ i. true) COMMANDS index refl within)
+
+pub same_name : (m n : Name) → text_of m ≡ text_of n → m ≡ n
+same_name m n is =
+    let texts : text_at (index_of m) ≡ text_at (index_of n) = (entered m).1 ∙ is ∙ sym (entered n).1 in
+    let places : index_of m ≡ index_of n = sym (spelled_once (index_of m) (counted m)) ∙ ap (λ (text : List ℕ). place_of (code_of text) codes_of_all) texts ∙ spelled_once (index_of n) (counted n) in
+    sym (named m) ∙ ap (λ (index : ℕ). name_at index) places ∙ named n

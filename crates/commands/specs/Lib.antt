@@ -7,3 +7,4 @@ pub mod Ranges
 pub mod Rows
 pub mod Servers
 pub mod Times
+pub mod Options

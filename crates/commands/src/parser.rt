@@ -59,7 +59,7 @@ fn number_of<'a>(of: OfNumber, bytes: &[u8]) -> Result<i64, CommandFault<'a>>
 }
 
 fn by_name<'a>(name: Name, rest: Arguments<'a>, now: u64) -> Result<Command<'a>, CommandFault<'a>>
-    ensures spelt { IfOk result (λ c. IsSpelt name (listed rest.entry) c) }
+    ensures spelt { IfOk result (λ c. IsSpelt now name (listed rest.entry) c) }
     ensures counted { IsCounted name (listed rest.entry) → IsOk result }
 {
     match name {
@@ -115,7 +115,7 @@ fn refusal<'a>(word: &[u8], request: Arguments<'a>) -> CommandFault<'a> {
 /// milliseconds since 1970. Where they spell none, the fault that Redis finds first: an unknown name, the count of
 /// arguments, the options, and then numbers.
 pub fn read<'a>(request: Arguments<'a>, now: u64) -> Result<Command<'a>, CommandFault<'a>>
-    ensures spelt { IfOk result (λ c. Spells (listed request.entry) c) }
+    ensures spelt { IfOk result (λ c. Spells now (listed request.entry) c) }
     // Where any arguments will do, and there are as many as the name takes, it is a command.
     ensures counted { (n : any_name) (first : List ℕ) (rest : List (List ℕ)) → listed request.entry ≡ first ∷ rest
         → map to_ascii_lowercase first ≡ text_of n → IsCounted n rest → IsOk result }

@@ -1,8 +1,9 @@
 //! Commands whose arguments are their own.
-ghost use Rattle.std.specs.Prelude.{◌≡◌, [], ◌∷◌, IfOk, IsOk};
+ghost use Rattle.std.specs.Prelude.{◌≡◌, ◌<◌, ℕ, List, [], ◌∷◌, length, MatchOption, IfOk, IsOk};
 ghost use Rattle.std.specs.Fmt.{signed_decimal};
 ghost use Rattle.commands.specs.Arguments.{listed};
-ghost use Rattle.commands.specs.Commands.{IsAdd, IsCountedSpecial, IsSpecial};
+ghost use Rattle.commands.specs.Options.{IsChange, IsTimedChange, IsLifetimeBy};
+ghost use Rattle.commands.specs.Commands.{IsSet, IsAdd, IsExpireBy, IsCountedSpecial, IsSpecial};
 
 use crate::arguments::Arguments;
 use crate::command::{Change, Command, Lifetime, Where};
@@ -18,33 +19,68 @@ fn number<'a>(bytes: &[u8]) -> Result<i64, CommandFault<'a>>
     whole_number(bytes).ok_or(CommandFault::Number)
 }
 
-fn set<'a>(rest: Arguments<'a>, now: u64) -> Result<Command<'a>, CommandFault<'a>>
-    ensures { IfOk result (λ c. IsSpecial Special.Set (listed rest.entry) c) }
+/// The first two arguments, and those after them. None if there are fewer than two.
+fn first_two(rest: Arguments<'_>) -> Option<(&[u8], &[u8], Arguments<'_>)>
+    ensures { MatchOption result (length (listed rest.entry) < 2) (λ p. listed rest.entry ≡ p.0.now ∷ p.1.now ∷ listed p.2) }
 {
-    let name = Name::Special(Special::Set);
-    let (key, rest) = rest.split_first().ok_or(CommandFault::Count(name))?;
-    let (value, words) = rest.split_first().ok_or(CommandFault::Count(name))?;
-    let said = options_of(Optioned::Set, words).ok_or(CommandFault::Syntax)?;
-    let lifetime = lifetime_of(name, said.lifetime, Lifetime::Forever, now)?;
-    Ok(Command::Set {
-        key,
-        value,
-        change: Change {
-            to: said.to,
-            get: said.get,
-            lifetime,
+    let (key, behind) = rest.split_first()?;
+    let (value, words) = behind.split_first()?;
+    Some((key, value, words))
+}
+
+/// What SET does besides writing the value.
+fn change_of<'a>(words: Arguments<'a>, now: u64) -> Result<Change, CommandFault<'a>>
+    ensures said { IfOk result (λ change. IsChange now (listed words.entry) change) }
+    ensures plain { length (listed words.entry) ≡ 0 → IsOk result }
+{
+    match options_of(Optioned::Set, words) {
+        Some(said) => match lifetime_of(Special::Set, said.lifetime, Lifetime::Forever, now) {
+            Ok(lifetime) => Ok(Change {
+                to: said.to,
+                get: said.get,
+                lifetime,
+            }),
+            Err(fault) => Err(fault),
         },
-    })
+        None => Err(CommandFault::Syntax),
+    }
+}
+
+fn set<'a>(rest: Arguments<'a>, now: u64) -> Result<Command<'a>, CommandFault<'a>>
+    ensures spelt { IfOk result (λ c. IsSpecial now Special.Set (listed rest.entry) c) }
+    ensures counted { IsCountedSpecial Special.Set (listed rest.entry) → IsOk result }
+{
+    match first_two(rest) {
+        Some((key, value, words)) => match change_of(words, now) {
+            Ok(change) => Ok(Command::Set { key, value, change }),
+            Err(fault) => Err(fault),
+        },
+        None => Err(CommandFault::Count(Name::Special(Special::Set))),
+    }
+}
+
+/// What GETEX does with the deadline.
+fn lifetime_by<'a>(words: Arguments<'a>, now: u64) -> Result<Lifetime, CommandFault<'a>>
+    ensures said { IfOk result (λ lifetime. IsLifetimeBy now (listed words.entry) lifetime) }
+    ensures plain { length (listed words.entry) ≡ 0 → IsOk result }
+{
+    match options_of(Optioned::GetEx, words) {
+        Some(said) => lifetime_of(Special::GetEx, said.lifetime, Lifetime::Keep, now),
+        None => Err(CommandFault::Syntax),
+    }
 }
 
 fn get_ex<'a>(rest: Arguments<'a>, now: u64) -> Result<Command<'a>, CommandFault<'a>>
-    ensures { IfOk result (λ c. IsSpecial Special.GetEx (listed rest.entry) c) }
+    ensures spelt { IfOk result (λ c. IsSpecial now Special.GetEx (listed rest.entry) c) }
+    ensures counted { IsCountedSpecial Special.GetEx (listed rest.entry) → IsOk result }
 {
-    let name = Name::Special(Special::GetEx);
-    let (key, words) = rest.split_first().ok_or(CommandFault::Count(name))?;
-    let said = options_of(Optioned::GetEx, words).ok_or(CommandFault::Syntax)?;
-    let lifetime = lifetime_of(name, said.lifetime, Lifetime::Keep, now)?;
-    Ok(Command::GetEx { key, lifetime })
+    match rest.split_first() {
+        Some((key, words)) => match lifetime_by(words, now) {
+            Ok(lifetime) => Ok(Command::GetEx { key, lifetime }),
+            Err(fault) => Err(fault),
+        },
+        None => Err(CommandFault::Count(Name::Special(Special::GetEx))),
+    }
 }
 
 /// SETEX and PSETEX.
@@ -54,24 +90,27 @@ fn set_for<'a>(
     rest: Arguments<'a>,
     now: u64,
 ) -> Result<Command<'a>, CommandFault<'a>>
-    ensures { IfOk result (λ c. IsSpecial Special.SetEx (listed rest.entry) c) }
+    ensures { IfOk result (λ c. IsSet (λ key value change. (time : List ℕ) × (listed rest.entry ≡ key.now ∷ time ∷ value.now ∷ []) × IsTimedChange now clock time change) c) }
 {
-    let name = Name::Special(of);
-    let (key, amount, value) = rest.three().ok_or(CommandFault::Count(name))?;
-    let deadline = deadline_of(name, clock, amount, now)?;
-    Ok(Command::Set {
-        key,
-        value,
-        change: Change {
-            to: Where::Always,
-            get: false,
-            lifetime: Lifetime::Until(deadline),
+    match rest.three() {
+        Some((key, amount, value)) => match deadline_of(of, clock, amount, now) {
+            Ok(deadline) => Ok(Command::Set {
+                key,
+                value,
+                change: Change {
+                    to: Where::Always,
+                    get: false,
+                    lifetime: Lifetime::Until(deadline),
+                },
+            }),
+            Err(fault) => Err(fault),
         },
-    })
+        None => Err(CommandFault::Count(Name::Special(of))),
+    }
 }
 
 fn get_range<'a>(rest: Arguments<'a>) -> Result<Command<'a>, CommandFault<'a>>
-    ensures { IfOk result (λ c. IsSpecial Special.GetRange (listed rest.entry) c) }
+    ensures { IfOk result (λ c. IsSpecial 0 Special.GetRange (listed rest.entry) c) }
 {
     let name = Name::Special(Special::GetRange);
     let (key, first, last) = rest.three().ok_or(CommandFault::Count(name))?;
@@ -83,7 +122,7 @@ fn get_range<'a>(rest: Arguments<'a>) -> Result<Command<'a>, CommandFault<'a>>
 }
 
 fn set_range<'a>(rest: Arguments<'a>) -> Result<Command<'a>, CommandFault<'a>>
-    ensures { IfOk result (λ c. IsSpecial Special.SetRange (listed rest.entry) c) }
+    ensures { IfOk result (λ c. IsSpecial 0 Special.SetRange (listed rest.entry) c) }
 {
     let name = Name::Special(Special::SetRange);
     let (key, offset, value) = rest.three().ok_or(CommandFault::Count(name))?;
@@ -108,7 +147,7 @@ fn step<'a>(of: Special, by: i64, rest: Arguments<'a>) -> Result<Command<'a>, Co
 }
 
 fn decrease<'a>(rest: Arguments<'a>) -> Result<Command<'a>, CommandFault<'a>>
-    ensures { IfOk result (λ c. IsSpecial Special.DecrBy (listed rest.entry) c) }
+    ensures { IfOk result (λ c. IsSpecial 0 Special.DecrBy (listed rest.entry) c) }
 {
     let (key, by) = rest
         .two()
@@ -118,7 +157,7 @@ fn decrease<'a>(rest: Arguments<'a>) -> Result<Command<'a>, CommandFault<'a>>
 }
 
 fn increase_by_float<'a>(rest: Arguments<'a>) -> Result<Command<'a>, CommandFault<'a>>
-    ensures spelt { IfOk result (λ c. IsSpecial Special.IncrByFloat (listed rest.entry) c) }
+    ensures spelt { IfOk result (λ c. IsSpecial 0 Special.IncrByFloat (listed rest.entry) c) }
     ensures counted { IsCountedSpecial Special.IncrByFloat (listed rest.entry) → IsOk result }
 {
     let (key, by) = rest
@@ -128,7 +167,7 @@ fn increase_by_float<'a>(rest: Arguments<'a>) -> Result<Command<'a>, CommandFaul
 }
 
 fn set_many<'a>(rest: Arguments<'a>) -> Result<Command<'a>, CommandFault<'a>>
-    ensures spelt { IfOk result (λ c. IsSpecial Special.MSet (listed rest.entry) c) }
+    ensures spelt { IfOk result (λ c. IsSpecial 0 Special.MSet (listed rest.entry) c) }
     ensures counted { IsCountedSpecial Special.MSet (listed rest.entry) → IsOk result }
 {
     if rest.is_empty() || rest.len() % 2 != 0 {
@@ -144,25 +183,31 @@ fn expire<'a>(
     rest: Arguments<'a>,
     now: u64,
 ) -> Result<Command<'a>, CommandFault<'a>>
-    ensures { IfOk result (λ c. IsSpecial Special.Expire (listed rest.entry) c) }
+    ensures { IfOk result (λ c. IsExpireBy now clock (listed rest.entry) c) }
 {
-    let name = Name::Special(of);
-    let (key, rest) = rest.split_first().ok_or(CommandFault::Count(name))?;
-    let (amount, words) = rest.split_first().ok_or(CommandFault::Count(name))?;
-    let only = only_of(words)?;
-    let amount = number(amount)?;
-    let deadline = Time { amount, clock }
-        .deadline(now)
-        .ok_or(CommandFault::Lifetime(name))?;
-    Ok(Command::Expire {
-        key,
-        deadline,
-        only,
-    })
+    let Some((key, amount, words)) = first_two(rest) else {
+        return Err(CommandFault::Count(Name::Special(of)));
+    };
+    let only = match only_of(words) {
+        Ok(only) => only,
+        Err(fault) => return Err(fault),
+    };
+    let amount = match number(amount) {
+        Ok(amount) => amount,
+        Err(fault) => return Err(fault),
+    };
+    match (Time { amount, clock }).deadline(now) {
+        Some(deadline) => Ok(Command::Expire {
+            key,
+            deadline,
+            only,
+        }),
+        None => Err(CommandFault::Lifetime(Name::Special(of))),
+    }
 }
 
 fn ping<'a>(rest: Arguments<'a>) -> Result<Command<'a>, CommandFault<'a>>
-    ensures spelt { IfOk result (λ c. IsSpecial Special.Ping (listed rest.entry) c) }
+    ensures spelt { IfOk result (λ c. IsSpecial 0 Special.Ping (listed rest.entry) c) }
     ensures counted { IsCountedSpecial Special.Ping (listed rest.entry) → IsOk result }
 {
     if rest.is_empty() {
@@ -175,7 +220,7 @@ fn ping<'a>(rest: Arguments<'a>) -> Result<Command<'a>, CommandFault<'a>>
 }
 
 fn echo<'a>(rest: Arguments<'a>) -> Result<Command<'a>, CommandFault<'a>>
-    ensures spelt { IfOk result (λ c. IsSpecial Special.Echo (listed rest.entry) c) }
+    ensures spelt { IfOk result (λ c. IsSpecial 0 Special.Echo (listed rest.entry) c) }
     ensures counted { IsCountedSpecial Special.Echo (listed rest.entry) → IsOk result }
 {
     let text = rest
@@ -190,7 +235,7 @@ pub(crate) fn read_special<'a>(
     rest: Arguments<'a>,
     now: u64,
 ) -> Result<Command<'a>, CommandFault<'a>>
-    ensures spelt { IfOk result (λ c. IsSpecial of (listed rest.entry) c) }
+    ensures spelt { IfOk result (λ c. IsSpecial now of (listed rest.entry) c) }
     ensures counted { IsCountedSpecial of (listed rest.entry) → IsOk result }
 {
     match of {

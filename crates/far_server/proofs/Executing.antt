@@ -1,17 +1,19 @@
 -- Requests that are run one after another, as far as there is room for their replies.
-use Rattle.std.proofs.Common.{◌≡◌, ◌⊎◌, inl, inr, ◌<◌, ◌≤◌, suc, ◌+◌, ◌-◌, ℕ, List, [], ◌∷◌, ◌++◌, length, drop, map, slice_index_or, refl, sym, ap, subst, ◌∙◌, arith, append_assoc}
+use Rattle.std.proofs.Common.{◌≡◌, ◌⊎◌, inl, inr, Bool, true, false, Option, Some, None, MatchBool, ◌<◌, ◌≤◌, ◌+◌, ◌-◌, ℕ, List, [], ◌∷◌, ◌++◌, length, drop, map, slice_index_or, refl, sym, ap, subst, ◌∙◌, arith, append_assoc}
 use Rattle.std.specs.List.{flat_map}
 use Rattle.std.proofs.lemmas.List.{length-map, length-drop, get_or-map, drop_more}
 use Rattle.table_core.specs.declared.limits.Limits.{Limits}
-use Rattle.resp.specs.Replies.{Token, token}
+use Rattle.resp.specs.Replies.{Token, Failure, token}
 use Rattle.far_server.specs.declared.queue.Request.{Request}
+use Rattle.far_server.specs.declared.queue.Queue.{Queue}
 use Rattle.far_server.specs.declared.settings.Bounds.{Bounds}
 use Rattle.far_server.specs.Bounds.{longest}
 use Rattle.stored_keys.specs.declared.DigestKeys.{DigestKeys}
-use Rattle.far_server.specs.Queues.{held}
+use Rattle.far_server.specs.Queues.{held, waiting}
+use Rattle.far_server.specs.Transactions.{waits_of}
 use Rattle.far_server.specs.Sessions.{Session}
 use Rattle.far_server.specs.Runs.{IsRequest}
-use Rattle.far_server.specs.Answers.{AreRefused, AreWithoutMemory, AreExecuted}
+use Rattle.far_server.specs.Answers.{exec_abort, AreRefused, AreWithoutMemory, AreExecuted, IsRunEach, IsExecuted}
 
 -- Whatever becomes of the requests from b on within a limit, all were executed with the replies so far.
 abbrev pub GoesOn : (l : Limits) (digest : DigestKeys) (v : Bounds) (whole : ℕ) (all : List (List (List ℕ))) (limit : ℕ) (left : List (List (List ℕ))) (each : List Token) (a b : Session) → Type 0
@@ -46,3 +48,15 @@ next_held rs all i r are lt is =
 -- how many are left
 pub left_of : (rs : List Request) (all : List (List (List ℕ))) (i : ℕ) → map held rs ≡ all → length (drop i all) ≡ length rs - i
 left_of rs all i are = length-drop i all ∙ ap (λ (n : ℕ). n - i) (sym (ap (λ (ws : List (List (List ℕ))). length ws) are) ∙ length-map rs held)
+
+-- EXEC of a queue in which one was refused, and of another one
+pub spoilt : (l : Limits) (digest : DigestKeys) (v : Bounds) (queue : Queue) (a : Session) → queue.is_spoilt ≡ true → IsExecuted l digest v (Some (waits_of queue)) None a a (Failure exec_abort ∷ [])
+spoilt l digest v queue a is =
+    (refl, subst (λ (b : Bool). MatchBool b ((a ≡ a) × (Failure exec_abort ∷ [] ≡ Failure exec_abort ∷ [])) (IsRunEach l digest v (waiting queue) a a (Failure exec_abort ∷ []))) (sym is) (refl, refl))
+
+pub ran_all : (l : Limits) (digest : DigestKeys) (v : Bounds) (queue : Queue) (a b : Session) (rs : List Token) → queue.is_spoilt ≡ false → IsRunEach l digest v (waiting queue) a b rs → IsExecuted l digest v (Some (waits_of queue)) None a b rs
+ran_all l digest v queue a b rs is ran = (refl, subst (λ (c : Bool). MatchBool c ((a ≡ b) × (rs ≡ Failure exec_abort ∷ [])) (IsRunEach l digest v (waiting queue) a b rs)) (sym is) ran)
+
+-- of a queue that was taken, and of none in its place
+pub taken : (E : Option Queue → Option Queue → Type 0) (q was r : Option Queue) → q ≡ was → r ≡ None → E was None → E q r
+taken E q was r is none so = subst (λ (x : Option Queue). E x r) (sym is) (subst (λ (y : Option Queue). E was y) (sym none) so)

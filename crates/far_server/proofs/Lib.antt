@@ -1,6 +1,7 @@
 mod Going
 mod Trying
 mod Pushed
+mod OneReply
 mod Listing
 mod Held
 mod Several

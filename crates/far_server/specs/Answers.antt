@@ -1,33 +1,34 @@
 -- What an answer to a request tells of its connection and its session.
-use Rattle.std.specs.Prelude.{◌≡◌, ◌⊎◌, ℕ, ◌+◌, ◌-◌, ◌<◌, ◌≤◌, Bool, true, false, List, [], ◌∷◌, ◌++◌, length, replicate, codes, Option, Some, None, unwrap_or, option_map}
+use Rattle.std.specs.Prelude.{◌≡◌, ◌⊎◌, ℕ, ◌-◌, ◌<◌, ◌≤◌, Bool, true, false, List, [], ◌∷◌, ◌++◌, length, replicate, codes, Option, Some, None, unwrap_or, option_map, MatchBool}
 use Rattle.std.specs.Ordering.{nat_cmp}
 use Rattle.std.specs.Map.{lookup}
 use Rattle.std.specs.BTreeMap.{is_at}
 use Rattle.std.specs.List.{flat_map}
 use Rattle.table_core.specs.declared.limits.Limits.{Limits}
 use Rattle.resp.specs.Replies.{Token, Simple, Count, Failure, token}
+use Rattle.server_commands.specs.Replying.{AreReplies}
+use Rattle.commands.specs.declared.command.Command.{Command}
+use Rattle.commands.specs.declared.command.Command.TheVariants as command
+use Rattle.commands.specs.declared.name.OfNothing.TheVariants as nothing
+use Rattle.commands.specs.declared.server.ServerCommand.TheVariants as server
 use Rattle.request_loop.specs.declared.service.Next.{Next}
 use Rattle.request_loop.specs.declared.service.Next.TheVariants as behind
 use Rattle.far_server.specs.declared.connection.Connection.{Connection}
-use Rattle.far_server.specs.declared.queue.Queue.{Queue}
 use Rattle.far_server.specs.declared.settings.Bounds.{Bounds}
 use Rattle.far_server.specs.Sessions.{Session}
-use Rattle.far_server.specs.Queues.{waiting}
-use Rattle.far_server.specs.Logins.{HasLogin, Exceeds}
+use Rattle.far_server.specs.Transactions.{Waiting, waits_in, IsBegun, IsDropped, IsHeld}
+use Rattle.far_server.specs.Logins.{HasLogin, IsModest, Exceeds, no_login, IsAuthReply, IsHelloReply}
 use Rattle.far_map.specs.declared.refusal.MapRefusal.TheVariants as refusal
 use Rattle.far_server.specs.Bounds.{longest, too_large}
 use Rattle.far_server.specs.Refusing.{text_of}
+use Rattle.far_server.specs.Reads.{IsUnread, IsSpelled}
 use Rattle.far_server.specs.Runs.{IsRequest}
 use Rattle.stored_keys.specs.declared.DigestKeys.{DigestKeys}
 
 -- what is known of a connection: whether it may ask, and what waits for EXEC, behind a MULTI
 pub record Known : Type 0 where
   pub is_authenticated : Bool
-  pub waits : Option (List (List (List ℕ)))
-
-abbrev pub waits_in : Option Queue → Option (List (List (List ℕ)))
-waits_in None = None
-waits_in (Some queue) = Some (waiting queue)
+  pub waits : Option Waiting
 
 abbrev pub known : Connection → Known
 known c = record { is_authenticated = c.is_authenticated; waits = waits_in c.queue }
@@ -52,13 +53,11 @@ known_at places c e = unwrap_or (option_map known (lookup (is_at (nat_cmp c)) pl
 abbrev pub unknown : Option (List ℕ) → Known
 unknown password = new_known (is_free password)
 
--- a request waits behind the others, or it does not
-abbrev pub IsHeld : List (List (List ℕ)) → List (List (List ℕ)) → List (List ℕ) → List Token → Type 0
-IsHeld before after request rs = ((after ≡ before ++ request ∷ []) × (rs ≡ Simple (codes "QUEUED") ∷ [])) ⊎ (after ≡ before)
+abbrev pub no_multi_before_exec : List ℕ
+no_multi_before_exec = codes "ERR EXEC without MULTI"
 
--- what waits stays, or is dropped, or nothing waits behind a MULTI
-abbrev pub MovesOn : Option (List (List (List ℕ))) → Option (List (List (List ℕ))) → Type 0
-MovesOn before after = (after ≡ before) ⊎ ((after ≡ None) ⊎ ((before ≡ None) × (after ≡ Some [])))
+abbrev pub exec_abort : List ℕ
+exec_abort = codes "EXECABORT Transaction discarded because of previous errors."
 
 module _ (l : Limits) (digest : DigestKeys) (b : Bounds) where
   -- A request was run where the limit had room for the longest value.
@@ -89,52 +88,69 @@ module _ (l : Limits) (digest : DigestKeys) (b : Bounds) where
   abbrev pub AreExecutedEach : List (List (List ℕ)) → List Token → Session → Session → Type 0
   AreExecutedEach requests each old new = AreExecuted (b.longest_reply - length (token (Count (length requests)))) requests each old new
 
-  -- The request was run at once.
-  pub record IsRun (before after : Known) (arguments : List (List ℕ)) (old new : Session) (rs : List Token) : Type 0 where
-    pub none_before : before.waits ≡ None
-    pub none_after : after.waits ≡ None
-    pub ran : IsRequest l digest b.longest_value b.longest_reply arguments old new rs
+  -- EXEC of requests that wait: they were run, in order, as far as the reply had room for their replies, or memory was refused.
+  abbrev pub IsRunEach : List (List (List ℕ)) → Session → Session → List Token → Type 0
+  IsRunEach requests old new rs = ((each : List Token) × AreExecutedEach requests each old new × (rs ≡ Count (length requests) ∷ each))
+      ⊎ ((old ≡ new) × (rs ≡ Failure (text_of refusal.Memory) ∷ []))
 
-  -- It waits for EXEC.
-  pub record IsQueued (before after : Known) (arguments : List (List ℕ)) (old new : Session) (rs : List Token) : Type 0 where
-    pub requests : List (List (List ℕ))
-    pub waited : before.waits ≡ Some requests
-    pub wait : after.waits ≡ Some (requests ++ arguments ∷ [])
-    pub untouched : old ≡ new
-    pub reply : rs ≡ Simple (codes "QUEUED") ∷ []
+  -- EXEC, behind which nothing waits: it is an error without a MULTI, and where a request was refused, and then no call is made
+  abbrev pub IsExecuted : Option Waiting → Option Waiting → Session → Session → List Token → Type 0
+  IsExecuted None after old new rs = (after ≡ None) × (old ≡ new) × (rs ≡ Failure no_multi_before_exec ∷ [])
+  IsExecuted (Some waits) after old new rs = (after ≡ None)
+      × MatchBool waits.is_spoilt ((old ≡ new) × (rs ≡ Failure exec_abort ∷ [])) (IsRunEach waits.requests old new rs)
 
-  -- The requests that waited were run, in order, as far as the reply had room for their replies.
-  pub record IsExecuted (before after : Known) (old new : Session) (rs : List Token) : Type 0 where
-    pub requests : List (List (List ℕ))
-    pub waited : before.waits ≡ Some requests
-    pub none_after : after.waits ≡ None
-    pub each : List Token
-    pub ran : AreExecutedEach requests each old new
-    pub reply : rs ≡ Count (length requests) ∷ each
+  -- a request is run at once, or waits for EXEC behind a MULTI
+  abbrev pub IsRunOrHeld : Option Waiting → Option Waiting → List (List ℕ) → Session → Session → List Token → Type 0
+  IsRunOrHeld None after arguments old new rs = (after ≡ None) × IsRequest l digest b.longest_value b.longest_reply arguments old new rs
+  IsRunOrHeld (Some waits) after arguments old new rs = (old ≡ new) × ((held : Waiting) × (after ≡ Some held) × IsHeld waits held arguments rs)
 
-  -- It asks for nothing of the map; what waits stays, or is dropped, or begins.
-  pub record IsElse (before after : Known) (old new : Session) : Type 0 where
-    pub untouched : old ≡ new
-    pub waits : MovesOn before.waits after.waits
+  module _ (password : Option (List ℕ)) where
+    -- what became of a request that spells this command, of a connection that may ask, which may go on asking but for RESET
+    abbrev pub IsServedAs : Command → Known → Known → List (List ℕ) → Session → Session → List Token → Type 0
+    IsServedAs command.Quit before after arguments old new rs = (after ≡ before) × (old ≡ new) × (rs ≡ Simple (codes "OK") ∷ [])
+    IsServedAs (command.Nothing nothing.Reset) before after arguments old new rs = (after ≡ unknown password) × (old ≡ new) × (rs ≡ Simple (codes "RESET") ∷ [])
+    IsServedAs (command.Nothing nothing.Multi) before after arguments old new rs = (after.is_authenticated ≡ true) × (old ≡ new) × IsBegun before.waits after.waits rs
+    IsServedAs (command.Nothing nothing.Discard) before after arguments old new rs = (after.is_authenticated ≡ true) × (old ≡ new) × IsDropped before.waits after.waits rs
+    IsServedAs (command.Nothing nothing.Exec) before after arguments old new rs = (after.is_authenticated ≡ true) × IsExecuted before.waits after.waits old new rs
+    IsServedAs c before after arguments old new rs = (after.is_authenticated ≡ true) × IsRunOrHeld before.waits after.waits arguments old new rs
 
-  -- EXEC
-  abbrev pub IsExecutedOrElse : Known → Known → Session → Session → List Token → Type 0
-  IsExecutedOrElse before after old new rs = IsExecuted before after old new rs ⊎ IsElse before after old new
+    -- the same of any request
+    abbrev pub IsServed : Known → Known → List (List ℕ) → Session → Session → List Token → Type 0
+    IsServed before after arguments old new rs = ((c : Command) × IsSpelled arguments c × IsServedAs c before after arguments old new rs)
+        ⊎ (IsUnread arguments × (after.is_authenticated ≡ true) × IsRunOrHeld before.waits after.waits arguments old new rs)
 
-module _ (l : Limits) (digest : DigestKeys) (b : Bounds) (before after : Known) (arguments : List (List ℕ)) (old new : Session) (rs : List Token) where
-  -- what became of a request
-  abbrev pub Did : Type 0
-  Did = IsRun l digest b before after arguments old new rs ⊎ (IsQueued l digest b before after arguments old new rs ⊎ (IsExecuted l digest b before after old new rs ⊎ IsElse l digest b before after old new))
+-- What became of a request of this command, of a connection that may not ask: AUTH and HELLO may let it ask, and the others are refused.
+abbrev pub IsGatedAs : Option (List ℕ) → Command → Known → Known → List Token → Type 0
+IsGatedAs password command.Quit before after rs = (after ≡ before) × (rs ≡ Simple (codes "OK") ∷ [])
+IsGatedAs password (command.Nothing nothing.Reset) before after rs = (after ≡ unknown password) × (rs ≡ Simple (codes "RESET") ∷ [])
+IsGatedAs password (command.Server (server.Auth login)) before after rs = (after.waits ≡ before.waits) × IsAuthReply password login before.is_authenticated after.is_authenticated rs
+IsGatedAs password (command.Server (server.Hello greeting)) before after rs = (after.waits ≡ before.waits) × IsHelloReply password greeting before.is_authenticated after.is_authenticated rs
+IsGatedAs password c before after rs = (after ≡ before) × (rs ≡ Failure no_login ∷ [])
 
--- A request of a connection that has to log in first: who may ask behind it said the password, and what is too large is refused.
-pub record IsRefusedOr (password : Option (List ℕ)) (before after : Known) (arguments : List (List ℕ)) (rs : List Token) : Type 0 where
+-- the same of any request that is not too large
+abbrev pub IsGatedBy : Option (List ℕ) → Known → Known → List (List ℕ) → List Token → Type 0
+IsGatedBy password before after arguments rs = ((c : Command) × IsSpelled arguments c × IsGatedAs password c before after rs)
+    ⊎ (IsUnread arguments × (after ≡ before) × ((text : List ℕ) × (rs ≡ Failure text ∷ [])))
+
+-- the same of any request: what is too large is refused
+abbrev pub IsGated : Option (List ℕ) → Known → Known → List (List ℕ) → List Token → Type 0
+IsGated password before after arguments rs = ((text : List ℕ) × Exceeds arguments text × (after ≡ before) × (rs ≡ Failure text ∷ []))
+    ⊎ (IsModest arguments × IsGatedBy password before after arguments rs)
+
+-- No memory was left for what a worker keeps of the connection when it was opened: its first request is refused, and it is closed.
+abbrev pub IsWithoutPlace : Known → Known → Session → Session → List Token → Next → Type 0
+IsWithoutPlace before after old new rs next = (after ≡ before) × (old ≡ new) × (rs ≡ Failure (text_of refusal.Memory) ∷ []) × (next ≡ behind.End)
+
+-- why a connection is closed behind a reply: QUIT; a request that is too large before the login; no memory
+abbrev pub IsClosing : Known → List (List ℕ) → List Token → Type 0
+IsClosing before arguments rs = IsSpelled arguments command.Quit
+    ⊎ (((before.is_authenticated ≡ false) × ((text : List ℕ) × Exceeds arguments text × (rs ≡ Failure text ∷ []))) ⊎ (rs ≡ Failure (text_of refusal.Memory) ∷ []))
+
+-- Each request has exactly one reply. Who may ask is served, and who may not has made no call. Who may ask behind it might before, or need
+-- not say a password, or said it. The connection is closed only for a reason.
+pub record IsAnswered (l : Limits) (digest : DigestKeys) (password : Option (List ℕ)) (b : Bounds) (before after : Known) (arguments : List (List ℕ)) (old new : Session) (rs : List Token) (next : Next) : Type 0 where
+  pub one : AreReplies 1 rs
   pub login : after.is_authenticated ≡ true → (before.is_authenticated ≡ true) ⊎ HasLogin password arguments
-  pub waits : MovesOn before.waits after.waits
-  pub excess : (text : List ℕ) → Exceeds arguments text → (rs ≡ Failure text ∷ []) × (after ≡ before)
-
--- Who may ask behind it might before, or need not say a password, or said it; who may not has made no call, and is refused what is too large.
-pub record IsAnswered (l : Limits) (digest : DigestKeys) (password : Option (List ℕ)) (b : Bounds) (before after : Known) (arguments : List (List ℕ)) (old new : Session) (rs : List Token) : Type 0 where
-  pub login : after.is_authenticated ≡ true → (before.is_authenticated ≡ true) ⊎ HasLogin password arguments
-  pub gate : before.is_authenticated ≡ false → old ≡ new
-  pub excess : before.is_authenticated ≡ false → (text : List ℕ) → Exceeds arguments text → (rs ≡ Failure text ∷ []) × (after ≡ before)
-  pub did : Did l digest b before after arguments old new rs
+  pub did : IsWithoutPlace before after old new rs next
+      ⊎ MatchBool before.is_authenticated (IsServed l digest b password before after arguments old new rs) ((old ≡ new) × IsGated password before after arguments rs)
+  pub closing : next ≡ behind.End → IsClosing before arguments rs

@@ -1,5 +1,7 @@
 pub mod Sessions
 pub mod Steps
+pub mod Looks
+pub mod Reads
 pub mod Refusing
 pub mod Keyed
 pub mod Bounds
@@ -8,6 +10,7 @@ pub mod Many
 pub mod Flushes
 pub mod Sweeps
 pub mod Queues
+pub mod Transactions
 pub mod Logins
 pub mod Runs
 pub mod Answers

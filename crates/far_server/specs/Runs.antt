@@ -3,6 +3,7 @@ use Rattle.std.specs.Prelude.{◌≡◌, ◌⊎◌, ℕ, List, [], ◌∷◌, Ma
 use Rattle.table_core.specs.declared.limits.Limits.{Limits}
 use Rattle.version_words.specs.Views.{Goes}
 use Rattle.resp.specs.Replies.{Token, Failure}
+use Rattle.server_commands.specs.Replying.{AreReplies}
 use Rattle.commands.specs.Arguments.{listed}
 use Rattle.commands.specs.Commands.{Spells}
 use Rattle.commands.specs.declared.command.Command.{Command}
@@ -13,6 +14,8 @@ use Rattle.commands.specs.declared.server.ServerCommand.TheVariants as server
 use Rattle.key_commands.specs.declared.key_command.KeyCommand.TheVariants as ask
 use Rattle.key_commands.specs.Doing.{of_one_key}
 use Rattle.far_server.specs.Sessions.{Session}
+use Rattle.far_server.specs.Looks.{WasLookedAt}
+use Rattle.far_server.specs.Reads.{IsUnread}
 use Rattle.far_server.specs.Keyed.{IsKeyed}
 use Rattle.far_server.specs.Many.{IsCountedEach, IsListedIfShort, IsSetEach}
 use Rattle.far_server.specs.Flushes.{Flushes}
@@ -38,10 +41,12 @@ module _ (l : Limits) (digest : DigestKeys) (now most limit : ℕ) where
   abbrev pub IsRunAs : Command → Session → Session → List Token → Type 0
   IsRunAs c old new rs = MatchOption (of_one_key c) (IsOther c old new rs) (λ p. (r : Token) × (rs ≡ r ∷ []) × IsKeyed l digest p.0.now p.1 now most old new r)
 
-  -- the session was not touched, and the reply is an error
-  abbrev pub IsFailure : Session → Session → List Token → Type 0
-  IsFailure old new rs = (old ≡ new) × ((text : List ℕ) × (rs ≡ Failure text ∷ []))
+-- a request that can't be read touched no session, and the reply is an error
+abbrev pub IsFailure : List (List ℕ) → Session → Session → List Token → Type 0
+IsFailure arguments old new rs = (old ≡ new) × IsUnread arguments × ((text : List ℕ) × (rs ≡ Failure text ∷ []))
 
--- a request of these arguments was run at a time, as the command that they spell, or is none
+-- A request of these arguments has exactly one reply. It was run at a time at which the clock was looked at, as the command that they spell, or it
+-- can't be read.
 abbrev pub IsRequest : Limits → DigestKeys → ℕ → ℕ → List (List ℕ) → Session → Session → List Token → Type 0
-IsRequest l digest most limit arguments old new rs = (now : ℕ) × (((c : Command) × Spells arguments c × IsRunAs l digest now most limit c old new rs) ⊎ IsFailure l digest now most limit old new rs)
+IsRequest l digest most limit arguments old new rs =
+    AreReplies 1 rs × ((now : ℕ) × WasLookedAt now × (((c : Command) × Spells now arguments c × IsRunAs l digest now most limit c old new rs) ⊎ IsFailure arguments old new rs))

@@ -34,7 +34,7 @@ module _ (l : Limits) (digest : DigestKeys) (password : Option (List ℕ)) (boun
   -- what a worker does at a call
   abbrev pub Acts : WorkerView → Call → WorkerView → Type 0
   Acts before (Asked c arguments reply next) after =
-      IsAnswered l digest password bounds (before.connections c) (after.connections c) arguments before.session after.session reply
+      IsAnswered l digest password bounds (before.connections c) (after.connections c) arguments before.session after.session reply next
       × IsAdmission (before.connections c).is_authenticated (after.connections c).is_authenticated next × Leaves c before after
   Acts before (Left c) after = (after.session ≡ before.session) × (after.connections c ≡ unknown password) × Leaves c before after
   Acts before (Opened c address let_in) after = (let_in ≡ true → is_free password ≡ true) × Stays before after

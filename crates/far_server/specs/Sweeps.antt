@@ -6,13 +6,13 @@ use Rattle.commands.specs.Stored.{stored}
 use Rattle.hash_table.specs.declared.removal.Removal.{Removal}
 use Rattle.far_map.specs.declared.refusal.MapRefusal.{MapRefusal}
 use Rattle.far_map.specs.Removals.{call_of, found_in, IsMet}
+use Rattle.far_server.specs.Looks.{WasLookedAt}
 use Rattle.far_server.specs.Sessions.{Session, Called}
 use Rattle.far_server.specs.Steps.{Steps}
 use Rattle.far_server.specs.Flushes.{Removes}
 
--- stored bytes whose deadline had come at a time
-pub record IsOver (bytes : List ℕ) : Type 0 where
-  pub now : ℕ
+-- stored bytes whose deadline had come at this time
+pub record IsOver (now : ℕ) (bytes : List ℕ) : Type 0 where
   pub deadline : ℕ
   pub value : List ℕ
   pub form : bytes ≡ stored deadline value
@@ -20,11 +20,13 @@ pub record IsOver (bytes : List ℕ) : Type 0 where
   pub come : deadline ≤ now
 
 module _ (l : Limits) where
-  -- a key was taken out where its value was still this expired one
+  -- a key was taken out where its value was still this one, which was expired when the clock was looked at
   pub record Expires (old new : Session) : Type 0 where
     pub key : List ℕ
     pub expired : List ℕ
-    pub is_over : IsOver expired
+    pub now : ℕ
+    pub looked : WasLookedAt now
+    pub is_over : IsOver now expired
     pub result : Result (Removal (List ℕ)) MapRefusal
     pub called : Called l old new (call_of key result) (found_in result)
     pub met : IfOk result (IsMet expired)

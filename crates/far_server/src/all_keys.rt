@@ -2,6 +2,7 @@
 ghost use Rattle.std.specs.Prelude.{◌≡◌, ◌<◌, ◌++◌, ◌∷◌, [], ℕ, List, length, IfOk, OnErr, OnOk};
 ghost use Rattle.std.specs.List.{flat_map};
 ghost use Rattle.resp.specs.Replies.{Token, Count, String, token};
+ghost use Rattle.server_commands.specs.Replying.{Replies};
 ghost use Rattle.version_words.specs.Views.{Goes};
 ghost use Rattle.far_server.specs.Flushes.{Flushes};
 ghost use Rattle.far_server.specs.Lists.{told_key, told_keys};
@@ -236,7 +237,7 @@ pub(crate) fn answer_scan<S: Calls<Blob>, R: Wait>(
     reply: &mut Vec<u8>,
 ) -> Result<(), AllocError>
     ensures goes { Goes (S.shown me.old).pass (S.shown me.new).pass }
-    ensures said { OnOk result ((rs : List Token) × (reply.new.items ≡ reply.old.items ++ flat_map token rs)) }
+    ensures said { OnOk result (Replies 1 reply.old.items reply.new.items) }
 {
     match find(rt, alloc, me, scan, now) {
         Ok((next, found)) => {
@@ -321,7 +322,7 @@ pub(crate) fn answer_flush<S: Calls<Blob>, R: Wait>(
     reply: &mut Vec<u8>,
 ) -> Result<(), AllocError>
     ensures flushes { Flushes S.limits (S.shown me.old) (S.shown me.new) }
-    ensures said { OnOk result ((rs : List Token) × (reply.new.items ≡ reply.old.items ++ flat_map token rs)) }
+    ensures said { OnOk result (Replies 1 reply.old.items reply.new.items) }
 {
     match empty_all(rt, alloc, me, workspace) {
         Ok(()) => push_one_simple(reply, b"OK"),

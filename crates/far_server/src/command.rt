@@ -1,10 +1,12 @@
 //! Runs a command, by the module that carries it out.
-ghost use Rattle.std.specs.Prelude.{◌≡◌, ◌++◌, ℕ, List, OnOk, OnErr, IfOk};
+ghost use Rattle.std.specs.Prelude.{◌≡◌, ◌++◌, true, ℕ, List, OnOk, OnErr};
 ghost use Rattle.std.specs.List.{flat_map};
 ghost use Rattle.resp.specs.Replies.{Token, token};
 ghost use Rattle.commands.specs.Arguments.{listed};
-ghost use Rattle.commands.specs.Commands.{Spells};
+ghost use Rattle.server_commands.specs.Replying.{AreReplies, Replies};
 ghost use Rattle.version_words.specs.Views.{Goes};
+ghost use Rattle.far_server.specs.Looks.{WasLookedAt};
+ghost use Rattle.far_server.specs.Reads.{IsReadAt};
 ghost use Rattle.far_server.specs.Runs.{IsOfKeys, IsOther, IsRunAs, IsRequest};
 
 use crate::all_keys::{answer_flush, answer_scan};
@@ -21,7 +23,7 @@ use crate::reserve::has_room_for;
 use crate::several_keys::{count_keys, get_keys, set_pairs};
 use crate::slow_log::{is_secret, note_slow};
 use crate::usage::FarUsage;
-use commands::{Arguments, Command, CommandFault, OfKeys, OfNothing, ServerCommand};
+use commands::{Arguments, Command, CommandFault, OfKeys, OfNothing, ServerCommand, read};
 use far_blob::Blob;
 use far_map::{Calls, MapRefusal};
 use key_commands::{KeyCommand, on_one_key};
@@ -45,7 +47,7 @@ fn run_keys<S: Calls<Blob>, R: Wait>(
     workspace: &mut Workspace,
     reply: &mut Vec<u8>,
 ) -> Result<(), AllocError>
-    ensures { OnOk result ((rs : List Token) × (reply.new.items ≡ reply.old.items ++ flat_map token rs) × IsOfKeys S.limits digest_keys now most limit of (listed keys.entry) (S.shown me.old) (S.shown me.new) rs) }
+    ensures { OnOk result ((rs : List Token) × (reply.new.items ≡ reply.old.items ++ flat_map token rs) × AreReplies 1 rs × IsOfKeys S.limits digest_keys now most limit of (listed keys.entry) (S.shown me.old) (S.shown me.new) rs) }
 {
     let deletes = Asking {
         command: KeyCommand::Delete,
@@ -88,9 +90,10 @@ fn answer_at_hand<S: Calls<Blob>, C: Clock, R: Wait>(
     reply: &mut Vec<u8>,
 ) -> Result<(), AllocError>
     ensures goes { Goes (S.shown me.old).pass (S.shown me.new).pass }
-    ensures said { OnOk result ((rs : List Token) × (reply.new.items ≡ reply.old.items ++ flat_map token rs)) }
+    ensures said { OnOk result (Replies 1 reply.old.items reply.new.items) }
     ensures kept { OnErr result (reply.new.items ≡ reply.old.items) }
     ensures queue { connection.new.queue ≡ connection.old.queue }
+    ensures stays { connection.old.is_authenticated ≡ true → connection.new.is_authenticated ≡ true }
 {
     match command {
         Command::Nothing(OfNothing::DbSize) => push_one_number(reply, keys(context)),
@@ -117,8 +120,9 @@ fn answer_or_refuse<S: Calls<Blob>, C: Clock, R: Wait>(
     reply: &mut Vec<u8>,
 ) -> Result<(), AllocError>
     ensures goes { Goes (S.shown me.old).pass (S.shown me.new).pass }
-    ensures said { OnOk result ((rs : List Token) × (reply.new.items ≡ reply.old.items ++ flat_map token rs)) }
+    ensures said { OnOk result ((rs : List Token) × (reply.new.items ≡ reply.old.items ++ flat_map token rs) × AreReplies 1 rs) }
     ensures queue { connection.new.queue ≡ connection.old.queue }
+    ensures stays { connection.old.is_authenticated ≡ true → connection.new.is_authenticated ≡ true }
 {
     let before = reply.len();
     match answer_at_hand(context, me, connection, workspace, command, now, reply) {
@@ -144,8 +148,9 @@ fn run_other<S: Calls<Blob>, C: Clock, R: Wait>(
     limit: usize,
     reply: &mut Vec<u8>,
 ) -> Result<(), AllocError>
-    ensures ran { OnOk result ((rs : List Token) × (reply.new.items ≡ reply.old.items ++ flat_map token rs) × IsOther S.limits context.now.settings.now.digest_keys now context.now.settings.now.bounds.longest_value limit command.entry (S.shown me.old) (S.shown me.new) rs) }
+    ensures ran { OnOk result ((rs : List Token) × (reply.new.items ≡ reply.old.items ++ flat_map token rs) × AreReplies 1 rs × IsOther S.limits context.now.settings.now.digest_keys now context.now.settings.now.bounds.longest_value limit command.entry (S.shown me.old) (S.shown me.new) rs) }
     ensures queue { connection.new.queue ≡ connection.old.queue }
+    ensures stays { connection.old.is_authenticated ≡ true → connection.new.is_authenticated ≡ true }
 {
     let (rt, alloc) = (context.rt, context.alloc);
     let most = context.settings.bounds.longest_value;
@@ -207,8 +212,9 @@ fn run_command<S: Calls<Blob>, C: Clock, R: Wait>(
     limit: usize,
     reply: &mut Vec<u8>,
 ) -> Result<(), AllocError>
-    ensures ran { OnOk result ((rs : List Token) × (reply.new.items ≡ reply.old.items ++ flat_map token rs) × IsRunAs S.limits context.now.settings.now.digest_keys now context.now.settings.now.bounds.longest_value limit command.entry (S.shown me.old) (S.shown me.new) rs) }
+    ensures ran { OnOk result ((rs : List Token) × (reply.new.items ≡ reply.old.items ++ flat_map token rs) × AreReplies 1 rs × IsRunAs S.limits context.now.settings.now.digest_keys now context.now.settings.now.bounds.longest_value limit command.entry (S.shown me.old) (S.shown me.new) rs) }
     ensures queue { connection.new.queue ≡ connection.old.queue }
+    ensures stays { connection.old.is_authenticated ≡ true → connection.new.is_authenticated ≡ true }
 {
     match on_one_key(command) {
         Some((key, command)) => {
@@ -228,6 +234,16 @@ fn run_command<S: Calls<Blob>, C: Clock, R: Wait>(
     }
 }
 
+/// Reads a request: the command that it spells, or the fault that Redis would find first.
+pub(crate) fn read_request(
+    request: Arguments<'_>,
+    now: u64,
+) -> Result<Command<'_>, CommandFault<'_>>
+    ensures { IsReadAt now (listed request.entry) result }
+{
+    read(request, now)
+}
+
 /// Runs a request that was read, and measures its command for SLOWLOG. The reply is that of its command, or the fault that Redis would find first.
 /// `limit` is how many bytes the reply may have.
 pub(crate) fn run<S: Calls<Blob>, C: Clock, R: Wait>(
@@ -241,9 +257,11 @@ pub(crate) fn run<S: Calls<Blob>, C: Clock, R: Wait>(
     limit: usize,
     reply: &mut Vec<u8>,
 ) -> Result<(), AllocError>
-    requires { IfOk asked (λ c. Spells (listed request) c) }
+    requires read { IsReadAt now (listed request) asked }
+    requires looked { WasLookedAt now }
     ensures ran { OnOk result ((rs : List Token) × (reply.new.items ≡ reply.old.items ++ flat_map token rs) × IsRequest S.limits context.now.settings.now.digest_keys context.now.settings.now.bounds.longest_value limit (listed request.entry) (S.shown me.old) (S.shown me.new) rs) }
     ensures queue { connection.new.queue ≡ connection.old.queue }
+    ensures stays { connection.old.is_authenticated ≡ true → connection.new.is_authenticated ≡ true }
 {
     match asked {
         Ok(command) => {

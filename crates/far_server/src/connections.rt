@@ -1,14 +1,13 @@
 //! The connections of a worker, each found by its number.
-ghost use Rattle.std.specs.Prelude.{◌≡◌, ◌≢◌, ◌++◌, ◌∷◌, [], ℕ, List, Bool, IfOk, OnOk};
+ghost use Rattle.std.specs.Prelude.{◌≡◌, ◌≢◌, ◌++◌, ℕ, List, Bool, IfOk};
 ghost use Rattle.std.specs.List.{flat_map};
-ghost use Rattle.resp.specs.Replies.{Token, Failure, token};
+ghost use Rattle.resp.specs.Replies.{Token, token};
 ghost use Rattle.commands.specs.Arguments.{listed};
-ghost use Rattle.far_server.specs.Logins.{Exceeds};
+ghost use Rattle.request_loop.specs.declared.service.Next.TheVariants as ends;
 ghost use Rattle.far_server.specs.Answers.{Known, known_at, new_known, IsAdmission, IsAnswered};
 
 use crate::connection::Connection;
 use crate::context::{ServerContext, Workspace};
-use crate::login::excess_of;
 use crate::one_reply::push_one_failure;
 use crate::refusal::text_of;
 use crate::request::answer_request;
@@ -73,22 +72,11 @@ pub(crate) fn forget(connections: &mut BTreeMap<u64, Connection>, number: u64) -
     connections.remove(&number).is_some()
 }
 
-/// Refuses a request of a connection that has no place. If the request is larger than an unauthenticated
-/// connection may send, the error says so, whether a password is set or not. Otherwise it says that memory
-/// was refused.
-fn refuse(request: Arguments<'_>, reply: &mut Vec<u8>) -> Result<(), AllocError>
-    ensures { OnOk result ((text : List ℕ) × (reply.new.items ≡ reply.old.items ++ flat_map token (Failure text ∷ [])) × ((other : List ℕ) → Exceeds (listed request.entry) other → other ≡ text)) }
-{
-    match excess_of(request) {
-        Some(text) => push_one_failure(reply, text),
-        None => push_one_failure(reply, text_of(MapRefusal::Memory)),
-    }
-}
-
 /// What the request loop does after a request. It lets a connection in that was not authenticated before and
 /// is now, and lets one out that was and is not any more. If the connection ends, it only ends.
 fn turned(might: bool, may: bool, next: Next) -> Next
-    ensures { IsAdmission might may result }
+    ensures admission { IsAdmission might may result }
+    ensures end { (result ≡ ends.End → next ≡ ends.End) × (next ≡ ends.End → result ≡ ends.End) }
 {
     match next {
         Next::End => Next::End,
@@ -115,7 +103,7 @@ pub(crate) fn answer_at<S: Calls<Blob>, C: Clock, R: Wait>(
     request: Arguments<'_>,
     reply: &mut Vec<u8>,
 ) -> Result<Next, AllocError>
-    ensures answered { OnOk result ((rs : List Token) × (reply.new.items ≡ reply.old.items ++ flat_map token rs) × ((e : Known) → IsAnswered S.limits context.now.settings.now.digest_keys context.now.settings.now.password context.now.settings.now.bounds (known_at connections.old.entries number e) (known_at connections.new.entries number e) (listed request.entry) (S.shown me.old) (S.shown me.new) rs)) }
+    ensures answered { IfOk result (λ next. (rs : List Token) × (reply.new.items ≡ reply.old.items ++ flat_map token rs) × ((e : Known) → IsAnswered S.limits context.now.settings.now.digest_keys context.now.settings.now.password context.now.settings.now.bounds (known_at connections.old.entries number e) (known_at connections.new.entries number e) (listed request.entry) (S.shown me.old) (S.shown me.new) rs next)) }
     ensures told { IfOk result (λ next. (e : Known) → IsAdmission (known_at connections.old.entries number e).is_authenticated (known_at connections.new.entries number e).is_authenticated next) }
     ensures others { (d : ℕ) (e : Known) → d ≢ number → known_at connections.new.entries d e ≡ known_at connections.old.entries d e }
 {
@@ -128,7 +116,7 @@ pub(crate) fn answer_at<S: Calls<Blob>, C: Clock, R: Wait>(
                 Err(refused) => Err(refused),
             }
         }
-        None => match refuse(request, reply) {
+        None => match push_one_failure(reply, text_of(MapRefusal::Memory)) {
             Ok(()) => Ok(Next::End),
             Err(refused) => Err(refused),
         },

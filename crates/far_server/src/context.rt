@@ -1,5 +1,6 @@
 //! What the requests of a worker share: what all workers have in common, and the worker's buffers and
 //! statistics.
+ghost use Rattle.far_server.specs.Looks.{WasLookedAt};
 
 use crate::deadlines::has_deadline;
 use crate::renewal::Renewal;
@@ -12,6 +13,7 @@ use far_map::Traffic;
 use rand::rngs::SmallRng;
 use server_commands::{Statistic, Statistics};
 use std::alloc::Global;
+use std::io;
 use std::rt::Clock;
 use std::thread::Parker;
 use std::time::{Duration, SystemTime, UNIX_EPOCH};
@@ -118,13 +120,20 @@ impl Workspace {
     }
 }
 
-/// The milliseconds since 1970; 0 if the clock can't be read.
-pub(crate) fn milliseconds<C: Clock>(clock: &C) -> u64 {
-    let Ok(now) = SystemTime::now(clock) else {
+/// A time in milliseconds since 1970: 0 if the clock gives none, or one before 1970.
+fn milliseconds_of(now: io::Result<SystemTime>) -> u64 {
+    let Ok(now) = now else {
         return 0;
     };
     let Ok(since) = now.duration_since(UNIX_EPOCH) else {
         return 0;
     };
     since.as_millis().min(u128::from(u64::MAX)) as u64
+}
+
+/// The clock's time, in milliseconds since 1970: 0 if it gives none, or one before 1970.
+pub(crate) fn milliseconds<C: Clock>(clock: &C) -> u64
+    ensures { WasLookedAt result }
+{
+    milliseconds_of(SystemTime::now(clock))
 }

@@ -15,7 +15,7 @@ pub(crate) fn has_deadline(stored: &[u8]) -> bool {
 
 /// Whether a stored value is expired at the time `now`, in milliseconds since 1970. At 0 none is.
 pub(crate) fn is_over(value: &Blob, now: u64) -> bool
-    ensures { IsTrue result → IsOver value.now }
+    ensures { IsTrue result → IsOver now value.now }
 {
     match read_stored(value.as_bytes()) {
         Some((deadline, _)) => is_expired(deadline, now),

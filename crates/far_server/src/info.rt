@@ -1,7 +1,6 @@
 //! Commands to the server itself, and about a connection, for example INFO and CLIENT SETNAME.
-ghost use Rattle.std.specs.Prelude.{◌≡◌, ◌⊎◌, ◌++◌, true, ℕ, List, OnOk, OnErr};
-ghost use Rattle.std.specs.List.{flat_map};
-ghost use Rattle.resp.specs.Replies.{Token, token};
+ghost use Rattle.std.specs.Prelude.{◌≡◌, ◌⊎◌, true, OnOk, OnErr};
+ghost use Rattle.server_commands.specs.Replying.{Replies};
 ghost use Rattle.far_server.specs.Logins.{AsksToPass};
 
 use crate::connection::Connection;
@@ -108,10 +107,11 @@ pub(crate) fn answer_server<S: Calls<Blob>, C, R: Wait>(
     now: u64,
     reply: &mut Vec<u8>,
 ) -> Result<(), AllocError>
-    ensures said { OnOk result ((rs : List Token) × (reply.new.items ≡ reply.old.items ++ flat_map token rs)) }
+    ensures said { OnOk result (Replies 1 reply.old.items reply.new.items) }
     ensures kept { OnErr result (reply.new.items ≡ reply.old.items) }
     ensures login { connection.new.is_authenticated ≡ true → (connection.old.is_authenticated ≡ true) ⊎ AsksToPass context.now.settings.now.password command.entry }
     ensures queue { connection.new.queue ≡ connection.old.queue }
+    ensures stays { connection.old.is_authenticated ≡ true → connection.new.is_authenticated ≡ true }
 {
     match command {
         ServerCommand::Auth(login) => answer_auth(context.settings, connection, login, reply),
@@ -148,7 +148,7 @@ fn answer_slow_log_reset<C, R: Wait>(
     context: &ServerContext<'_, C, R>,
     reply: &mut Vec<u8>,
 ) -> Result<(), AllocError>
-    ensures said { OnOk result ((rs : List Token) × (reply.new.items ≡ reply.old.items ++ flat_map token rs)) }
+    ensures said { OnOk result (Replies 1 reply.old.items reply.new.items) }
     ensures kept { OnErr result (reply.new.items ≡ reply.old.items) }
 {
     context.slow_log.reset(context.rt);
@@ -156,7 +156,7 @@ fn answer_slow_log_reset<C, R: Wait>(
 }
 
 fn push_name(reply: &mut Vec<u8>, connection: &Connection) -> Result<(), AllocError>
-    ensures said { OnOk result ((rs : List Token) × (reply.new.items ≡ reply.old.items ++ flat_map token rs)) }
+    ensures said { OnOk result (Replies 1 reply.old.items reply.new.items) }
     ensures kept { OnErr result (reply.new.items ≡ reply.old.items) }
 {
     if connection.name.is_empty() {

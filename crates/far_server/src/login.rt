@@ -1,9 +1,10 @@
 //! Who may ask: AUTH, HELLO, and the limits of requests before the login.
-ghost use Rattle.std.specs.Prelude.{◌≡◌, ◌⊎◌, ◌++◌, true, List, ℕ, MatchBool, MatchOption, IsTrue, OnOk, OnErr};
+ghost use Rattle.std.specs.Prelude.{◌≡◌, ◌⊎◌, ◌++◌, true, List, ℕ, MatchBool, MatchOption, IsTrue, IsFalse, OnOk, OnErr};
 ghost use Rattle.std.specs.List.{flat_map};
 ghost use Rattle.resp.specs.Replies.{Token, token};
 ghost use Rattle.commands.specs.Arguments.{listed};
-ghost use Rattle.far_server.specs.Logins.{IsLogin, IsRight, AreShort, HasLong, IsModest, Exceeds};
+ghost use Rattle.server_commands.specs.Replying.{Replies};
+ghost use Rattle.far_server.specs.Logins.{IsLogin, IsRight, AreShort, HasLong, IsModest, Exceeds, IsAuthReply, IsGreeted, IsHelloReply};
 
 use crate::connection::Connection;
 use crate::one_reply::{push_one_failure, push_one_simple};
@@ -98,10 +99,12 @@ pub(crate) fn answer_auth(
     login: Login<'_>,
     reply: &mut Vec<u8>,
 ) -> Result<(), AllocError>
-    ensures said { OnOk result ((rs : List Token) × (reply.new.items ≡ reply.old.items ++ flat_map token rs)) }
+    ensures told { OnOk result ((rs : List Token) × (reply.new.items ≡ reply.old.items ++ flat_map token rs) × IsAuthReply settings.now.password login.entry connection.old.is_authenticated connection.new.is_authenticated rs) }
+    ensures said { OnOk result (Replies 1 reply.old.items reply.new.items) }
     ensures kept { OnErr result (reply.new.items ≡ reply.old.items) }
     ensures login { connection.new.is_authenticated ≡ true → (connection.old.is_authenticated ≡ true) ⊎ IsLogin settings.now.password login.entry.password.now }
     ensures queue { connection.new.queue ≡ connection.old.queue }
+    ensures stays { connection.old.is_authenticated ≡ true → connection.new.is_authenticated ≡ true }
 {
     if settings.password.is_none() && login.user.is_none() {
         return push_one_failure(reply, NO_PASSWORD);
@@ -113,29 +116,43 @@ pub(crate) fn answer_auth(
     push_one_simple(reply, b"OK")
 }
 
-/// Answers HELLO, which may log in and name the connection. If the name is refused, a login by the same HELLO
-/// still holds.
-pub(crate) fn answer_hello(
-    settings: &ServerSettings,
+/// Authenticates the connection by the login of a HELLO, if it has one. Returns whether it has none, or a right
+/// one.
+fn log_in(settings: &ServerSettings, connection: &mut Connection, login: Option<Login<'_>>) -> bool
+    ensures may { (connection.new.is_authenticated ≡ connection.old.is_authenticated) ⊎ ((connection.new.is_authenticated ≡ true) × IsRight settings.now.password login.entry) }
+    ensures queue { connection.new.queue ≡ connection.old.queue }
+    ensures stays { connection.old.is_authenticated ≡ true → connection.new.is_authenticated ≡ true }
+    ensures kept { IsFalse result → connection.new.is_authenticated ≡ connection.old.is_authenticated }
+{
+    match login {
+        Some(login) => {
+            if !is_right(&settings.password, login) {
+                return false;
+            }
+            connection.is_authenticated = true;
+            true
+        }
+        None => true,
+    }
+}
+
+/// Names the connection, if HELLO says how, and greets it. If it may not ask, or the name is refused, the reply
+/// is an error.
+fn greet(
     connection: &mut Connection,
-    greeting: Greeting<'_>,
+    name: Option<&[u8]>,
     reply: &mut Vec<u8>,
 ) -> Result<(), AllocError>
-    ensures said { OnOk result ((rs : List Token) × (reply.new.items ≡ reply.old.items ++ flat_map token rs)) }
+    ensures told { OnOk result ((rs : List Token) × (reply.new.items ≡ reply.old.items ++ flat_map token rs) × IsGreeted connection.new.is_authenticated rs) }
+    ensures said { OnOk result (Replies 1 reply.old.items reply.new.items) }
     ensures kept { OnErr result (reply.new.items ≡ reply.old.items) }
-    ensures login { connection.new.is_authenticated ≡ true → (connection.old.is_authenticated ≡ true) ⊎ IsRight settings.now.password greeting.entry.login }
+    ensures is_authenticated { connection.new.is_authenticated ≡ connection.old.is_authenticated }
     ensures queue { connection.new.queue ≡ connection.old.queue }
 {
-    if let Some(login) = greeting.login {
-        if !is_right(&settings.password, login) {
-            return push_one_failure(reply, WRONG_LOGIN);
-        }
-        connection.is_authenticated = true;
-    }
     if !connection.is_authenticated {
         return push_one_failure(reply, NO_LOGIN_OF_HELLO);
     }
-    if let Some(name) = greeting.name {
+    if let Some(name) = name {
         match connection.set_name(name) {
             Ok(true) => {}
             Ok(false) => return push_one_failure(reply, LONG_NAME),
@@ -145,6 +162,27 @@ pub(crate) fn answer_hello(
     server_commands::hello(connection.id, reply)
 }
 
+/// Answers HELLO, which may log in and name the connection. If the name is refused, a login by the same HELLO
+/// still holds.
+pub(crate) fn answer_hello(
+    settings: &ServerSettings,
+    connection: &mut Connection,
+    greeting: Greeting<'_>,
+    reply: &mut Vec<u8>,
+) -> Result<(), AllocError>
+    ensures told { OnOk result ((rs : List Token) × (reply.new.items ≡ reply.old.items ++ flat_map token rs) × IsHelloReply settings.now.password greeting.entry connection.old.is_authenticated connection.new.is_authenticated rs) }
+    ensures said { OnOk result (Replies 1 reply.old.items reply.new.items) }
+    ensures kept { OnErr result (reply.new.items ≡ reply.old.items) }
+    ensures login { connection.new.is_authenticated ≡ true → (connection.old.is_authenticated ≡ true) ⊎ IsRight settings.now.password greeting.entry.login }
+    ensures queue { connection.new.queue ≡ connection.old.queue }
+    ensures stays { connection.old.is_authenticated ≡ true → connection.new.is_authenticated ≡ true }
+{
+    if !log_in(settings, connection, greeting.login) {
+        return push_one_failure(reply, WRONG_LOGIN);
+    }
+    greet(connection, greeting.name, reply)
+}
+
 /// Answers CLIENT SETNAME. If the name is too long, or memory is refused for it, the reply is an error, and
 /// the old name stays.
 pub(crate) fn answer_set_name(
@@ -152,7 +190,7 @@ pub(crate) fn answer_set_name(
     name: &[u8],
     reply: &mut Vec<u8>,
 ) -> Result<(), AllocError>
-    ensures said { OnOk result ((rs : List Token) × (reply.new.items ≡ reply.old.items ++ flat_map token rs)) }
+    ensures said { OnOk result (Replies 1 reply.old.items reply.new.items) }
     ensures kept { OnErr result (reply.new.items ≡ reply.old.items) }
     ensures is_authenticated { connection.new.is_authenticated ≡ connection.old.is_authenticated }
     ensures queue { connection.new.queue ≡ connection.old.queue }

@@ -1,7 +1,8 @@
 //! Replies of one token: an error, a status, a string, a number or the null reply.
 ghost use Rattle.std.specs.Prelude.{◌≡◌, ◌++◌, ◌∷◌, [], ℕ, List, OnOk, OnErr};
 ghost use Rattle.std.specs.List.{flat_map};
-ghost use Rattle.resp.specs.Replies.{Token, Failure, Simple, String, Number, Nothing, token};
+ghost use Rattle.resp.specs.Replies.{Failure, Simple, String, Number, Nothing, token};
+ghost use Rattle.server_commands.specs.Replying.{Replies};
 
 use crate::refusal::text_of;
 use crate::reserve::has_room_for;
@@ -13,7 +14,7 @@ use std::alloc::AllocError;
 /// Pushes an error. If memory is refused, `reply` is as before.
 pub(crate) fn push_one_failure(reply: &mut Vec<u8>, text: &[u8]) -> Result<(), AllocError>
     ensures exact { OnOk result (reply.new.items ≡ reply.old.items ++ flat_map token (Failure text.now ∷ [])) }
-    ensures said { OnOk result ((rs : List Token) × (reply.new.items ≡ reply.old.items ++ flat_map token rs)) }
+    ensures said { OnOk result (Replies 1 reply.old.items reply.new.items) }
     ensures kept { OnErr result (reply.new.items ≡ reply.old.items) }
 {
     push_failure(reply, text)
@@ -22,7 +23,7 @@ pub(crate) fn push_one_failure(reply: &mut Vec<u8>, text: &[u8]) -> Result<(), A
 /// Pushes a status. If memory is refused, `reply` is as before.
 pub(crate) fn push_one_simple(reply: &mut Vec<u8>, text: &[u8]) -> Result<(), AllocError>
     ensures exact { OnOk result (reply.new.items ≡ reply.old.items ++ flat_map token (Simple text.now ∷ [])) }
-    ensures said { OnOk result ((rs : List Token) × (reply.new.items ≡ reply.old.items ++ flat_map token rs)) }
+    ensures said { OnOk result (Replies 1 reply.old.items reply.new.items) }
     ensures kept { OnErr result (reply.new.items ≡ reply.old.items) }
 {
     push_simple(reply, text)
@@ -31,7 +32,7 @@ pub(crate) fn push_one_simple(reply: &mut Vec<u8>, text: &[u8]) -> Result<(), Al
 /// Pushes a string. If memory is refused, `reply` is as before.
 pub(crate) fn push_one_string(reply: &mut Vec<u8>, bytes: &[u8]) -> Result<(), AllocError>
     ensures exact { OnOk result (reply.new.items ≡ reply.old.items ++ flat_map token (String bytes.now ∷ [])) }
-    ensures said { OnOk result ((rs : List Token) × (reply.new.items ≡ reply.old.items ++ flat_map token rs)) }
+    ensures said { OnOk result (Replies 1 reply.old.items reply.new.items) }
     ensures kept { OnErr result (reply.new.items ≡ reply.old.items) }
 {
     push_string(reply, bytes)
@@ -40,7 +41,7 @@ pub(crate) fn push_one_string(reply: &mut Vec<u8>, bytes: &[u8]) -> Result<(), A
 /// Pushes a number. If memory is refused, `reply` is as before.
 pub(crate) fn push_one_number(reply: &mut Vec<u8>, n: i64) -> Result<(), AllocError>
     ensures exact { OnOk result (reply.new.items ≡ reply.old.items ++ flat_map token (Number n ∷ [])) }
-    ensures said { OnOk result ((rs : List Token) × (reply.new.items ≡ reply.old.items ++ flat_map token rs)) }
+    ensures said { OnOk result (Replies 1 reply.old.items reply.new.items) }
     ensures kept { OnErr result (reply.new.items ≡ reply.old.items) }
 {
     push_number(reply, n)
@@ -49,7 +50,7 @@ pub(crate) fn push_one_number(reply: &mut Vec<u8>, n: i64) -> Result<(), AllocEr
 /// Pushes the null reply. If memory is refused, `reply` is as before.
 pub(crate) fn push_one_nothing(reply: &mut Vec<u8>) -> Result<(), AllocError>
     ensures exact { OnOk result (reply.new.items ≡ reply.old.items ++ flat_map token (Nothing ∷ [])) }
-    ensures said { OnOk result ((rs : List Token) × (reply.new.items ≡ reply.old.items ++ flat_map token rs)) }
+    ensures said { OnOk result (Replies 1 reply.old.items reply.new.items) }
     ensures kept { OnErr result (reply.new.items ≡ reply.old.items) }
 {
     push_nothing(reply)

@@ -1,8 +1,9 @@
 //! The requests that wait for EXEC, and how much memory they take.
-ghost use Rattle.std.specs.Prelude.{◌≡◌, ◌++◌, ◌∷◌, [], map, length, IfOk, OnOk, OnErr};
+ghost use Rattle.std.specs.Prelude.{◌≡◌, ◌++◌, ◌∷◌, [], true, false, map, length, IfOk, OnOk, OnErr};
 ghost use Rattle.resp.specs.Parsing.{AreWithin};
 ghost use Rattle.commands.specs.Arguments.{listed};
 ghost use Rattle.far_server.specs.Queues.{held, waiting};
+ghost use Rattle.far_server.specs.Transactions.{waits_of};
 
 use commands::{Arguments, Span};
 use std::alloc::{AllocError, Global};
@@ -80,7 +81,7 @@ pub(crate) struct Queue {
 
 impl Queue {
     pub(crate) fn new(alloc: Global) -> Queue
-        ensures { waiting result ≡ [] }
+        ensures { waits_of result ≡ record { requests = []; is_spoilt = false } }
     {
         Queue {
             requests: Vec::new(alloc),
@@ -89,12 +90,14 @@ impl Queue {
         }
     }
 
-    pub(crate) fn is_spoilt(&self) -> bool {
+    pub(crate) fn is_spoilt(&self) -> bool
+        ensures { result ≡ self.now.is_spoilt }
+    {
         self.is_spoilt
     }
 
     pub(crate) fn spoil(&mut self)
-        ensures { waiting self.new ≡ waiting self.old }
+        ensures { waits_of self.new ≡ record { requests = waiting self.old; is_spoilt = true } }
     {
         self.is_spoilt = true;
     }
@@ -117,6 +120,7 @@ impl Queue {
     pub(crate) fn push(&mut self, alloc: Global, request: Arguments<'_>) -> Result<(), AllocError>
         ensures pushed { OnOk result (waiting self.new ≡ waiting self.old ++ listed request.entry ∷ []) }
         ensures kept { OnErr result (waiting self.new ≡ waiting self.old) }
+        ensures is_spoilt { self.new.is_spoilt ≡ self.old.is_spoilt }
     {
         let copy = Request::copy(alloc, request)?;
         let size = copy.size();

@@ -8,6 +8,7 @@
 ghost use Rattle.std.specs.Prelude.{◌≡◌, ◌<◌, ◌≤◌, ◌++◌, ℕ, List, OnOk, OnErr};
 ghost use Rattle.std.specs.List.{flat_map};
 ghost use Rattle.resp.specs.Replies.{Token, token};
+ghost use Rattle.server_commands.specs.Replying.{Replies};
 ghost use Rattle.version_words.specs.Views.{Goes};
 ghost use Rattle.far_server.specs.Lists.{IsToldOne};
 
@@ -125,6 +126,7 @@ fn drawn_keys<S: Calls<Blob>, R: Wait>(
 /// Pushes the client's key of one of the keys, which is drawn, or the null reply if there are no keys.
 fn push_drawn(draws: &mut SmallRng, keys: &[Text], reply: &mut Vec<u8>) -> Result<(), AllocError>
     ensures told { OnOk result ((rs : List Token) × (reply.new.items ≡ reply.old.items ++ flat_map token rs) × IsToldOne keys.now rs) }
+    ensures said { OnOk result (Replies 1 reply.old.items reply.new.items) }
     ensures kept { OnErr result (reply.new.items ≡ reply.old.items) }
 {
     match keys.choose(draws) {
@@ -142,7 +144,7 @@ pub(crate) fn answer_random_key<S: Calls<Blob>, C, R: Wait>(
     reply: &mut Vec<u8>,
 ) -> Result<(), AllocError>
     ensures goes { Goes (S.shown me.old).pass (S.shown me.new).pass }
-    ensures said { OnOk result ((rs : List Token) × (reply.new.items ≡ reply.old.items ++ flat_map token rs)) }
+    ensures said { OnOk result (Replies 1 reply.old.items reply.new.items) }
     ensures kept { OnErr result (reply.new.items ≡ reply.old.items) }
 {
     let mut draws = match workspace.draws.take() {

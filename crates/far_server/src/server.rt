@@ -1,5 +1,6 @@
 //! A worker's service: what the request loop (`request_loop`) calls for each open, request, close, note and wake.
 ghost use Rattle.std.specs.Prelude.{◌≡◌, ℕ, Bool, []};
+ghost use Rattle.request_loop.specs.declared.service.Next.TheVariants as ends;
 ghost use Rattle.far_server.specs.Answers.{known_at, unknown, IsAdmission};
 
 use crate::connection::Connection;
@@ -88,6 +89,7 @@ impl<'a, S: Calls<Blob>, C: Clock, R: Wait> Server<'a, S, C, R, Kept> {
     /// wake.
     fn behind(&mut self, next: Next) -> Next
         ensures told { (might may : Bool) → IsAdmission might may next → IsAdmission might may result }
+        ensures end { (result ≡ ends.End → next ≡ ends.End) × (next ≡ ends.End → result ≡ ends.End) }
         ensures same_reference { self.new.me.ghost_name ≡ self.old.me.ghost_name }
         ensures session { self.new.me.now ≡ self.old.me.now }
         ensures context { self.new.context.now ≡ self.old.context.now }

@@ -1,5 +1,5 @@
 //! Commands on several keys: one key after another, each by separate calls.
-ghost use Rattle.std.specs.Prelude.{◌≡◌, ◌<◌, ◌^◌, ◌++◌, ◌∷◌, [], ℕ, List, length, take, MatchBool, MatchOption, IfSome, IsTrue, OnOk, OnErr};
+ghost use Rattle.std.specs.Prelude.{◌≡◌, ◌≢◌, ◌<◌, ◌^◌, ◌++◌, ◌∷◌, [], ℕ, List, length, take, MatchBool, MatchOption, OnOk, OnErr};
 ghost use Rattle.std.specs.List.{flat_map};
 ghost use Rattle.resp.specs.Replies.{Token, Failure, token};
 ghost use Rattle.commands.specs.Arguments.{listed};
@@ -46,7 +46,7 @@ const PLAIN: Change = Change {
 
 /// Whether a reply is 1 and not 0. None if it is neither.
 fn is_one(said: &[u8]) -> Option<bool>
-    ensures { IfSome result (λ b. MatchBool b (said.now ≡ one) (said.now ≡ none)) }
+    ensures { MatchOption result ((said.now ≢ one) × (said.now ≢ none)) (λ b. MatchBool b (said.now ≡ one) (said.now ≡ none)) }
 {
     if said == ONE {
         Some(true)
@@ -239,7 +239,7 @@ pub(crate) fn get_keys<S: Calls<Blob>, R: Wait>(
 
 /// Whether a reply is OK.
 fn is_ok(said: &[u8]) -> bool
-    ensures { IsTrue result → said.now ≡ ok }
+    ensures { MatchBool result (said.now ≡ ok) (said.now ≢ ok) }
 {
     said == OK
 }

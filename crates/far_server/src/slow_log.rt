@@ -13,9 +13,8 @@
 //! are kept without their arguments. A command is copied before the lock is taken, so a lock is held only for
 //! as long as an entry is put in front of the others, or SLOWLOG GET copies its reply. If memory is refused
 //! for an entry, there is no entry, and the command has its reply all the same.
-ghost use Rattle.std.specs.Prelude.{◌≡◌, ◌++◌, ℕ, List, OnOk, OnErr};
-ghost use Rattle.std.specs.List.{flat_map};
-ghost use Rattle.resp.specs.Replies.{Token, token};
+ghost use Rattle.std.specs.Prelude.{◌≡◌, OnOk, OnErr};
+ghost use Rattle.server_commands.specs.Replying.{Replies};
 
 use crate::connection::Connection;
 use crate::context::ServerContext;
@@ -182,7 +181,7 @@ impl SlowLog {
         most: Option<u64>,
         reply: &mut Vec<u8>,
     ) -> Result<(), AllocError>
-        ensures said { OnOk result ((rs : List Token) × (reply.new.items ≡ reply.old.items ++ flat_map token rs)) }
+        ensures said { OnOk result (Replies 1 reply.old.items reply.new.items) }
         ensures kept { OnErr result (reply.new.items ≡ reply.old.items) }
     {
         let most = match most {

@@ -15,6 +15,7 @@
 //! is set.
 ghost use Rattle.std.specs.Prelude.{◌<◌, Bool, true};
 ghost use Rattle.version_words.specs.Views.{Goes};
+ghost use Rattle.far_server.specs.Looks.{WasLookedAt};
 ghost use Rattle.far_server.specs.Sweeps.{IsSweeping, Sweeps};
 
 use crate::context::{ServerContext, Workspace, milliseconds};
@@ -100,6 +101,7 @@ pub(crate) fn expire<S: Calls<Blob>, R: Wait>(
     now: u64,
     workspace: &mut Workspace,
 ) -> Result<bool, MapRefusal>
+    requires { WasLookedAt now }
     ensures { (evicts : Bool) → Sweeps S.limits evicts (S.shown me.old) (S.shown me.new) }
 {
     if !is_over(value, now) {
@@ -125,7 +127,8 @@ pub(crate) fn expire_in<S: Calls<Blob>, R: Wait>(
     now: u64,
     workspace: &mut Workspace,
 ) -> Result<bool, MapRefusal>
-    requires { bucket < S.limits.buckets }
+    requires within { bucket < S.limits.buckets }
+    requires looked { WasLookedAt now }
     ensures { (evicts : Bool) → Sweeps S.limits evicts (S.shown me.old) (S.shown me.new) }
 {
     let dated = match dated_in(rt, alloc, me, bucket) {

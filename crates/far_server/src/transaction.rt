@@ -1,21 +1,24 @@
 //! MULTI, EXEC and DISCARD: what waits between them, and how EXEC runs it.
-ghost use Rattle.std.specs.Prelude.{◌≡◌, ◌++◌, ◌∷◌, ℕ, List, length, OnOk};
+ghost use Rattle.std.specs.Prelude.{◌≡◌, ◌++◌, ◌∷◌, true, ℕ, List, length, OnOk};
 ghost use Rattle.std.specs.List.{flat_map};
 ghost use Rattle.resp.specs.Replies.{Token, Count, token};
 ghost use Rattle.commands.specs.Arguments.{listed};
 ghost use Rattle.far_server.specs.Queues.{held, waiting};
+ghost use Rattle.far_server.specs.Transactions.{waits_of, waits_in, IsBegun, IsDropped, IsHeld};
+ghost use Rattle.far_server.specs.Looks.{WasLookedAt};
+ghost use Rattle.far_server.specs.Reads.{IsRead};
 ghost use Rattle.far_server.specs.Runs.{IsRequest};
-ghost use Rattle.far_server.specs.Answers.{known, waits_in, IsHeld, MovesOn, AreExecutedEach, IsExecutedOrElse};
+ghost use Rattle.far_server.specs.Answers.{AreExecutedEach, IsExecuted};
 
 use crate::bound::{TOO_LARGE, may_grow_to};
-use crate::command::run;
+use crate::command::{read_request, run};
 use crate::connection::Connection;
 use crate::context::{ServerContext, Workspace};
 use crate::one_reply::{push_one_failure, push_one_fault, push_one_simple};
 use crate::queue::{Queue, Request};
 use crate::refusal::text_of;
 use crate::reserve::{errors_of, has_room_for_short, push_failures};
-use commands::{Arguments, Command, CommandFault, Name, Special, read};
+use commands::{Arguments, Command, CommandFault, Name, Special};
 use far_blob::Blob;
 use far_map::{Calls, MapRefusal};
 use resp::push_count;
@@ -66,7 +69,8 @@ pub(crate) fn wait(
     asked: Result<Command<'_>, CommandFault<'_>>,
     reply: &mut Vec<u8>,
 ) -> Result<(), AllocError>
-    ensures { OnOk result ((rs : List Token) × (reply.new.items ≡ reply.old.items ++ flat_map token rs) × IsHeld (waiting queue.old) (waiting queue.new) (listed request.entry) rs) }
+    requires { IsRead (listed request) asked }
+    ensures { OnOk result ((rs : List Token) × (reply.new.items ≡ reply.old.items ++ flat_map token rs) × IsHeld (waits_of queue.old) (waits_of queue.new) (listed request.entry) rs) }
 {
     if let Err(fault) = asked {
         if spoils(&fault, request.spans.len()) {
@@ -98,11 +102,13 @@ fn run_waiting<S: Calls<Blob>, C: Clock, R: Wait>(
     limit: usize,
     reply: &mut Vec<u8>,
 ) -> Result<(), AllocError>
+    requires { WasLookedAt now }
     ensures ran { OnOk result ((rs : List Token) × (reply.new.items ≡ reply.old.items ++ flat_map token rs) × IsRequest S.limits context.now.settings.now.digest_keys context.now.settings.now.bounds.longest_value limit (held request.now) (S.shown me.old) (S.shown me.new) rs) }
     ensures queue { connection.new.queue ≡ connection.old.queue }
+    ensures stays { connection.old.is_authenticated ≡ true → connection.new.is_authenticated ≡ true }
 {
     let request = request.arguments();
-    let asked = read(request, now);
+    let asked = read_request(request, now);
     run(
         context, me, connection, workspace, request, asked, now, limit, reply,
     )
@@ -121,8 +127,10 @@ fn execute<S: Calls<Blob>, C: Clock, R: Wait>(
     now: u64,
     reply: &mut Vec<u8>,
 ) -> Result<(), AllocError>
+    requires { WasLookedAt now }
     ensures ran { OnOk result ((rs : List Token) × (reply.new.items ≡ reply.old.items ++ flat_map token rs) × ((each : List Token) × AreExecutedEach S.limits context.now.settings.now.digest_keys context.now.settings.now.bounds (waiting queue.now) each (S.shown me.old) (S.shown me.new) × (rs ≡ Count (length (waiting queue.now)) ∷ each))) }
     ensures queue { connection.new.queue ≡ connection.old.queue }
+    ensures stays { connection.old.is_authenticated ≡ true → connection.new.is_authenticated ≡ true }
 {
     let bounds = context.settings.bounds;
     let limit = bounds.longest_reply as usize;
@@ -170,7 +178,9 @@ pub(crate) fn answer_exec<S: Calls<Blob>, C: Clock, R: Wait>(
     now: u64,
     reply: &mut Vec<u8>,
 ) -> Result<(), AllocError>
-    ensures { OnOk result ((rs : List Token) × (reply.new.items ≡ reply.old.items ++ flat_map token rs) × IsExecutedOrElse S.limits context.now.settings.now.digest_keys context.now.settings.now.bounds (known connection.old) (known connection.new) (S.shown me.old) (S.shown me.new) rs) }
+    requires { WasLookedAt now }
+    ensures executed { OnOk result ((rs : List Token) × (reply.new.items ≡ reply.old.items ++ flat_map token rs) × IsExecuted S.limits context.now.settings.now.digest_keys context.now.settings.now.bounds (waits_in connection.old.queue) (waits_in connection.new.queue) (S.shown me.old) (S.shown me.new) rs) }
+    ensures stays { connection.old.is_authenticated ≡ true → connection.new.is_authenticated ≡ true }
 {
     match connection.queue.take() {
         None => push_one_failure(reply, NO_MULTI_BEFORE_EXEC),
@@ -194,15 +204,19 @@ pub(crate) fn answer_multi(
     connection: &mut Connection,
     reply: &mut Vec<u8>,
 ) -> Result<(), AllocError>
-    ensures said { OnOk result ((rs : List Token) × (reply.new.items ≡ reply.old.items ++ flat_map token rs)) }
-    ensures waits { MovesOn (waits_in connection.old.queue) (waits_in connection.new.queue) }
+    ensures begun { OnOk result ((rs : List Token) × (reply.new.items ≡ reply.old.items ++ flat_map token rs) × IsBegun (waits_in connection.old.queue) (waits_in connection.new.queue) rs) }
     ensures is_authenticated { connection.new.is_authenticated ≡ connection.old.is_authenticated }
 {
-    if connection.queue.is_some() {
-        return push_one_failure(reply, NESTED);
+    match connection.queue.take() {
+        Some(queue) => {
+            connection.queue = Some(queue);
+            push_one_failure(reply, NESTED)
+        }
+        None => {
+            connection.queue = Some(Queue::new(alloc));
+            push_one_simple(reply, b"OK")
+        }
     }
-    connection.queue = Some(Queue::new(alloc));
-    push_one_simple(reply, b"OK")
 }
 
 /// Answers DISCARD: drops what waits. Without a MULTI before it that is an error.
@@ -210,12 +224,11 @@ pub(crate) fn answer_discard(
     connection: &mut Connection,
     reply: &mut Vec<u8>,
 ) -> Result<(), AllocError>
-    ensures said { OnOk result ((rs : List Token) × (reply.new.items ≡ reply.old.items ++ flat_map token rs)) }
-    ensures waits { MovesOn (waits_in connection.old.queue) (waits_in connection.new.queue) }
+    ensures dropped { OnOk result ((rs : List Token) × (reply.new.items ≡ reply.old.items ++ flat_map token rs) × IsDropped (waits_in connection.old.queue) (waits_in connection.new.queue) rs) }
     ensures is_authenticated { connection.new.is_authenticated ≡ connection.old.is_authenticated }
 {
-    match connection.queue.take() {
-        None => push_one_failure(reply, NO_MULTI_BEFORE_DISCARD),
-        Some(_) => push_one_simple(reply, b"OK"),
-    }
+    let Some(_) = connection.queue.take() else {
+        return push_one_failure(reply, NO_MULTI_BEFORE_DISCARD);
+    };
+    push_one_simple(reply, b"OK")
 }

@@ -1,4 +1,4 @@
-use Rattle.std.proofs.Common.{◌≡◌, ℕ, List, length, ◌∙◌}
+use Rattle.std.proofs.Common.{◌≡◌, length, ◌∙◌}
 use Rattle.resp.specs.Replies.{token}
 use Rattle.far_server.proofs.Pushed.{cut}
 use Rattle.far_server.proofs.one_key.apply_to.Goals as goal

@@ -1,7 +1,8 @@
-use Rattle.std.proofs.Common.{[], ◌∷◌}
+use Rattle.std.proofs.Common.{refl}
 use Rattle.resp.specs.Replies.{Number}
-use Rattle.far_server.proofs.Pushed.{on_ok, single}
+use Rattle.server_commands.proofs.Growing.{one_reply}
+use Rattle.far_server.proofs.Pushed.{on_ok}
 use Rattle.far_server.proofs.one_reply.push_one_number.Goals as goal
 
 pub returns-clause-said : goal.returns-clause-said
-returns-clause-said c = on_ok c.push_number.result (λ is. (Number _ ∷ [], single c.args.reply.now.items (Number _) c.push_number.new.out.items is)) c.push_number.ensures.items
+returns-clause-said c = on_ok c.push_number.result (λ is. one_reply (Number _) c.args.reply.now.items c.push_number.new.out.items refl is) c.push_number.ensures.items

@@ -1,7 +1,8 @@
-use Rattle.std.proofs.Common.{[], ◌∷◌}
+use Rattle.std.proofs.Common.{refl}
 use Rattle.resp.specs.Replies.{String}
-use Rattle.far_server.proofs.Pushed.{on_ok, single}
+use Rattle.server_commands.proofs.Growing.{one_reply}
+use Rattle.far_server.proofs.Pushed.{on_ok}
 use Rattle.far_server.proofs.one_reply.push_one_string.Goals as goal
 
 pub returns-clause-said : goal.returns-clause-said
-returns-clause-said c = on_ok c.push_string.result (λ is. (String c.args.bytes.now ∷ [], single c.args.reply.now.items (String c.args.bytes.now) c.push_string.new.out.items is)) c.push_string.ensures.items
+returns-clause-said c = on_ok c.push_string.result (λ is. one_reply (String c.args.bytes.now) c.args.reply.now.items c.push_string.new.out.items refl is) c.push_string.ensures.items

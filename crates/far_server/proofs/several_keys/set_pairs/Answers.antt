@@ -1,4 +1,4 @@
-use Rattle.std.proofs.Common.{◌≡◌, ℕ, IsTrue, List, [], ◌∷◌, ◌++◌, length, take, drop, ◌-◌, sym, refl, ap, ◌∙◌, inl}
+use Rattle.std.proofs.Common.{◌≡◌, ◌≢◌, ℕ, Bool, true, MatchBool, subst, List, [], ◌∷◌, ◌++◌, length, take, drop, ◌-◌, sym, refl, ap, ◌∙◌, inl}
 use Rattle.std.specs.Prelude.{codes}
 use Rattle.resp.specs.Replies.{Simple, token}
 use Rattle.commands.specs.Arguments.{listed}
@@ -15,14 +15,15 @@ loop-key-preserved g c =
     let before = c.args.reply.now.items in
     let now : c.answer_next.new.reply.items ≡ before ++ token d.0 = d.1 ∙ ap (λ (l : List ℕ). l ++ token d.0) inv.0 in
     let said : take (length c.deref.result.now - c.len-before.result) (drop c.len-before.result c.deref.result.now) ≡ token d.0 = take_rest c.deref.result.now c.len-before.result ∙ (ap (λ (l : List ℕ). drop c.len-before.result l) c.deref.ensures.value ∙ pushed c.len-before.result before (token d.0) c.answer_next.new.reply.items inv.1 now) in
-    let is_true : IsTrue c.is_ok.result = search in
-    let said_ok : token d.0 ≡ ok = sym said ∙ c.is_ok.ensures is_true in (
+    let is_true : c.is_ok.result ≡ true = search in
+    let M : Bool → Type 0 = λ b. MatchBool b (take (length c.deref.result.now - c.len-before.result) (drop c.len-before.result c.deref.result.now) ≡ ok) (take (length c.deref.result.now - c.len-before.result) (drop c.len-before.result c.deref.result.now) ≢ ok) in
+    let said_ok : token d.0 ≡ ok = sym said ∙ subst M is_true c.is_ok.ensures in (
       c.truncate.ensures.items ∙ cut c.len-before.result before (token d.0) c.answer_next.new.reply.items inv.1 now,
       inv.1,
       (
         inv.2.0 ++ c.in-Some.key.now ∷ c.in-Some.value.now ∷ [],
         next_done (listed c.args.pairs) inv.2.0 (listed c.loop-key.rest) (listed c.in-Some.behind) (c.in-Some.key.now ∷ c.in-Some.value.now ∷ []) inv.2.1 c.in-Some.ensures,
-        set_more g.S.Calls.limits c.args.digest_keys c.args.now c.args.most inv.2.0 c.in-Some.key.now c.in-Some.value.now (g.S.Calls.shown c.args.me.now) (g.S.Calls.shown c.loop-key.me) (g.S.Calls.shown c.answer_next.new.me) d.0 inv.2.2 (_, _, refl, d.2) said_ok,
+        set_more g.S.Calls.limits c.args.digest_keys c.args.now c.args.most inv.2.0 c.in-Some.key.now c.in-Some.value.now (g.S.Calls.shown c.args.me.now) (g.S.Calls.shown c.loop-key.me) (g.S.Calls.shown c.answer_next.new.me) d.0 inv.2.2 (_, refl, d.2) said_ok,
       ),
     )
 

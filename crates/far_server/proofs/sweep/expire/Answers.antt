@@ -8,6 +8,8 @@ returns-in-Ok g c evicts =
     expires g.S.Calls.limits evicts (g.S.Calls.shown c.args.me.now) (g.S.Calls.shown c.remove_if.new.self) (record {
       key = c.args.key.now;
       expired = c.args.value.now;
+      now = c.args.now;
+      looked = c.requires;
       is_over = c.is_over.ensures is_true;
       result = Ok c.in-Ok.removal;
       called = record { answers = c.in-Ok.ensures.answers; counts = record { stats = c.in-Ok.ensures.counts.stats; limit = c.in-Ok.ensures.counts.limit } };
@@ -20,6 +22,8 @@ returns-in-Err g c evicts =
     expires g.S.Calls.limits evicts (g.S.Calls.shown c.args.me.now) (g.S.Calls.shown c.remove_if.new.self) (record {
       key = c.args.key.now;
       expired = c.args.value.now;
+      now = c.args.now;
+      looked = c.requires;
       is_over = c.is_over.ensures is_true;
       result = Err c.in-Err.why;
       called = record { answers = c.in-Err.ensures.answers; counts = record { stats = c.in-Err.ensures.counts.stats; limit = c.in-Err.ensures.counts.limit } };

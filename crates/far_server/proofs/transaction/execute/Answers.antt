@@ -6,7 +6,6 @@ use Rattle.resp.specs.Replies.{Token, Count, Failure, token}
 use Rattle.far_server.specs.Bounds.{longest, too_large}
 use Rattle.far_server.specs.Refusing.{text_of}
 use Rattle.far_server.specs.Queues.{held, waiting}
-use Rattle.far_server.specs.Sessions.{Session}
 use Rattle.far_server.specs.Answers.{AreRefused, AreWithoutMemory, AreExecuted}
 use Rattle.far_server.proofs.Pushed.{on_ok, single, more_tokens}
 use Rattle.far_server.specs.Runs.{IsRequest}
@@ -30,7 +29,7 @@ loop-at-init g c =
     let total : length new ≡ length old + length (flat_map token (Count (length c.requests-requests.result.now) ∷ [])) = ap (λ (l : List ℕ). length l) now ∙ length-append old (flat_map token (Count (length c.requests-requests.result.now) ∷ [])) in
     let whole : length (flat_map token (head ∷ [])) ≡ length (token head) = ap (λ (l : List ℕ). length l) (append-nil (token head)) in
     let start : GoesOn l digest v (v.longest_reply - length (token head)) all (v.longest_reply - length (flat_map token (head ∷ []))) all [] mid mid = λ rest end ran. subst (λ (n : ℕ). AreExecuted l digest v (v.longest_reply - n) all rest mid end) whole ran in
-    (refl, len, omega (arith, len, total), ([], subst C count now, start))
+    ((refl, λ may. may), len, omega (arith, len, total), ([], subst C count now, start))
 
 pub loop-at-preserved : goal.loop-at-preserved
 loop-at-preserved g c =
@@ -62,7 +61,7 @@ loop-at-preserved g c =
     let item = c.index-requests-at.result in
     let ran : IsRequest l digest v.longest_value (v.longest_reply - length (flat_map token (head ∷ each))) (held item) mid new d.0 = subst (λ (n : ℕ). IsRequest l digest v.longest_value (v.longest_reply - n) (held item) mid new d.0) used d.2 in
     let lt : i < length c.requests-requests.result.now = c.loop-at-test.true in (
-      c.in-Ok-run_waiting.ensures.queue ∙ inv.0,
+      (c.in-Ok-run_waiting.ensures.queue ∙ inv.0.0, λ may. c.in-Ok-run_waiting.ensures.stays (inv.0.1 may)),
       inv.1,
       omega (arith, more, inv.2),
       (

@@ -1,4 +1,4 @@
-use Rattle.std.proofs.Common.{◌≡◌, ℕ, List, subst}
+use Rattle.std.proofs.Common.{ℕ, List, subst}
 use Rattle.far_server.specs.Runs.{IsRequest}
 use Rattle.far_server.proofs.Pushed.{on_ok}
 use Rattle.far_server.proofs.transaction.run_waiting.Goals as goal
