@@ -3,6 +3,7 @@ import contextlib
 import ctypes
 import os
 import subprocess
+import tempfile
 import time
 from pathlib import Path
 
@@ -199,7 +200,7 @@ def a_server_without_far_memory_has_no_such_error(tried, _):
 
 
 def folders_that_cannot_be_opened_at_the_start(tried, _):
-    work = Path(tried.work)
+    work = Path(tempfile.mkdtemp(dir=tried.work))
     (work / "file").write_text("")
     (work / "shut").mkdir()
     (work / "shut").chmod(0o500)
