@@ -26,9 +26,16 @@ def part_of(file):
 
 def ended_by(name, prepare=None):
     """Has a dump of a server that is silent at its GETs ended by a signal."""
+    def begin():
+        # (a shell has what it starts in the background ignore some)
+        if name != signal.SIGKILL:
+            signal.signal(name, signal.SIG_DFL)
+        if prepare:
+            prepare()
+
     def end(tried, file):
         with Fake(usual(EXEC=silent)) as server:
-            process = started(*server, file, preexec_fn=prepare)
+            process = started(*server, file, preexec_fn=begin)
             until(part_of(file).exists, "the file's beginning")
             time.sleep(0.2)
             process.send_signal(name)
