@@ -1,4 +1,4 @@
--- What an answer to a request tells of its connection and its session.
+-- What an answer to a request says of its connection and its session.
 use Rattle.std.specs.Prelude.{◌≡◌, ◌⊎◌, ℕ, ◌-◌, ◌<◌, ◌≤◌, Bool, true, false, List, [], ◌∷◌, ◌++◌, length, replicate, codes, Option, Some, None, unwrap_or, option_map, MatchBool}
 use Rattle.std.specs.Ordering.{nat_cmp}
 use Rattle.std.specs.Map.{lookup}
@@ -25,7 +25,7 @@ use Rattle.far_server.specs.Reads.{IsUnread, IsSpelled}
 use Rattle.far_server.specs.Runs.{IsRequest}
 use Rattle.stored_keys.specs.declared.DigestKeys.{DigestKeys}
 
--- what is known of a connection: whether it may ask, and what waits for EXEC, behind a MULTI
+-- what is known of a connection: whether it may ask, and what waits for EXEC after a MULTI
 pub record Known : Type 0 where
   pub is_authenticated : Bool
   pub waits : Option Waiting
@@ -33,8 +33,8 @@ pub record Known : Type 0 where
 abbrev pub known : Connection → Known
 known c = record { is_authenticated = c.is_authenticated; waits = waits_in c.queue }
 
--- What a worker is told of a connection that might ask, or not, and may now, or not: who is let in may ask, and who may no more is let out,
--- or the connection ends.
+-- What is done with a connection that might ask, or not, and may now, or not. One that is let in may ask. One that may ask no more is let
+-- out, or it ends.
 abbrev pub IsAdmission : Bool → Bool → Next → Type 0
 IsAdmission might may next = (next ≡ behind.LetIn → may ≡ true) × (might ≡ true → may ≡ false → (next ≡ behind.LetOut) ⊎ (next ≡ behind.End))
 
@@ -93,19 +93,19 @@ module _ (l : Limits) (digest : DigestKeys) (b : Bounds) where
   IsRunEach requests old new rs = ((each : List Token) × AreExecutedEach requests each old new × (rs ≡ Count (length requests) ∷ each))
       ⊎ ((old ≡ new) × (rs ≡ Failure (text_of refusal.Memory) ∷ []))
 
-  -- EXEC, behind which nothing waits: it is an error without a MULTI, and where a request was refused, and then no call is made
+  -- EXEC, after which nothing waits. It is an error without a MULTI, and if a request was refused. Then no call is made.
   abbrev pub IsExecuted : Option Waiting → Option Waiting → Session → Session → List Token → Type 0
   IsExecuted None after old new rs = (after ≡ None) × (old ≡ new) × (rs ≡ Failure no_multi_before_exec ∷ [])
   IsExecuted (Some waits) after old new rs = (after ≡ None)
       × MatchBool waits.is_spoilt ((old ≡ new) × (rs ≡ Failure exec_abort ∷ [])) (IsRunEach waits.requests old new rs)
 
-  -- a request is run at once, or waits for EXEC behind a MULTI
+  -- a request is run at once, or waits for EXEC after a MULTI
   abbrev pub IsRunOrHeld : Option Waiting → Option Waiting → List (List ℕ) → Session → Session → List Token → Type 0
   IsRunOrHeld None after arguments old new rs = (after ≡ None) × IsRequest l digest b.longest_value b.longest_reply arguments old new rs
   IsRunOrHeld (Some waits) after arguments old new rs = (old ≡ new) × ((held : Waiting) × (after ≡ Some held) × IsHeld waits held arguments rs)
 
   module _ (password : Option (List ℕ)) where
-    -- what became of a request that spells this command, of a connection that may ask, which may go on asking but for RESET
+    -- what became of a request that spells this command, of a connection that may ask, and that may go on asking, except after RESET
     abbrev pub IsServedAs : Command → Known → Known → List (List ℕ) → Session → Session → List Token → Type 0
     IsServedAs command.Quit before after arguments old new rs = (after ≡ before) × (old ≡ new) × (rs ≡ Simple (codes "OK") ∷ [])
     IsServedAs (command.Nothing nothing.Reset) before after arguments old new rs = (after ≡ unknown password) × (old ≡ new) × (rs ≡ Simple (codes "RESET") ∷ [])
@@ -141,13 +141,13 @@ IsGated password before after arguments rs = ((text : List ℕ) × Exceeds argum
 abbrev pub IsWithoutPlace : Known → Known → Session → Session → List Token → Next → Type 0
 IsWithoutPlace before after old new rs next = (after ≡ before) × (old ≡ new) × (rs ≡ Failure (text_of refusal.Memory) ∷ []) × (next ≡ behind.End)
 
--- why a connection is closed behind a reply: QUIT; a request that is too large before the login; no memory
+-- why a connection is closed after a reply: QUIT; a request that is too large before the login; memory that was refused
 abbrev pub IsClosing : Known → List (List ℕ) → List Token → Type 0
 IsClosing before arguments rs = IsSpelled arguments command.Quit
     ⊎ (((before.is_authenticated ≡ false) × ((text : List ℕ) × Exceeds arguments text × (rs ≡ Failure text ∷ []))) ⊎ (rs ≡ Failure (text_of refusal.Memory) ∷ []))
 
--- Each request has exactly one reply. Who may ask is served, and who may not has made no call. Who may ask behind it might before, or need
--- not say a password, or said it. The connection is closed only for a reason.
+-- Each request has exactly one reply. Who may ask is served, and who may not has made no call. Who may ask after it might ask before, or
+-- needs no password, or said it. The connection is closed only for a reason.
 pub record IsAnswered (l : Limits) (digest : DigestKeys) (password : Option (List ℕ)) (b : Bounds) (before after : Known) (arguments : List (List ℕ)) (old new : Session) (rs : List Token) (next : Next) : Type 0 where
   pub one : AreReplies 1 rs
   pub login : after.is_authenticated ≡ true → (before.is_authenticated ≡ true) ⊎ HasLogin password arguments

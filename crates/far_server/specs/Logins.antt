@@ -73,13 +73,13 @@ no_password = codes "ERR AUTH <password> called without any password configured 
 abbrev pub long_name : List ℕ
 long_name = codes "ERR Client names cannot be longer than 1024 bytes."
 
--- A client that might ask, or not, may now: the login is right, and the reply is OK. Or it may as before, and the reply is an error.
+-- A client that might ask, or not, may ask now: the login is right, and the reply is OK. Or it may as before, and the reply is an error.
 abbrev pub IsAuthReply : Option (List ℕ) → Login → Bool → Bool → List Token → Type 0
 IsAuthReply password login might may rs =
     ((may ≡ true) × IsLogin password login.password.now × (rs ≡ Simple (codes "OK") ∷ []))
     ⊎ ((may ≡ might) × ((rs ≡ Failure wrong_login ∷ []) ⊎ (rs ≡ Failure no_password ∷ [])))
 
--- why HELLO is refused: by a wrong login, without one, by a name that is too long, or for want of memory
+-- why HELLO is refused: a wrong login, none, a name that is too long, or memory that was refused
 abbrev pub IsHelloRefusal : List ℕ → Type 0
 IsHelloRefusal text = (text ≡ wrong_login) ⊎ ((text ≡ no_login_of_hello) ⊎ ((text ≡ long_name) ⊎ (text ≡ text_of refusal.Memory)))
 
@@ -87,6 +87,6 @@ IsHelloRefusal text = (text ≡ wrong_login) ⊎ ((text ≡ no_login_of_hello) �
 abbrev pub IsGreeted : Bool → List Token → Type 0
 IsGreeted may rs = ((may ≡ true) × ((id : ℕ) × (rs ≡ greeting id))) ⊎ ((text : List ℕ) × IsHelloRefusal text × (rs ≡ Failure text ∷ []))
 
--- a client may ask behind HELLO as before, or the login is right
+-- a client may ask after HELLO as before, or the login is right
 abbrev pub IsHelloReply : Option (List ℕ) → Greeting → Bool → Bool → List Token → Type 0
 IsHelloReply password hello might may rs = ((may ≡ might) ⊎ ((may ≡ true) × IsRight password hello.login)) × IsGreeted may rs

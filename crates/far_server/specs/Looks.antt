@@ -2,7 +2,8 @@
 use Rattle.std.specs.Prelude.{ℕ}
 
 -- The clock answered a look of the server by this time, in milliseconds since 1970, or by none, which is 0 here. It is opaque: who promises
--- it looked at the clock, or cites the lemma below, which is for the proof of `milliseconds` alone. Of two looks nothing is said: the system's clock may be set back.
+-- it looked at the clock, or cites the lemma below, which is for the proof of `milliseconds` alone. Nothing is said of two looks, because the
+-- system's clock may be set back.
 pub WasLookedAt : ℕ → Type 0
 WasLookedAt now = Unit {0}
 

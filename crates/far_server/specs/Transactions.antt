@@ -1,4 +1,4 @@
--- What waits for EXEC behind a MULTI, and what MULTI, DISCARD and the requests between make of it.
+-- What waits for EXEC after a MULTI, and what MULTI, DISCARD and the requests between do with it.
 use Rattle.std.specs.Prelude.{◌≡◌, ◌⊎◌, ℕ, Bool, true, false, List, [], ◌∷◌, ◌++◌, codes, Option, Some, None}
 use Rattle.resp.specs.Replies.{Token, Simple, Failure}
 use Rattle.far_map.specs.declared.refusal.MapRefusal.TheVariants as refusal
@@ -28,7 +28,7 @@ no_multi_before_discard = codes "ERR DISCARD without MULTI"
 abbrev pub full_queue : List ℕ
 full_queue = codes "ERR too many bytes wait for EXEC"
 
--- MULTI: from now on requests wait. Behind another MULTI it is an error.
+-- MULTI: from now on requests wait. After another MULTI it is an error.
 abbrev pub IsBegun : Option Waiting → Option Waiting → List Token → Type 0
 IsBegun None after rs = (after ≡ Some (record { requests = []; is_spoilt = false })) × (rs ≡ Simple (codes "OK") ∷ [])
 IsBegun (Some waits) after rs = (after ≡ Some waits) × (rs ≡ Failure nested ∷ [])
@@ -43,7 +43,7 @@ abbrev pub IsNotHeld : List (List ℕ) → List Token → Type 0
 IsNotHeld request rs = (IsUnread request × ((text : List ℕ) × (rs ≡ Failure text ∷ [])))
     ⊎ ((rs ≡ Failure full_queue ∷ []) ⊎ (rs ≡ Failure (text_of refusal.Memory) ∷ []))
 
--- a request waits behind the others, or it is refused, and EXEC will run none
+-- a request waits after the others, or it is refused, and EXEC will run none
 abbrev pub IsHeld : Waiting → Waiting → List (List ℕ) → List Token → Type 0
 IsHeld before after request rs =
     ((after ≡ record { requests = before.requests ++ request ∷ []; is_spoilt = before.is_spoilt }) × (rs ≡ Simple (codes "QUEUED") ∷ []))
