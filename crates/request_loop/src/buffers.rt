@@ -6,8 +6,8 @@ ghost use Rattle.request_loop.specs.Slots.{Runs, find_slot, Replaces};
 ghost use Rattle.request_loop.specs.Turns.{Hints};
 
 use crate::duplex::Duplex;
-use crate::fault::PacketFault;
 use crate::packet::{Head, Kind};
+use crate::packet_fault::PacketFault;
 use crate::requests::put_signal;
 use crate::service::Service;
 use crate::slots::{Held, Slot, Slots, State, set_slot};

@@ -3,8 +3,8 @@ ghost use Rattle.std.specs.Prelude.{◌≡◌, ℕ, List, [], ◌∷◌, ◌++�
 ghost use Rattle.resp.specs.declared.limits.Limits.{Limits as limits_of_requests};
 ghost use Rattle.request_loop.specs.Workers.{Packet, AreSettled};
 
-use crate::fault::PacketFault;
 use crate::packet::Head;
+use crate::packet_fault::PacketFault;
 use resp::Limits;
 
 /// Packets that are read and written.

@@ -18,6 +18,7 @@ mod duplex;
 mod fault;
 mod one_request;
 mod packet;
+mod packet_fault;
 mod packet_reader;
 mod packet_writer;
 mod pause;
@@ -29,8 +30,9 @@ mod worker_loop;
 
 pub use byte_streams::serve_over;
 pub use duplex::Duplex;
-pub use fault::{LoopFault, PacketFault};
+pub use fault::LoopFault;
 pub use packet::{Head, Kind};
+pub use packet_fault::PacketFault;
 pub use pause::{Holds, Pause};
 pub use service::{Next, Service, Woken};
 pub use wire::Wire;

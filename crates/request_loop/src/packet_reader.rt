@@ -4,8 +4,8 @@ ghost use Rattle.std.specs.Int.{w32, w64, from_be_bytes};
 ghost use Rattle.std.specs.Io.KnownBytes.{Keeps, prepend_known, Consumes};
 ghost use Rattle.request_loop.specs.Packets.{kind_byte, packet_bytes};
 
-use crate::fault::PacketFault;
 use crate::packet::{Head, Kind, most_of};
+use crate::packet_fault::PacketFault;
 use std::io::{BufRead, ErrorKind};
 
 /// Moves at most `most` bytes from the reader to the end of the room, and returns how many. None if the

@@ -3,8 +3,8 @@ ghost use Rattle.std.specs.Prelude.{◌≡◌, ℕ, ◌≤◌, List, length, tak
 ghost use Rattle.std.specs.Io.KnownBytes.{Keeps, Appends};
 ghost use Rattle.request_loop.specs.Packets.{kind_byte, packet_bytes};
 
-use crate::fault::PacketFault;
 use crate::packet::{Head, Kind, most_of};
+use crate::packet_fault::PacketFault;
 use std::io::{ErrorKind, Write};
 
 /// Writes some of the bytes, and returns how many: 0 if the write was interrupted.

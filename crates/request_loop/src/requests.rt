@@ -8,9 +8,10 @@ ghost use Rattle.request_loop.specs.Calls.{Exchange, Left};
 ghost use Rattle.request_loop.specs.Turns.{Sends, Signals, IsSignal, Turns, Faulty, AnswersSo, EndsSo, goes_on, closing, IsWithin};
 
 use crate::duplex::Duplex;
-use crate::fault::{LoopFault, PacketFault};
+use crate::fault::LoopFault;
 use crate::one_request::{Taken, take_one};
 use crate::packet::{Head, Kind, most_of};
+use crate::packet_fault::PacketFault;
 use crate::service::{Next, Service};
 use crate::slots::FIRST;
 use resp::{Limits, Span};

@@ -3,8 +3,8 @@ ghost use Rattle.std.specs.Prelude.{◌≡◌, [], false};
 ghost use Rattle.request_loop.specs.Packets.{WireEnded, WireTells};
 
 use crate::duplex::Duplex;
-use crate::fault::PacketFault;
 use crate::packet::Head;
+use crate::packet_fault::PacketFault;
 use crate::packet_reader::read_packet;
 use crate::packet_writer::write_packet;
 use resp::Limits;

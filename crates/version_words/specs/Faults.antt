@@ -6,8 +6,8 @@ use Rattle.table_core.specs.Logs.{names_of, passes_of}
 use Rattle.table_core.specs.Lawful.{IsLawful}
 use Rattle.version_words.specs.declared.fault.EnterFault.{EnterFault}
 use Rattle.version_words.specs.declared.fault.EnterFault.TheVariants as enter
-use Rattle.version_words.specs.declared.fault.GatherFault.{GatherFault}
-use Rattle.version_words.specs.declared.fault.GatherFault.TheVariants as gather
+use Rattle.version_words.specs.declared.gather_fault.GatherFault.{GatherFault}
+use Rattle.version_words.specs.declared.gather_fault.GatherFault.TheVariants as gather
 use Rattle.version_words.specs.declared.fault.NameFault.{NameFault}
 use Rattle.version_words.specs.declared.fault.NameFault.TheVariants as name
 

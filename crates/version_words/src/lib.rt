@@ -5,6 +5,7 @@
 mod change;
 mod entry;
 mod fault;
+mod gather_fault;
 mod holder;
 mod laws;
 mod mark;
@@ -19,7 +20,8 @@ mod tally;
 mod words;
 
 pub use change::{Change, Probe};
-pub use fault::{EnterFault, GatherFault, Moved, NameFault};
+pub use fault::{EnterFault, Moved, NameFault};
+pub use gather_fault::GatherFault;
 pub use holder::PassHolder;
 pub use laws::{changes_fit, contents_stay, empty_holds, same_history, seen_answers, seen_stay};
 pub use mark::Mark;

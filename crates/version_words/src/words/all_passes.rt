@@ -7,7 +7,7 @@ ghost use Rattle.version_words.specs.Views.{PassView, Goes, IsWhole, AreApart, A
 ghost use Rattle.version_words.specs.Faults.{IsGatherFault};
 
 use super::Words;
-use crate::fault::GatherFault;
+use crate::gather_fault::GatherFault;
 use crate::holder::PassHolder;
 use crate::mark::Mark;
 use crate::naming::Naming;
