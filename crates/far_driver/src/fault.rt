@@ -1,9 +1,11 @@
 //! Why a run ends early.
 ghost use Rattle.std.specs.Prelude.{◌≡◌};
+ghost use Rattle.far_driver.specs.declared.fault.RunFault.TheVariants.{Memory as refused};
 ghost use Rattle.far_driver.specs.Faults.{of_file, of_threads};
 
 use command_file::FileFault;
 use run_lines::LineRefusal;
+use std::alloc::AllocError;
 use thiserror::Error;
 use threaded_run::ThreadedFault;
 
@@ -54,16 +56,25 @@ pub(crate) fn of_file(file: u32, fault: FileFault) -> RunFault
     }
 }
 
-/// The fault of a run for that of its workers and its table.
-pub(crate) fn of_threads(fault: ThreadedFault) -> RunFault
-    ensures { result ≡ of_threads fault }
-{
-    match fault {
-        ThreadedFault::Memory => RunFault::Memory,
-        ThreadedFault::Device => RunFault::Device,
-        ThreadedFault::Passes => RunFault::Passes,
-        ThreadedFault::Gate => RunFault::Gate,
-        ThreadedFault::Write => RunFault::Write,
-        ThreadedFault::Contents(refusal) => RunFault::Contents(refusal),
+impl From<ThreadedFault> for RunFault {
+    ghost from_gives = { λ fault result. result ≡ of_threads fault };
+
+    fn from(fault: ThreadedFault) -> RunFault {
+        match fault {
+            ThreadedFault::Memory => RunFault::Memory,
+            ThreadedFault::Device => RunFault::Device,
+            ThreadedFault::Passes => RunFault::Passes,
+            ThreadedFault::Gate => RunFault::Gate,
+            ThreadedFault::Write => RunFault::Write,
+            ThreadedFault::Contents(refusal) => RunFault::Contents(refusal),
+        }
+    }
+}
+
+impl From<AllocError> for RunFault {
+    ghost from_gives = { λ _ fault. fault ≡ refused };
+
+    fn from(_refused: AllocError) -> RunFault {
+        RunFault::Memory
     }
 }

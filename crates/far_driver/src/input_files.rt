@@ -8,7 +8,7 @@ ghost use Rattle.far_driver.specs.Reading.{AreFiles, IsFaultFrom, IsFaultOfOne};
 
 use crate::fault::{RunFault, of_file};
 use command_file::{FileFault, FileText, Script};
-use std::alloc::Global;
+use std::alloc::{AllocError, Global};
 use std::io::BufRead;
 use std::thread::{Threads, join};
 
@@ -20,15 +20,12 @@ fn read_text<B: BufRead + Drop>(alloc: Global, mut file: B) -> FileText
 }
 
 /// The list of these alone.
-fn alone(alloc: Global, script: Script) -> Result<Vec<Script>, RunFault>
-    ensures one { IfOk result (λ all. all.items ≡ script ∷ []) }
-    ensures fault { IfErr result (λ fault. fault ≡ RunFault.Memory) }
+fn alone(alloc: Global, script: Script) -> Result<Vec<Script>, AllocError>
+    ensures { IfOk result (λ all. all.items ≡ script ∷ []) }
 {
     let mut all = Vec::new(alloc);
-    match all.push(script) {
-        Ok(()) => Ok(all),
-        Err(_) => Err(RunFault::Memory),
-    }
+    all.push(script)?;
+    Ok(all)
 }
 
 /// What a text says, by this thread alone or by several.
@@ -86,7 +83,7 @@ where
             Ok(script) => script,
             Err(fault) => return Err(of_file(number, fault)),
         };
-        return alone(alloc, script);
+        return Ok(alone(alloc, script)?);
     }
     let text = read_text(alloc, first);
     let (own, others) = join(

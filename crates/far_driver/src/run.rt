@@ -6,7 +6,7 @@ ghost use Rattle.hash_table.specs.Configs.{first_bad_with};
 ghost use Rattle.hash_table.specs.Openings.{WasOpened};
 ghost use Rattle.far_driver.specs.Runs.{told_field, RanOn, FitsFiles, WritesBefore};
 
-use crate::fault::{RunFault, of_threads};
+use crate::fault::RunFault;
 use crate::input_files::read_files;
 use far_device::Device;
 use hash_table::Config;
@@ -49,12 +49,9 @@ where
         return Err(RunFault::BadConfig(field));
     }
     let alloc = rt.alloc();
-    let scripts = match read_files(rt, alloc, files) {
-        Ok(scripts) => scripts,
-        Err(fault) => return Err(fault),
-    };
+    let scripts = read_files(rt, alloc, files)?;
     match threaded_run::run_files(rt, alloc, config, devices, scripts, gate, out) {
         Ok(()) => Ok(()),
-        Err(fault) => Err(of_threads(fault)),
+        Err(fault) => Err(RunFault::from(fault)),
     }
 }

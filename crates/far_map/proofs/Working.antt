@@ -1,6 +1,6 @@
 -- The end of a run whose workers have ended.
 use Rattle.std.proofs.Common.{◌≡◌, ◌≢◌, ℕ, suc, ◌+◌, ◌<◌, ◌==◌, Bool, true, false, List, [], ◌∷◌, ◌++◌, Option, None, Result, Ok, Err, IfOk, IfErr, length, map, refl, ap, sym, ◌∙◌, subst, arith, length-append}
-use Rattle.std.specs.Prelude.{slice_index_or, ⊤}
+use Rattle.std.specs.Prelude.{slice_index_or, IsErrAnd, ⊤}
 use Rattle.std.proofs.lemmas.Bool.Decides.{nat_tests}
 use Rattle.std.proofs.lemmas.List.{map-append}
 use Rattle.std.specs.List.{AllByRecursion}
@@ -238,6 +238,11 @@ later_faults (Ok r) is_honest honest same h = tt
 later_faults (Err fault) is_honest honest same h = late_fault honest None fault refl (subst (λ (b : Bool). IsLater b fault) same h)
 
 -- the table's faults as it is opened, where no setting is bad
+-- a fault that another is made of
+pub made_fault : {T : Type 0} (r : Result T MapFault) (P Q : MapFault → Type 0) → IsErrAnd r P → ((fault : MapFault) → P fault → Q fault) → IfErr r Q
+made_fault (Ok x) P Q is f = tt
+made_fault (Err fault) P Q is f = f fault is
+
 pub opened_badly : (is_honest : Bool) (first : Option ℕ) (fault : OpenFault) → first ≡ None → IsOpenFault first fault → IsRunFault is_honest None (of_opening fault)
 opened_badly is_honest first (opened.BadConfig n) none h = absurd (cc (sym none ∙ h))
 opened_badly is_honest first opened.Memory none h = refl

@@ -5,7 +5,6 @@ ghost use Rattle.far_pairs.specs.Bundles.{all_of};
 ghost use Rattle.table_core.specs.Lawful.{IsLawful};
 ghost use Rattle.version_words.specs.Views.{Goes};
 ghost use Rattle.hash_table.specs.Closes.{ClosesSorted, Hands, IsCloseFault};
-ghost use Rattle.far_map.specs.declared.fault.MapFault.TheVariants.{Memory};
 ghost use Rattle.far_map.specs.Ends.{IsClosedBy, IsBundledBy, IsHandedBy};
 ghost use Rattle.far_map.specs.Faults.{IsLater, IsHandingFault};
 ghost use Rattle.far_map.specs.Runs.{AreSeen, IsLeft};
@@ -19,7 +18,7 @@ use far_object::Text;
 use far_pairs::Bundle;
 use hash_table::{Caller, CloseFault, Drained, FarTable, TakesPairs};
 use migration::Migration;
-use std::alloc::Global;
+use std::alloc::{AllocError, Global};
 use std::sync::Wait;
 use std::thread::Threads;
 use swapper::QueueNaming;
@@ -33,14 +32,11 @@ const MOST_CLOSES: u32 = 1_000;
 pub(crate) fn with_own<V: Value, J: Naming>(
     mut callers: Vec<Caller<Text, V, J>>,
     own: Caller<Text, V, J>,
-) -> Result<Vec<Caller<Text, V, J>>, MapFault>
+) -> Result<Vec<Caller<Text, V, J>>, AllocError>
     ensures all { IfOk result (λ all. all.items ≡ callers.items ++ own ∷ []) }
-    ensures fault { IfErr result (λ fault. fault ≡ Memory) }
 {
-    match callers.push(own) {
-        Ok(()) => Ok(callers),
-        Err(_) => Err(MapFault::Memory),
-    }
+    callers.push(own)?;
+    Ok(callers)
 }
 
 /// Closes the table, and tries again after `Missed`.
@@ -125,9 +121,8 @@ impl<V: Value, J: Naming, B: QueueNaming, D: Device> FarMap<V, J, B, D> {
         ensures fault { IfErr result (IsHandingFault T.takes T.stops J.limits.honest taker.old taker.new) }
     {
         let FarMap { table, evictor, .. } = self;
-        let all = match with_own(callers, evictor.into_inner().into_caller()) {
-            Ok(all) => all,
-            Err(fault) => return Err(fault),
+        let Ok(all) = with_own(callers, evictor.into_inner().into_caller()) else {
+            return Err(MapFault::Memory);
         };
         match table.close_through(rt, alloc, all, taker) {
             Ok(()) => Ok(()),
@@ -167,9 +162,8 @@ impl<V: Value, J: Naming, B: QueueNaming, D: Device> FarMap<V, J, B, D> {
         ensures fault { IfErr result (IsLater J.limits.honest) }
     {
         let FarMap { table, evictor, .. } = self;
-        let all = match with_own(callers, evictor.into_inner().into_caller()) {
-            Ok(all) => all,
-            Err(fault) => return Err(fault),
+        let Ok(all) = with_own(callers, evictor.into_inner().into_caller()) else {
+            return Err(MapFault::Memory);
         };
         match table.drain(rt, alloc, all, rest) {
             Ok(left) => Ok(left),

@@ -2,12 +2,14 @@
 ghost use Rattle.std.specs.Prelude.{◌≡◌, ℕ};
 ghost use Rattle.hash_table.specs.Closes.{IsCloseFault, IsHandFault};
 ghost use Rattle.far_object.specs.Encodings.{enc_text};
-ghost use Rattle.far_map.specs.Faults.{of_opening, IsLater, IsHandingFault};
+ghost use Rattle.far_map.specs.declared.fault.MapFault.TheVariants.{Memory as refused};
+ghost use Rattle.far_map.specs.Faults.{IsLater, IsHandingFault};
 
 use crate::settings::{Setting, setting_of};
 use crate::values::Value;
 use far_object::Text;
 use hash_table::{CloseFault, HandFault, OpenFault, TakesPairs};
+use std::alloc::AllocError;
 use thiserror::Error;
 use version_words::Naming;
 
@@ -43,13 +45,28 @@ pub enum MapFault {
     Stopped,
 }
 
-pub(crate) fn of_opening(fault: OpenFault) -> MapFault
-    ensures { result ≡ of_opening fault }
-{
-    match fault {
-        OpenFault::BadConfig(number) => MapFault::BadSetting(setting_of(number)),
-        OpenFault::Memory => MapFault::Memory,
-        OpenFault::Device => MapFault::Device,
+impl From<AllocError> for MapFault {
+    ghost use Rattle.std.specs.Prelude.{◌≡◌};
+
+    ghost from_gives = { λ _ fault. fault ≡ refused };
+
+    fn from(_refused: AllocError) -> MapFault {
+        MapFault::Memory
+    }
+}
+
+impl From<OpenFault> for MapFault {
+    ghost use Rattle.std.specs.Prelude.{◌≡◌};
+    ghost use Rattle.far_map.specs.Faults.{of_opening};
+
+    ghost from_gives = { λ opened fault. fault ≡ of_opening opened };
+
+    fn from(fault: OpenFault) -> MapFault {
+        match fault {
+            OpenFault::BadConfig(number) => MapFault::BadSetting(setting_of(number)),
+            OpenFault::Memory => MapFault::Memory,
+            OpenFault::Device => MapFault::Device,
+        }
     }
 }
 

@@ -8,7 +8,7 @@ ghost use Rattle.far_map.specs.Faults.{IsEarlyFault, IsRunFault};
 ghost use Rattle.far_map.specs.Settings.{config_of, first_bad};
 ghost use Rattle.far_map.specs.Runs.{EndsSo, EndsBundled, EndsThrough, IsRun, IsRunApart};
 
-use crate::fault::{MapFault, of_opening};
+use crate::fault::MapFault;
 use crate::opening::map_over;
 use crate::run_end::{End, Given, NoTaker};
 use crate::settings::{Settings, setting_of};
@@ -114,10 +114,7 @@ where
     ensures fault { IfErr result (IsEarlyFault None) }
     ensures untold { IfErr result (λ _. taker.new ≡ taker.old) }
 {
-    let table = match opening.named::<J>(alloc) {
-        Ok(table) => table,
-        Err(fault) => return Err(of_opening(fault)),
-    };
+    let table = opening.named::<J>(alloc)?;
     let queue = match QueueOpening::open(alloc, config.spares) {
         Ok(queue) => queue,
         Err(_) => return Err(MapFault::Memory),
@@ -154,10 +151,7 @@ where
     if let Some(number) = config.first_bad_wide_with(devices.len()) {
         return Err(MapFault::BadSetting(setting_of(number)));
     }
-    let opening = match Opening::open_wide(alloc, config, devices) {
-        Ok(opening) => opening,
-        Err(fault) => return Err(of_opening(fault)),
-    };
+    let opening = Opening::open_wide(alloc, config, devices)?;
     over_row::<V, Brand, D, W, T, R>(
         rt,
         alloc,

@@ -22,7 +22,7 @@ ghost use Rattle.far_map.specs.Loads.{lost_of};
 ghost use Rattle.far_map.specs.Generations.{IsTurn, IsRenewed};
 
 use crate::close::with_own;
-use crate::fault::{MapFault, of_opening};
+use crate::fault::MapFault;
 use crate::load::load;
 use crate::opening::map_over;
 use crate::renewable_work::{After, LoadReport, RenewableWork};
@@ -106,9 +106,8 @@ where
         Ok(ended) => ended,
         Err(fault) => return Err(fault),
     };
-    let all = match with_own(callers, loader) {
-        Ok(all) => all,
-        Err(fault) => return Err(fault),
+    let Ok(all) = with_own(callers, loader) else {
+        return Err(MapFault::Memory);
     };
     let lost = load_report.lost();
     match work.after(&kept) {
@@ -162,10 +161,7 @@ where
     ensures opened { IfOk result (λ _. WasOpened config) }
     ensures fault { IfErr result (IsRunFault D.HONEST None) }
 {
-    let table = match opening.named::<J>(alloc) {
-        Ok(table) => table,
-        Err(fault) => return Err(of_opening(fault)),
-    };
+    let table = opening.named::<J>(alloc)?;
     let queue = match QueueOpening::open(alloc, config.spares) {
         Ok(queue) => queue,
         Err(_) => return Err(MapFault::Memory),
@@ -200,10 +196,7 @@ where
     ensures opened { IfOk result (λ _. WasOpened config) }
     ensures fault { IfErr result (IsRunFault D.HONEST None) }
 {
-    let opening = match Opening::open_wide(alloc, config, devices) {
-        Ok(opening) => opening,
-        Err(fault) => return Err(of_opening(fault)),
-    };
+    let opening = Opening::open_wide(alloc, config, devices)?;
     over_row::<V, Brand, D, W, R>(
         rt, alloc, config, bytes, opening, rest, before, work, states,
     )

@@ -1,7 +1,6 @@
 //! The workers of a run that is never renewed: the work of each is its only term.
 ghost use Rattle.std.specs.Prelude.{◌≡◌, ◌<◌, ◌^◌, map, vec_len, Some, IsSome, IfOk, IfErr};
 ghost use Rattle.std.specs.List.{AllByRecursion};
-ghost use Rattle.far_map.specs.declared.fault.MapFault.TheVariants.{Memory};
 ghost use Rattle.far_map.specs.Faults.{IsOfEntering};
 ghost use Rattle.far_map.specs.Runs.{Worked};
 
@@ -14,7 +13,7 @@ use crate::values::Value;
 use crate::work::Work;
 use crate::workers::{Ended, serve_terms};
 use far_device::Device;
-use std::alloc::Global;
+use std::alloc::{AllocError, Global};
 use std::sync::Wait;
 use std::thread::Threads;
 use swapper::QueueNaming;
@@ -53,33 +52,27 @@ impl<'w, V: Value, W: Work<V>> RenewableWork<V> for Single<'w, W> {
 }
 
 /// A state for each worker, which has kept nothing yet.
-fn no_outs<T: Drop>(alloc: Global, count: usize) -> Result<Vec<Option<T>>, MapFault>
-    ensures each { IfOk result (λ states. vec_len states ≡ count) }
-    ensures fault { IfErr result (λ fault. fault ≡ Memory) }
+fn no_outs<T: Drop>(alloc: Global, count: usize) -> Result<Vec<Option<T>>, AllocError>
+    ensures { IfOk result (λ states. vec_len states ≡ count) }
 {
     let mut states = Vec::new(alloc);
     for _ in 0..count {
-        let Ok(()) = states.push(None) else {
-            return Err(MapFault::Memory);
-        };
+        states.push(None)?;
     }
     Ok(states)
 }
 
 /// What each of them kept.
-fn outs_of<T: Drop>(alloc: Global, states: Vec<Option<T>>) -> Result<Vec<T>, MapFault>
+fn outs_of<T: Drop>(alloc: Global, states: Vec<Option<T>>) -> Result<Vec<T>, AllocError>
     requires each { AllByRecursion IsSome states.items }
-    ensures outs { IfOk result (λ outs. map Some outs.items ≡ states.items) }
-    ensures fault { IfErr result (λ fault. fault ≡ Memory) }
+    ensures { IfOk result (λ outs. map Some outs.items ≡ states.items) }
 {
     let mut outs = Vec::new(alloc);
     for state in states {
         let Some(out) = state else {
             unreachable!();
         };
-        let Ok(()) = outs.push(out) else {
-            return Err(MapFault::Memory);
-        };
+        outs.push(out)?;
     }
     Ok(outs)
 }

@@ -7,7 +7,7 @@
 //! compared.
 ghost use Rattle.std.specs.Prelude.{◌≡◌, ◌<◌, ◌^◌, ◌++◌, ◌∷◌, [], map, vec_len, IfOk, IfErr};
 ghost use Rattle.std.specs.Thread.{IsSync, IsSend};
-ghost use Rattle.far_map.specs.declared.fault.MapFault.TheVariants.{Memory, PassesSpent};
+ghost use Rattle.far_map.specs.declared.fault.MapFault.TheVariants.{PassesSpent};
 ghost use Rattle.far_map.specs.Faults.{IsOfEntering};
 ghost use Rattle.far_map.specs.Generations.{IsTerm, AreTerms};
 
@@ -20,7 +20,7 @@ use crate::values::Value;
 use far_device::Device;
 use far_object::Text;
 use hash_table::Caller;
-use std::alloc::Global;
+use std::alloc::{AllocError, Global};
 use std::sync::Wait;
 use std::thread::{Threads, join};
 use swapper::QueueNaming;
@@ -33,16 +33,14 @@ pub(crate) type Ended<V, J, T> = (Vec<Caller<Text, V, J>>, Vec<T>);
 fn with_last<V: Value, J: Naming, T: Drop>(
     others: Ended<V, J, T>,
     last: (Caller<Text, V, J>, T),
-) -> Result<Ended<V, J, T>, MapFault>
+) -> Result<Ended<V, J, T>, AllocError>
     ensures callers { IfOk result (λ r. map (λ c. c.pass) r.0.items ≡ map (λ c. c.pass) others.0.items ++ last.0.pass ∷ []) }
     ensures outs { IfOk result (λ r. r.1.items ≡ others.1.items ++ last.1 ∷ []) }
-    ensures fault { IfErr result (λ fault. fault ≡ Memory) }
 {
     let (mut callers, mut outs) = others;
     let (caller, out) = last;
-    let (Ok(()), Ok(())) = (callers.push(caller), outs.push(out)) else {
-        return Err(MapFault::Memory);
-    };
+    callers.push(caller)?;
+    outs.push(out)?;
     Ok((callers, outs))
 }
 
@@ -125,7 +123,7 @@ where
     let last = all_pending.len() as u32;
     if last == 0 {
         let alone = one(rt, alloc, far, mark, work, pending, state, 0)?;
-        return with_last((Vec::new(alloc), Vec::new(alloc)), alone);
+        return Ok(with_last((Vec::new(alloc), Vec::new(alloc)), alone)?);
     }
     let (own, others) = join(
         rt,
@@ -142,7 +140,7 @@ where
     );
     let others = others?;
     let own = own?;
-    with_last(others, own)
+    Ok(with_last(others, own)?)
 }
 
 /// The terms, next to the evictor's thread if there are several. If that thread can't be started, its loop

@@ -14,8 +14,8 @@ use Rattle.run_lines.proofs.Replying.{replied_later, replied_more}
 use Rattle.run_lines.proofs.Written.{written-more}
 use Rattle.far_map.specs.Views.{SessionView}
 use Rattle.far_map.specs.Runs.{Served, AreServed, Worked}
-use Rattle.threaded_run.specs.declared.fault.WorkFault.{WorkFault}
-use Rattle.threaded_run.specs.declared.fault.WorkFault.TheVariants as work
+use Rattle.threaded_run.specs.declared.work_fault.WorkFault.{WorkFault}
+use Rattle.threaded_run.specs.declared.work_fault.WorkFault.TheVariants as work
 use Rattle.threaded_run.specs.Replies.{View, MayReply, RunsTo, RunsOn}
 use Rattle.threaded_run.specs.Runs.{Served as FileRun}
 use Rattle.threaded_run.specs.Runs.{EndedView, IsServed, EndedIs, AreGiven, HaveLines, WorkedAll}

@@ -10,7 +10,7 @@ use Rattle.run_lines.specs.Replies.{RepliedIn}
 use Rattle.run_lines.specs.Output.{written, file_lines}
 use Rattle.threaded_run.specs.declared.fault.ThreadedFault.{ThreadedFault}
 use Rattle.threaded_run.specs.declared.fault.ThreadedFault.TheVariants as fault
-use Rattle.threaded_run.specs.declared.fault.WorkFault.{WorkFault}
+use Rattle.threaded_run.specs.declared.work_fault.WorkFault.{WorkFault}
 use Rattle.threaded_run.specs.Replies.{View, MayReply}
 
 -- a worker that has ended: its pass, and the text of its lines

@@ -1,11 +1,10 @@
 //! Why a run ends early.
-ghost use Rattle.std.specs.Prelude.{◌≡◌, None};
-ghost use Rattle.threaded_run.specs.declared.fault.WorkFault.TheVariants.{Memory as work_memory};
+ghost use Rattle.std.specs.Prelude.{None};
 ghost use Rattle.far_map.specs.Faults.{IsEarlyFault};
 ghost use Rattle.threaded_run.specs.Runs.{IsEarly};
 
+use crate::work_fault::WorkFault;
 use far_map::MapFault;
-use far_object::Memory;
 use run_lines::LineRefusal;
 use thiserror::Error;
 
@@ -32,32 +31,18 @@ pub enum ThreadedFault {
     Contents(LineRefusal),
 }
 
-/// Why a worker gave up.
-#[derive(Clone, Copy, Debug, PartialEq, Eq)]
-pub(crate) enum WorkFault {
-    Memory,
-    Gate,
-}
+impl From<WorkFault> for ThreadedFault {
+    ghost from_gives = { λ _ fault. IsEarly fault };
 
-impl From<Memory> for WorkFault {
-    ghost from_gives = { λ _ fault. fault ≡ work_memory };
-
-    fn from(_refused: Memory) -> WorkFault {
-        WorkFault::Memory
+    fn from(fault: WorkFault) -> ThreadedFault {
+        match fault {
+            WorkFault::Memory => ThreadedFault::Memory,
+            WorkFault::Gate => ThreadedFault::Gate,
+        }
     }
 }
 
-/// The fault of the run, for a worker's.
-pub(crate) fn of_work(fault: WorkFault) -> ThreadedFault
-    ensures { IsEarly result }
-{
-    match fault {
-        WorkFault::Memory => ThreadedFault::Memory,
-        WorkFault::Gate => ThreadedFault::Gate,
-    }
-}
-
-/// The same, where the map's run ended before its workers did.
+/// The fault of a run whose map ended before its workers did.
 pub(crate) fn of_run(fault: MapFault) -> ThreadedFault
     requires { IsEarlyFault None fault }
     ensures { IsEarly result }

@@ -11,6 +11,7 @@ mod fault;
 mod finish;
 mod gate;
 mod run;
+mod work_fault;
 mod worker;
 
 pub use fault::ThreadedFault;

@@ -4,20 +4,21 @@ ghost use Rattle.std.specs.Io.KnownBytes.{Appends};
 ghost use Rattle.hash_table.specs.Configs.{first_bad_with};
 ghost use Rattle.hash_table.specs.Openings.{WasOpened};
 ghost use Rattle.run_lines.specs.Runs.{Ran};
-ghost use Rattle.threaded_run.specs.declared.fault.WorkFault.TheVariants.{Memory};
+ghost use Rattle.threaded_run.specs.declared.work_fault.WorkFault.TheVariants.{Memory};
 ghost use Rattle.threaded_run.specs.Replies.{MayReply};
 ghost use Rattle.threaded_run.specs.Settings.{settings_of};
 ghost use Rattle.threaded_run.specs.Runs.{AreGiven, HaveLines, IsFirstFault, WritesBefore};
 
-use crate::fault::{ThreadedFault, WorkFault, of_run, of_work};
+use crate::fault::{ThreadedFault, of_run};
 use crate::finish::finish;
 use crate::gate::Gate;
+use crate::work_fault::WorkFault;
 use crate::worker::Files;
 use command_file::Script;
 use far_device::Device;
 use far_map::{Settings, run_bundled};
 use hash_table::Config;
-use std::alloc::Global;
+use std::alloc::{AllocError, Global};
 use std::io::Write;
 use std::sync::Wait;
 use std::thread::Threads;
@@ -50,14 +51,13 @@ fn first_fault(outs: &[Result<Vec<u8>, WorkFault>]) -> Option<WorkFault>
     }
 }
 
-/// The lines of all workers, where none has a fault. `Memory` comes where a growth is refused.
+/// The lines of all workers, where none has a fault.
 fn all_lines(
     alloc: Global,
     mut outs: Vec<Result<Vec<u8>, WorkFault>>,
-) -> Result<Vec<Vec<u8>>, WorkFault>
+) -> Result<Vec<Vec<u8>>, AllocError>
     requires { HaveLines outs.items }
-    ensures given { IfOk result (λ texts. AreGiven outs.items (map (λ t. t.items) texts.items)) }
-    ensures fault { IfErr result (λ fault. fault ≡ Memory) }
+    ensures { IfOk result (λ texts. AreGiven outs.items (map (λ t. t.items) texts.items)) }
 {
     let Some(last) = outs.pop() else {
         return Ok(Vec::new(alloc));
@@ -66,14 +66,9 @@ fn all_lines(
         Ok(lines) => lines,
         Err(_fault) => unreachable!(),
     };
-    let mut texts = match all_lines(alloc, outs) {
-        Ok(texts) => texts,
-        Err(refused) => return Err(refused),
-    };
-    match texts.push(lines) {
-        Ok(()) => Ok(texts),
-        Err(_) => Err(WorkFault::Memory),
-    }
+    let mut texts = all_lines(alloc, outs)?;
+    texts.push(lines)?;
+    Ok(texts)
 }
 
 /// The lines of all workers. The fault is that of the first worker that has one, and `Memory` where none has one and a growth is
@@ -86,7 +81,7 @@ fn lines_of(alloc: Global, outs: Vec<Result<Vec<u8>, WorkFault>>) -> Result<Vec<
         Some(fault) => Err(fault),
         None => match all_lines(alloc, outs) {
             Ok(texts) => Ok(texts),
-            Err(refused) => Err(refused),
+            Err(_) => Err(WorkFault::Memory),
         },
     }
 }
@@ -131,9 +126,6 @@ where
         Ok(ran) => ran,
         Err(fault) => return Err(of_run(fault)),
     };
-    let texts = match lines_of(alloc, outs) {
-        Ok(texts) => texts,
-        Err(fault) => return Err(of_work(fault)),
-    };
+    let texts = lines_of(alloc, outs)?;
     finish(rt, alloc, end, texts.as_slice(), out)
 }

@@ -5,8 +5,8 @@ ghost use Rattle.threaded_run.specs.Replies.{shown};
 ghost use Rattle.threaded_run.specs.Runs.{EndedIs};
 
 use crate::command::run_at;
-use crate::fault::WorkFault;
 use crate::gate::GateKeeper;
+use crate::work_fault::WorkFault;
 use command_file::Script;
 use far_map::{Calls, Text, Work};
 use std::alloc::Global;

@@ -12,4 +12,4 @@ outs_of-requires g c = record {
 pub returns-clause-worked : goal.returns-clause-worked
 returns-clause-worked g c =
     worked (λ worker begun ended out. g.W.Work.done c.args.work.now worker g.J.Naming.limits begun ended out) c.args.far.now.table.limit c.mark-mark.result (vec_len c.args.all_pending) (map (λ c. c.pass) c.in_ok-callers.callers.items)
-    c.in_ok-states.states.items c.in_ok-callers.kept.items c.in_ok-outs.outs.items (omega (arith, c.in_ok-states.states.ok, c.in_ok-states.ensures.each, c.len.ensures)) c.in_ok-outs.ensures.outs c.in_ok-callers.ensures.worked
+    c.in_ok-states.states.items c.in_ok-callers.kept.items c.in_ok-outs.outs.items (omega (arith, c.in_ok-states.states.ok, c.in_ok-states.ensures, c.len.ensures)) c.in_ok-outs.ensures c.in_ok-callers.ensures.worked
