@@ -274,6 +274,11 @@ pub trait Calls<V: Value> {
     fn buckets(&self) -> u32
         ensures { result ≡ limits.buckets };
 
+    /// Returns the number of the key's bucket, for `for_each_in` and `is_empty_at`.
+    fn bucket_of(&self, key: &Text) -> u32
+        ensures is { result ≡ bucket enc_text limits.buckets key.now }
+        ensures below { result < limits.buckets };
+
     /// Calls `visit` with a copy of each pair of one bucket, in key order, as they were at one moment of the
     /// call. Buckets are numbered from 0, and `bucket` has to be less than `buckets()`.
     ///
@@ -460,6 +465,10 @@ impl<'m, V: Value, J: Naming, B: QueueNaming, D: Device> Calls<V> for Session<'m
 
     fn buckets(&self) -> u32 {
         self.map.buckets
+    }
+
+    fn bucket_of(&self, key: &Text) -> u32 {
+        self.map.table.bucket(key)
     }
 
     fn for_each_in<F: FnMut(Text, V), R: Wait>(

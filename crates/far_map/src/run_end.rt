@@ -32,10 +32,6 @@ pub enum Given<V: Value> {
 pub(crate) struct NoTaker;
 
 impl<V: Value> TakesPairs<Text, V> for NoTaker {
-    ghost takes = { λ old pairs new. ⊤ };
-
-    ghost stops = { λ old new. ⊤ };
-
     ghost takes_none = { λ x. tt };
 
     ghost takes_both = { λ x y z first last one other. tt };

@@ -1,10 +1,22 @@
 //! The settings of a map, and their names in faults.
-ghost use Rattle.std.specs.Prelude.{◌≡◌};
-ghost use Rattle.far_map.specs.Settings.{config_of, new_settings, setting_of};
+ghost use Rattle.std.specs.Prelude.{◌≡◌, ◌<◌, ◌≤◌, ℕ, None};
+ghost use Rattle.far_map.specs.Settings.{config_of, first_bad, new_settings, setting_of};
 
 use hash_table::Config;
 use std::fmt;
 use std::fmt::{Display, Formatter};
+
+/// Bytes of a bucket and of its place in a scratch file.
+const BUCKET: u64 = 74;
+
+/// Bytes of a frame without its object.
+const FRAME: u64 = 66;
+
+/// Frames for old versions that wait for reclamation, and for what the sessions hold.
+const WAITING: u64 = 5_000;
+
+/// The most buckets, and the most frames.
+const MOST: u64 = 1 << 22;
 
 /// The settings of a map. It has a lane for each device that it is opened over, 1 to 64.
 ///
@@ -77,6 +89,32 @@ impl Settings {
             spares: 256,
             bytes: u64::MAX,
             format: 2,
+        }
+    }
+
+    /// Returns settings of a map that takes about `bytes` of memory and holds about `pairs` pairs. A key and
+    /// its value have `pair` bytes on average.
+    ///
+    /// There is a bucket for each pair, as far as a third of the memory is enough for all buckets and for
+    /// their places in scratch files. There are frames for as many objects as the memory has room for, and a
+    /// third more, since the evictor starts when fewer than a quarter of all frames are free. `bytes` of the
+    /// settings is four fifths of what is left, because malloc loses the last fifth. The others are as `new`
+    /// sets them, with objects of at most 2^24 bytes.
+    ///
+    /// The settings are always within their limits. If a few megabytes or less are asked for, the map takes
+    /// more than that.
+    pub fn for_memory(bytes: u64, pairs: u64, pair: u32) -> Settings
+        ensures { (devices : ℕ) → 0 < devices → devices ≤ 64 → first_bad result devices ≡ None }
+    {
+        let buckets = pairs.min(bytes / 3 / BUCKET).clamp(1, MOST);
+        let object = (pairs / buckets).max(1).saturating_mul(u64::from(pair));
+        let rest = bytes.saturating_sub(BUCKET * buckets);
+        let fit = rest / object.saturating_add(object / 4).saturating_add(FRAME);
+        let used = fit.min(buckets);
+        let frames = (used + used / 3 + WAITING.min(bytes / 1_024)).clamp(1, MOST);
+        Settings {
+            bytes: rest.saturating_sub(FRAME * frames) / 5 * 4,
+            ..Settings::new(buckets as u32, frames as u32, 1 << 24)
         }
     }
 

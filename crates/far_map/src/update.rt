@@ -15,6 +15,7 @@ use swapper::QueueNaming;
 use version_words::Naming;
 
 /// What an `update` did.
+#[must_use = "an update may have changed nothing"]
 #[derive(Drop)]
 pub enum Updated<V: Value> {
     /// The value was set, to what was made of this one. `None` if the key had no value.

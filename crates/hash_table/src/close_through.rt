@@ -27,13 +27,14 @@ pub struct Stopped;
 /// Takes the pairs of a table that `FarTable::close_through` ends. An implementation chooses what its
 /// contract states. For example, one that writes pairs out states in `takes` what was written.
 pub trait TakesPairs<K: FarObject, V: FarObject> {
-    ghost use Rattle.std.specs.Prelude.{List, [], ◌++◌, MatchResult};
+    ghost use Rattle.std.specs.Prelude.{List, [], ◌++◌, MatchResult, ⊤};
 
-    /// Relates the taker before and after it took these pairs.
-    ghost takes: { Self → List (K × V) → Self → Type 0 };
+    /// Relates the taker before and after it took these pairs. Nothing is stated if it is left out, and then
+    /// the two laws are `λ _. tt` and `λ _ _ _ _ _ _ _. tt`.
+    ghost takes: { Self → List (K × V) → Self → Type 0 } = { λ _ _ _. ⊤ };
 
-    /// Relates the taker before and after it stopped.
-    ghost stops: { Self → Self → Type 0 };
+    /// Relates the taker before and after it stopped. Nothing is stated if it is left out.
+    ghost stops: { Self → Self → Type 0 } = { λ _ _. ⊤ };
 
     /// Takes the pairs of one bucket, in key order. An empty bucket has none.
     ///

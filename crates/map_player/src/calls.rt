@@ -40,6 +40,7 @@ const CALLS: &[(&str, Call)] = &[
     ("update", Call::Change(Change::Update)),
     ("names_left", Call::Look(Look::NamesLeft)),
     ("buckets", Call::Look(Look::Buckets)),
+    ("bucket_of", Call::Look(Look::BucketOf)),
     ("is_empty_at", Call::Look(Look::IsEmptyAt)),
     ("unread_in", Call::Look(Look::UnreadIn)),
     ("evict", Call::Look(Look::Evict)),

@@ -1,7 +1,7 @@
 //! Calls that only look, and those that move objects without a key.
 
 use crate::replies::{Said, Stop, count, plain, truth};
-use crate::words::number_at;
+use crate::words::{key_at, number_at};
 use case_files::Line;
 use far_map::{Calls, Stats, Traffic, Value};
 use std::alloc::Global;
@@ -12,6 +12,7 @@ use std::sync::Wait;
 pub enum Look {
     NamesLeft,
     Buckets,
+    BucketOf,
     IsEmptyAt,
     UnreadIn,
     Evict,
@@ -127,6 +128,7 @@ pub fn make_look<V: Value, S: Calls<V>, R: Wait>(
     match call {
         Look::NamesLeft => count(alloc, me.names_left()),
         Look::Buckets => count(alloc, u64::from(me.buckets())),
+        Look::BucketOf => count(alloc, u64::from(me.bucket_of(&key_at(alloc, line, 1)?))),
         Look::IsEmptyAt => is_empty_at(alloc, me, line),
         Look::UnreadIn => unread_in(alloc, me, line),
         Look::Evict => truth(alloc, me.evict(rt)?),

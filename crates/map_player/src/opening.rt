@@ -67,12 +67,19 @@ fn kind_of(line: &Line) -> Kind {
     }
 }
 
-/// The settings of a line: 16 buckets, 4 frames and objects of 4,096 bytes where it says nothing else.
+/// The settings of a line: those for its memory where it has one, and else 16 buckets, 4 frames and objects
+/// of 4,096 bytes where it says nothing else.
 fn settings_of(line: &Line) -> Result<Settings, Stop> {
     let buckets = number_named(line, "buckets", 16)?;
     let frames = number_named(line, "frames", 4)?;
     let limit = number_named(line, "limit", 4_096)?;
-    let mut settings = Settings::new(buckets, frames, limit);
+    let mut settings = match line.number_named("memory", 0) {
+        Some(memory) if line.named("memory").is_some() => {
+            let pairs = line.number_named("pairs", 0).unwrap_or(0);
+            Settings::for_memory(memory, pairs, number_named(line, "pair", 0)?)
+        }
+        _ => Settings::new(buckets, frames, limit),
+    };
     settings.passes = number_named(line, "passes", settings.passes)?;
     settings.spares = number_named(line, "spares", settings.spares)?;
     settings.format = number_named(line, "format", settings.format)?;

@@ -26,8 +26,6 @@ impl TakesPairs<Text, Text> for Taker {
 
     ghost takes = { λ old pairs new. new.pairs.items ≡ old.pairs.items ++ pairs };
 
-    ghost stops = { λ old new. ⊤ };
-
     ghost takes_none = { λ x. sym (append-nil x.pairs.items) };
 
     ghost takes_both = { λ x y z first last one other. other ∙ (ap (λ items. items ++ last) one ∙ append_assoc x.pairs.items first last) };

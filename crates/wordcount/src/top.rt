@@ -73,8 +73,6 @@ impl TakesPairs<Text, Text> for Top {
 
     ghost takes = { λ old pairs new. Takes old.most old.kept pairs new.most new.kept };
 
-    ghost stops = { λ old new. ⊤ };
-
     ghost takes_none = { λ x. taken_none x.most x.kept };
 
     ghost takes_both = { λ x y z first last one other. taken_both x.most y.most z.most x.kept y.kept z.kept first last one other };
