@@ -41,7 +41,7 @@ mod worker;
 mod worker_end;
 
 pub use pipes::{Pipes, PipesFault};
-pub use request_loop::{LoopFault, PacketFault};
+pub use request_loop::{LoopFault, PacketFault, PacketInput, PacketOutput};
 pub use run::run_server;
 pub use server_commands::DeviceReason;
 pub use settings::{Bounds, ServerSettings};

@@ -2,8 +2,8 @@
 
 ghost use Rattle.std.specs.Prelude.{IfOk};
 
+use request_loop::{PacketInput, PacketOutput};
 use std::alloc::Global;
-use std::io::{BufRead, Write};
 use thiserror::Error;
 
 /// Why the pipes of a worker can't be opened.
@@ -23,10 +23,10 @@ pub trait Pipes {
     ghost use Rattle.std.specs.Prelude.{ℕ, List};
 
     /// Where requests come from: packets as `request_loop` reads them.
-    type Input: BufRead + Drop;
+    type Input: PacketInput + Drop;
 
     /// Where replies go to.
-    type Output: Write + Drop;
+    type Output: PacketOutput + Drop;
 
     /// Whether the worker of this number may be given this reader and this writer.
     ghost opens: { Self → ℕ → Self.Input → Self.Output → Type 0 };

@@ -21,8 +21,8 @@ use crate::worker_end::WorkerEnd;
 use far_blob::Blob;
 use far_device::Device;
 use far_map::{MapFault, Settings, run_renewed};
+use request_loop::{PacketInput, PacketOutput};
 use std::alloc::{AllocError, Global};
-use std::io::{BufRead, Write};
 use std::rt::Clock;
 use std::sync::Wait;
 use std::thread::Threads;
@@ -41,7 +41,7 @@ fn map_of(settings: &ServerSettings) -> Settings
 }
 
 /// The states of workers that have not begun, as many as `all_workers` says.
-fn fresh<I: BufRead + Drop, O: Write + Drop>(
+fn fresh<I: PacketInput + Drop, O: PacketOutput + Drop>(
     alloc: Global,
     all_workers: u32,
 ) -> Result<Vec<WorkerState<I, O>>, AllocError>
@@ -56,7 +56,7 @@ fn fresh<I: BufRead + Drop, O: Write + Drop>(
 }
 
 /// How the workers have ended. `Stopped` is returned if one has not, which no run leaves.
-fn ends_of<I: BufRead + Drop, O: Write + Drop>(
+fn ends_of<I: PacketInput + Drop, O: PacketOutput + Drop>(
     alloc: Global,
     states: Vec<WorkerState<I, O>>,
 ) -> Result<Vec<WorkerEnd<I, O>>, MapFault>

@@ -2,20 +2,19 @@
 
 use crate::server::Kept;
 use crate::worker_end::WorkerEnd;
-use request_loop::{Holds, Wire};
-use std::io::{BufRead, Write};
+use request_loop::{Holds, PacketInput, PacketOutput, Wire};
 use std::marker::Model;
 
 /// A worker that has left a map, and goes on in the next one. Contracts see its packets (`wire`), what the
 /// request loop holds of its connections (`holds`), and what the worker knows of these (`kept`).
 #[derive(Drop)]
-pub(crate) struct PausedWorker<I: BufRead + Drop, O: Write + Drop> {
+pub(crate) struct PausedWorker<I: PacketInput + Drop, O: PacketOutput + Drop> {
     pub(crate) wire: Wire<I, O>,
     pub(crate) holds: Holds,
     pub(crate) kept: Kept,
 }
 
-impl<I: BufRead + Drop, O: Write + Drop> Model for PausedWorker<I, O> {
+impl<I: PacketInput + Drop, O: PacketOutput + Drop> Model for PausedWorker<I, O> {
     ghost use Rattle.far_server.specs.Left.{LeftView, HasStood};
 
     ghost Value = { LeftView I O };
@@ -27,7 +26,7 @@ impl<I: BufRead + Drop, O: Write + Drop> Model for PausedWorker<I, O> {
 
 /// What a worker, or the sweep, keeps from one map to the next.
 #[derive(Drop)]
-pub(crate) enum WorkerState<I: BufRead + Drop, O: Write + Drop> {
+pub(crate) enum WorkerState<I: PacketInput + Drop, O: PacketOutput + Drop> {
     /// It has not begun.
     Fresh,
     /// A worker that goes on in the next map.

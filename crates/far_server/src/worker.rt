@@ -23,9 +23,8 @@ use crate::usage::FarUsage;
 use crate::worker_end::{ServeFault, WorkerEnd};
 use far_blob::Blob;
 use far_map::{After, Calls, LoadReport, RenewableWork};
-use request_loop::{Holds, LoopFault, Pause, Wire, serve_on};
+use request_loop::{Holds, LoopFault, PacketInput, PacketOutput, Pause, Wire, serve_on};
 use std::alloc::Global;
-use std::io::{BufRead, Write};
 use std::rt::Clock;
 use std::sync::Wait;
 
@@ -45,7 +44,7 @@ pub(crate) struct Workers<'a, P, C> {
 
 /// Serves the packets of a worker by `server`, from where its last term ended. Returns why it paused, and
 /// what the request loop holds of the connections then.
-fn serve_packets<S: Calls<Blob>, C: Clock, R: Wait, I: BufRead + Drop, O: Write + Drop>(
+fn serve_packets<S: Calls<Blob>, C: Clock, R: Wait, I: PacketInput + Drop, O: PacketOutput + Drop>(
     alloc: Global,
     wire: &mut Wire<I, O>,
     server: &mut Server<'_, S, C, R, Kept>,
@@ -55,6 +54,7 @@ fn serve_packets<S: Calls<Blob>, C: Clock, R: Wait, I: BufRead + Drop, O: Write 
     ensures same_reference { OnOk result (server.new.me.ghost_name ≡ server.old.me.ghost_name) }
     ensures went_on { IfOk result (λ left. GoesOnBy (WireTells I.remaining O.contents) (Acts S.limits server.old.context.now.settings.now.digest_keys server.old.context.now.settings.now.password server.old.context.now.settings.now.bounds) wire.old.limits wire.old wire.new
         (worker_view server.old.context.now.settings.now.password (S.shown server.old.me.now) server.old.kept.connections.entries) (worker_view server.old.context.now.settings.now.password (S.shown server.new.me.now) server.new.kept.connections.entries) holds left.1) }
+    ensures sent { OnOk result (O.handed_on wire.new.output) }
     ensures whole { OnOk result (wire.new.broken ≡ false) }
     ensures ended { IfOk result (λ left. left.0 ≡ pause.End → HasEnded I.remaining O.contents wire.old wire.new holds) }
     ensures limits { OnOk result (wire.new.limits ≡ wire.old.limits) }
@@ -64,7 +64,7 @@ fn serve_packets<S: Calls<Blob>, C: Clock, R: Wait, I: BufRead + Drop, O: Write 
 
 /// Serves a worker's requests from where its last term ended: until no more packets come, or until the wake
 /// at which all workers leave.
-fn serve<S: Calls<Blob>, C: Clock, R: Wait, I: BufRead + Drop, O: Write + Drop>(
+fn serve<S: Calls<Blob>, C: Clock, R: Wait, I: PacketInput + Drop, O: PacketOutput + Drop>(
     context: &ServerContext<'_, C, R>,
     me: &mut S,
     left: PausedWorker<I, O>,
@@ -135,7 +135,9 @@ fn serve_term<S: Calls<Blob>, P: Pipes, C: Clock, R: Wait>(
 }
 
 /// How many workers have not ended.
-fn count_unended<I: BufRead + Drop, O: Write + Drop>(states: &[WorkerState<I, O>]) -> u32 {
+fn count_unended<I: PacketInput + Drop, O: PacketOutput + Drop>(
+    states: &[WorkerState<I, O>],
+) -> u32 {
     let mut count = 0u32;
     for state in states {
         if !matches!(state, WorkerState::Ended(_)) {

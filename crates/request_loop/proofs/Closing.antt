@@ -178,7 +178,7 @@ begun_settled limits n m came sent es s =
       | inr o ↦ begun_over limits came sent es o.0
     ]
 
-begun_stands : (limits : Limits) (d : ℕ) (came sent : List (Mark ℕ)) (steps : List (Mark Exchange)) (s : Seen) → StandsAt limits d came sent steps s → IsBegunBy limits (said d came) (said d sent) (said d steps)
+pub begun_stands : (limits : Limits) (d : ℕ) (came sent : List (Mark ℕ)) (steps : List (Mark Exchange)) (s : Seen) → StandsAt limits d came sent steps s → IsBegunBy limits (said d came) (said d sent) (said d steps)
 begun_stands limits d came sent steps s h = begun_settled limits (is_stopped d came) (is_stopped d sent) _ _ _ (settled_by limits (is_stopped d came) (is_stopped d sent) (is_stopped d steps) _ _ _ s h)
 
 pub begun : (limits : Limits) (slots : Slots) (came sent : List (Mark ℕ)) (steps : List (Mark Exchange)) → AllStand limits slots came sent steps → AreBegun limits came sent steps

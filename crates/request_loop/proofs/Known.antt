@@ -1,6 +1,6 @@
 -- Bytes that a reader loses and a writer gets, piece by piece.
 use Rattle.std.proofs.Common.{◌≡◌, ℕ, ◌+◌, List, [], ◌∷◌, ◌++◌, length, take, drop, get_or, Option, Some, None, refl, sym, ap, ◌∙◌, arith, append_assoc, append-nil, subst, ◌<◌, zero, suc, Result, Ok, Err, Bool, true, false}
-use Rattle.std.specs.Prelude.{OnErr, MatchOption}
+use Rattle.std.specs.Prelude.{OnErr, OnOk, MatchOption}
 use Rattle.std.proofs.lemmas.List.{get_or-drop}
 use Rattle.std.specs.Io.KnownBytes.{Keeps, Consumes, Appends, prepend_known}
 use Rattle.std.specs.Int.{w32, w64, to_be_bytes, from_be_bytes}
@@ -100,6 +100,14 @@ pub on_err : {T E : Type 0} (r : Result T E) (P : Type 0) → P → OnErr r P
 on_err (Ok x) P p = tt
 on_err (Err e) P p = p
 
+pub err_then : {T E : Type 0} (r : Result T E) (P Q : Type 0) → OnErr r P → (P → Q) → OnErr r Q
+err_then (Ok x) P Q p f = tt
+err_then (Err e) P Q p f = f p
+
+pub ok_then : {T E : Type 0} (r : Result T E) (P Q : Type 0) → OnOk r P → (P → Q) → OnOk r Q
+ok_then (Ok x) P Q p f = f p
+ok_then (Err e) P Q p f = tt
+
 pub appends_then : (a b c : Option (List ℕ)) (x : List ℕ) → Appends a b x → (part : List ℕ) × Appends b c part → (part : List ℕ) × Appends a c part
 appends_then a b c x p q = (x ++ q.0, appends_more a b c x q.0 p q.1)
 
@@ -160,6 +168,10 @@ written_marked began a sent t =
     let never : true ≡ false → t.0 ≡ [] = λ e. (let none : ⊥ = cc in absurd none) in
     (t.0, never, t.2)
 
+-- what was written stays so where it is handed on
+pub written_kept : (began a b : Option (List ℕ)) (broken : Bool) (sent : List Packet) → TellsWritten began a broken sent → Keeps a b → TellsWritten began b broken sent
+written_kept began a b broken sent t k = (t.0, t.1, appends-kept began a b (packets_bytes sent ++ t.0) t.2 k)
+
 pub nothing_read : (a : Option (List ℕ)) → TellsRead a a false []
 nothing_read a = ([], λ _. refl, consumes_nothing a)
 
@@ -174,18 +186,18 @@ bytes_all (x ∷ l) fits (suc i) = bytes_all l (λ k within. fits (suc k) (omega
 abbrev pub Tells : Option (List ℕ) → Option (List ℕ) → Option (List ℕ) → Option (List ℕ) → Bool → List Packet → List Packet → Type 0
 Tells began a wrote w broken came sent = TellsRead began a broken came × TellsWritten wrote w broken sent
 
-abbrev pub Came : {X : Type 0} → (X → Option (List ℕ)) → (X → Option (List ℕ)) → Option (List ℕ) → Option (List ℕ) → Option (List ℕ) → List ℕ → Option Head → Bool → Type 0
-Came {X} began wrote a b w room r broken =
-    MatchOption r ((start : X) (came sent : List Packet) → Tells (began start) a (wrote start) w broken came sent → Tells (began start) b (wrote start) w broken came sent)
-    (λ h. (start : X) (came sent : List Packet) → Tells (began start) a (wrote start) w broken came sent → Tells (began start) b (wrote start) w broken (came ++ record { head = h; bytes = room } ∷ []) sent)
+abbrev pub Came : {X : Type 0} → (X → Option (List ℕ)) → (X → Option (List ℕ)) → Option (List ℕ) → Option (List ℕ) → Option (List ℕ) → Option (List ℕ) → List ℕ → Option Head → Bool → Type 0
+Came {X} began wrote a b w v room r broken =
+    MatchOption r ((start : X) (came sent : List Packet) → Tells (began start) a (wrote start) w broken came sent → Tells (began start) b (wrote start) v broken came sent)
+    (λ h. (start : X) (came sent : List Packet) → Tells (began start) a (wrote start) w broken came sent → Tells (began start) b (wrote start) v broken (came ++ record { head = h; bytes = room } ∷ []) sent)
 
-pub came_told : {X : Type 0} (began wrote : X → Option (List ℕ)) (a b w : Option (List ℕ)) (room : List ℕ) (r : Option Head) (broken : Bool) → broken ≡ false → MatchOption r (Keeps a b) (λ h. Consumes a b (packet_bytes (record { head = h; bytes = room }))) → Came began wrote a b w room r broken
-came_told began wrote a b w room None broken is k =
-    let P : Bool → Type 0 = λ t. Came began wrote a b w room None t in
-    subst P (sym is) (λ start came sent t. (read_kept (began start) a b came t.0 k, t.1))
-came_told began wrote a b w room (Some h) broken is k =
-    let P : Bool → Type 0 = λ t. Came began wrote a b w room (Some h) t in
-    subst P (sym is) (λ start came sent t. (read_more (began start) a b came (record { head = h; bytes = room }) t.0 k, t.1))
+pub came_told : {X : Type 0} (began wrote : X → Option (List ℕ)) (a b w v : Option (List ℕ)) (room : List ℕ) (r : Option Head) (broken : Bool) → broken ≡ false → Keeps w v → MatchOption r (Keeps a b) (λ h. Consumes a b (packet_bytes (record { head = h; bytes = room }))) → Came began wrote a b w v room r broken
+came_told began wrote a b w v room None broken is same k =
+    let P : Bool → Type 0 = λ t. Came began wrote a b w v room None t in
+    subst P (sym is) (λ start came sent t. (read_kept (began start) a b came t.0 k, written_kept (wrote start) w v false sent t.1 same))
+came_told began wrote a b w v room (Some h) broken is same k =
+    let P : Bool → Type 0 = λ t. Came began wrote a b w v room (Some h) t in
+    subst P (sym is) (λ start came sent t. (read_more (began start) a b came (record { head = h; bytes = room }) t.0 k, written_kept (wrote start) w v false sent t.1 same))
 
 abbrev pub Sent : {X : Type 0} → (X → Option (List ℕ)) → (X → Option (List ℕ)) → Option (List ℕ) → Option (List ℕ) → Option (List ℕ) → Packet → Bool → Type 0
 Sent {X} began wrote a w v f broken = (start : X) (came sent : List Packet) → Tells (began start) a (wrote start) w broken came sent → Tells (began start) a (wrote start) v broken came (sent ++ f ∷ [])
@@ -205,9 +217,9 @@ wire_told remaining contents v w came sent off told =
     )
 
 -- a packet is written part by part
-pub packet_written : (a b c d e f : Option (List ℕ)) (head : Head) (bytes : List ℕ) (kind : ℕ) (connection len : List ℕ) → Appends a b (kind ∷ []) → Appends b c connection → Appends c d len → Appends d e bytes → Keeps e f → kind ≡ kind_byte head.kind → connection ≡ to_be_bytes w64 head.connection → len ≡ to_be_bytes w32 (length bytes) → Appends a f (packet_bytes (record { head = head; bytes = bytes }))
-packet_written a b c d e f head bytes kind connection len p q r s k is is_too is_long =
-    let P : List ℕ → Type 0 = Appends a f in
+pub packet_written : (a b c d e : Option (List ℕ)) (head : Head) (bytes : List ℕ) (kind : ℕ) (connection len : List ℕ) → Appends a b (kind ∷ []) → Appends b c connection → Appends c d len → Appends d e bytes → kind ≡ kind_byte head.kind → connection ≡ to_be_bytes w64 head.connection → len ≡ to_be_bytes w32 (length bytes) → Appends a e (packet_bytes (record { head = head; bytes = bytes }))
+packet_written a b c d e head bytes kind connection len p q r s is is_too is_long =
+    let P : List ℕ → Type 0 = Appends a e in
     let same : kind ∷ (connection ++ (len ++ bytes)) ≡ packet_bytes (record { head = head; bytes = bytes }) =
     ap (λ n. n ∷ (connection ++ (len ++ bytes))) is ∙ (ap (λ l. kind_byte head.kind ∷ (l ++ (len ++ bytes))) is_too ∙ ap (λ l. kind_byte head.kind ∷ (to_be_bytes w64 head.connection ++ (l ++ bytes))) is_long) in
-    subst P same (appends_more a b f (kind ∷ []) (connection ++ (len ++ bytes)) p (appends_more b c f connection (len ++ bytes) q (appends_more c d f len bytes r (appends-kept d e f bytes s k))))
+    subst P same (appends_more a b e (kind ∷ []) (connection ++ (len ++ bytes)) p (appends_more b c e connection (len ++ bytes) q (appends_more c d e len bytes r s)))

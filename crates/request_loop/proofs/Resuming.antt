@@ -11,7 +11,7 @@ use Rattle.request_loop.specs.Served.{Served, Begun}
 use Rattle.request_loop.specs.Slots.{Seen, Views, none_seen, views_of, seen_in, StandsAt, AllStand}
 use Rattle.request_loop.specs.Standing.{Standing, Settled, GoesOnBy}
 use Rattle.request_loop.specs.Turns.{Stands, Comes, Faulty}
-use Rattle.request_loop.proofs.Closing.{free_stands}
+use Rattle.request_loop.proofs.Closing.{begun_stands, free_stands}
 use Rattle.request_loop.proofs.Seeing.{none_at}
 use Rattle.request_loop.proofs.Standing.{settled_by, left_by}
 use Rattle.request_loop.proofs.Framing.{made_comes}
@@ -76,6 +76,29 @@ pub fails_on : {D X : Type 0} (tells : D → D → List Packet → List Packet �
 fails_on {D} {X} tells does limits then old last x before is goes =
     let P : Limits → Type 0 = λ l. (start : D) (past : List (Mark Exchange)) → Standing tells l start old before past → Faulty tells does l past start last x in
     subst P (sym is) goes
+
+-- what was said is the same where all of it has been handed on
+pub sent_on : {D X : Type 0} (tells : D → D → List Packet → List Packet → Type 0) (does : X → Call → X → Type 0) (limits : Limits) (old now last : D) (x y : X) (before after : Views) → ((start : D) (came sent : List Packet) → tells start now came sent → tells start last came sent) → GoesOnBy tells does limits old now x y before after → GoesOnBy tells does limits old last x y before after
+sent_on tells does limits old now last x y before after kept goes start past h =
+    let g = goes start past h in
+    (g.0, g.1, record { came = g.2.came; sent = g.2.sent; told = kept start g.2.came g.2.sent g.2.told; stands = g.2.stands; once_sent = g.2.once_sent; once = g.2.once })
+
+-- what was to be handed on was not
+pub unsent : {D X : Type 0} (tells : D → D → List Packet → List Packet → Type 0) (does : X → Call → X → Type 0) (limits : Limits) (old now last : D) (x y : X) (before after : Views) → ((start : D) (came sent : List Packet) → tells start now came sent → tells start last came sent) → GoesOnBy tells does limits old now x y before after → (start : D) (past : List (Mark Exchange)) → Standing tells limits start old before past → Faulty tells does limits past start last x
+unsent tells does limits old now last x y before after kept goes start past h =
+    let g = goes start past h in
+    record {
+      came = g.2.came;
+      sent = g.2.sent;
+      steps = g.0;
+      last = y;
+      told = kept start g.2.came g.2.sent g.2.told;
+      run = g.1;
+      each = λ c. begun_stands limits c (marks g.2.came) (marks g.2.sent) (past ++ step_marks g.0) (seen_in after c) (g.2.stands c);
+    }
+
+pub still_faulty : {D X : Type 0} (tells : D → D → List Packet → List Packet → Type 0) (does : X → Call → X → Type 0) (limits : Limits) (past : List (Mark Exchange)) (start now last : D) (x : X) → ((came sent : List Packet) → tells start now came sent → tells start last came sent) → Faulty tells does limits past start now x → Faulty tells does limits past start last x
+still_faulty tells does limits past start now last x kept f = record { came = f.came; sent = f.sent; steps = f.steps; last = f.last; told = kept f.came f.sent f.told; run = f.run; each = f.each }
 
 -- where a worker stands no reply is owed
 pub settles : {D : Type 0} (tells : D → D → List Packet → List Packet → Type 0) (limits : Limits) (start now : D) (views : Views) (past : List (Mark Exchange)) → Standing tells limits start now views past → Settled tells limits start now past

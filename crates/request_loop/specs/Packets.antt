@@ -1,5 +1,5 @@
 -- Packets as they are spelled, and what a reader and a writer tell of them.
-use Rattle.std.specs.Prelude.{◌≡◌, ℕ, Bool, false, List, [], ◌∷◌, ◌++◌, length, Option, IfSome}
+use Rattle.std.specs.Prelude.{◌≡◌, ℕ, ◌⊎◌, Bool, true, false, List, [], ◌∷◌, ◌++◌, length, Option, IfSome}
 use Rattle.std.specs.Int.{w32, w64, to_be_bytes}
 use Rattle.std.specs.Io.KnownBytes.{Consumes, Appends, IsAtEnd}
 use Rattle.request_loop.specs.declared.packet.Kind.{Kind}
@@ -43,6 +43,10 @@ TellsRead began now broken came = (part : List ℕ) × (broken ≡ false → par
 -- the writer has got these packets, and where it failed a part of another
 abbrev pub TellsWritten : Option (List ℕ) → Option (List ℕ) → Bool → List Packet → Type 0
 TellsWritten began now broken sent = (part : List ℕ) × (broken ≡ false → part ≡ []) × Appends began now (packets_bytes sent ++ part)
+
+-- the next read does not wait, or nothing waits in the writer meanwhile
+abbrev pub IsReady : {R W : Type 0} → (R → Bool) → (W → Type 0) → R → W → Type 0
+IsReady filled handed_on input output = (filled input ≡ true) ⊎ handed_on output
 
 -- of a first reader that tells its bytes none is left in the second
 abbrev pub WireEnded : {R W : Type 0} → (R → Option (List ℕ)) → Wire R W → Wire R W → Type 0

@@ -5,13 +5,13 @@ ghost use Rattle.request_loop.specs.Workers.{Packet};
 ghost use Rattle.request_loop.specs.Served.{Served};
 ghost use Rattle.request_loop.specs.Packets.{packets_bytes};
 
+use crate::ends::{PacketInput, PacketOutput};
 use crate::fault::LoopFault;
 use crate::service::Service;
 use crate::wire::Wire;
 use crate::worker_loop::serve;
 use resp::Limits;
 use std::alloc::Global;
-use std::io::{BufRead, Write};
 
 /// Serves the packets of a reader to its end, or until the service leaves at a wake, and writes
 /// packets.
@@ -21,14 +21,14 @@ use std::io::{BufRead, Write};
 /// missing.
 ///
 /// Returns the reader and the writer. Errors are those of `serve_on`.
-pub fn serve_over<R: BufRead + Drop, W: Write + Drop, S: Service>(
+pub fn serve_over<R: PacketInput + Drop, W: PacketOutput + Drop, S: Service>(
     alloc: Global,
     input: R,
     output: W,
     limits: Limits,
     service: &mut S,
 ) -> Result<(R, W), LoopFault>
-    ensures { IfOk result (λ parts. (came : List Packet) × (sent : List Packet) × Consumes (R.remaining input) (R.remaining parts.0) (packets_bytes came) × Appends (W.contents output) (W.contents parts.1) (packets_bytes sent) × Served S.does limits service.old service.new came sent) }
+    ensures { IfOk result (λ parts. (came : List Packet) × (sent : List Packet) × Consumes (R.remaining input) (R.remaining parts.0) (packets_bytes came) × Appends (W.contents output) (W.contents parts.1) (packets_bytes sent) × Served S.does limits service.old service.new came sent × W.handed_on parts.1) }
 {
     let mut wire = Wire::new(alloc, input, output, limits);
     match serve(alloc, &mut wire, service) {

@@ -13,6 +13,8 @@ use resp::Limits;
 /// replies to all whole requests that were read of it. It has also been sent a close, if its client
 /// closed it or it is over.
 ///
+/// What is sent may wait for other packets, but not while `read` waits. `send` hands all of it on.
+///
 /// After an error each further call may fail. `Wire` does so.
 pub trait Duplex {
     /// What the type claims: that from the first state to the second these packets were read, and these
@@ -24,6 +26,9 @@ pub trait Duplex {
 
     /// Whether nothing that the first state had to read is left in the second.
     ghost ended: { Self → Self → Type 0 };
+
+    /// Whether all that was written has been handed on.
+    ghost handed_on: { Self → Type 0 };
 
     /// The limits of requests on its connections.
     ghost limits: { Self → limits_of_requests };
@@ -51,7 +56,7 @@ pub trait Duplex {
         ensures whole { OnOk result (whole self.new) }
         ensures limits { limits self.new ≡ limits self.old };
 
-    /// Writes a packet.
+    /// Writes a packet. It is handed on before the next `read` waits, and by `send`.
     ///
     /// `Wire` returns these errors:
     ///
@@ -61,6 +66,15 @@ pub trait Duplex {
     fn write(&mut self, head: Head, bytes: &[u8]) -> Result<(), PacketFault>
         ensures sent { OnOk result ((start : Self) (came sent : List Packet) → tells start self.old came sent → tells start self.new came (sent ++ record { head = head; bytes = bytes.now } ∷ [])) }
         ensures failed { OnErr result ((start : Self) (came sent : List Packet) → tells start self.old came sent → tells start self.new came sent) }
+        ensures whole { OnOk result (whole self.new) }
+        ensures limits { limits self.new ≡ limits self.old };
+
+    /// Hands on all that was written. `Wire` returns `Io` if the writer fails, and `Failed` after an
+    /// earlier error.
+    fn send(&mut self) -> Result<(), PacketFault>
+        ensures all { OnOk result (handed_on self.new) }
+        ensures told { (start : Self) (came sent : List Packet) → tells start self.old came sent → tells start self.new came sent }
+        ensures ended { (start : Self) → ended start self.old → ended start self.new }
         ensures whole { OnOk result (whole self.new) }
         ensures limits { limits self.new ≡ limits self.old };
 }

@@ -15,6 +15,7 @@ mod buffers;
 mod byte_streams;
 mod dispatch;
 mod duplex;
+mod ends;
 mod fault;
 mod one_request;
 mod packet;
@@ -30,6 +31,7 @@ mod worker_loop;
 
 pub use byte_streams::serve_over;
 pub use duplex::Duplex;
+pub use ends::{PacketInput, PacketOutput};
 pub use fault::LoopFault;
 pub use packet::{Head, Kind};
 pub use packet_fault::PacketFault;

@@ -1,20 +1,37 @@
 //! Reads packets from a reader.
-ghost use Rattle.std.specs.Prelude.{◌≡◌, ℕ, ◌+◌, ◌<◌, ◌≤◌, List, [], ◌++◌, true, false, length, Some, None, Ok, IfOk, IfSome, OnErr, MatchOption};
+ghost use Rattle.std.specs.Prelude.{◌≡◌, ℕ, ◌+◌, ◌<◌, ◌≤◌, List, [], ◌++◌, true, false, length, Some, None, Ok, IfOk, IfSome, OnErr, OnOk, MatchOption};
 ghost use Rattle.std.specs.Int.{w32, w64, from_be_bytes};
 ghost use Rattle.std.specs.Io.KnownBytes.{Keeps, prepend_known, Consumes};
-ghost use Rattle.request_loop.specs.Packets.{kind_byte, packet_bytes};
+ghost use Rattle.request_loop.specs.Packets.{IsReady, kind_byte, packet_bytes};
 
+use crate::ends::{PacketInput, PacketOutput};
 use crate::packet::{Head, Kind, most_of};
 use crate::packet_fault::PacketFault;
-use std::io::{BufRead, ErrorKind};
+use std::io::ErrorKind;
+
+/// Makes sure that nothing waits in the writer while the loop waits for the reader.
+fn make_ready<R: PacketInput, W: PacketOutput>(input: &R, output: &mut W) -> Result<(), PacketFault>
+    ensures ready { OnOk result (IsReady R.filled W.handed_on input.now output.new) }
+    ensures same { Keeps (W.contents output.old) (W.contents output.new) }
+{
+    if input.is_filled() {
+        return Ok(());
+    }
+    match output.hand_on() {
+        Ok(()) => Ok(()),
+        Err(_) => Err(PacketFault::Io),
+    }
+}
 
 /// Moves at most `most` bytes from the reader to the end of the room, and returns how many. None if the
-/// read was interrupted, and 0 if the reader has ended.
-fn move_some<R: BufRead>(
+/// read was interrupted, and 0 if the reader has ended. It may wait, so nothing waits in the writer.
+fn move_some<R: PacketInput, W: PacketOutput>(
     input: &mut R,
+    _output: &W,
     room: &mut Vec<u8>,
     most: usize,
 ) -> Result<Option<usize>, PacketFault>
+    requires { IsReady R.filled W.handed_on input.old _output.now }
     ensures moved { Keeps (prepend_known room.old.items (R.remaining input.old)) (prepend_known room.new.items (R.remaining input.new)) }
     ensures count { IfOk result (λ r. MatchOption r (length room.new.items ≡ length room.old.items) (λ n. (length room.new.items ≡ length room.old.items + n) × (n ≤ most))) }
     ensures end { result ≡ Ok (Some 0) → 0 < most → IfSome (R.remaining input.old) (λ bytes. bytes ≡ []) }
@@ -39,14 +56,16 @@ fn move_some<R: BufRead>(
 }
 
 /// Moves `count` bytes, and returns whether the reader had them.
-fn move_all<R: BufRead>(
+fn move_all<R: PacketInput, W: PacketOutput>(
     input: &mut R,
+    output: &mut W,
     room: &mut Vec<u8>,
     count: usize,
 ) -> Result<bool, PacketFault>
     ensures moved { Keeps (prepend_known room.old.items (R.remaining input.old)) (prepend_known room.new.items (R.remaining input.new)) }
     ensures all { IfOk result (λ whole. whole ≡ true → length room.new.items ≡ length room.old.items + count) }
     ensures end { result ≡ Ok false → IfSome (R.remaining input.old) (λ bytes. length room.new.items ≡ length (room.old.items ++ bytes)) }
+    ensures same { Keeps (W.contents output.old) (W.contents output.new) }
 {
     let mut left = count;
     for round in 0..u64::MAX {
@@ -54,7 +73,8 @@ fn move_all<R: BufRead>(
         if left == 0 {
             return Ok(true);
         }
-        match move_some(input, room, left) {
+        make_ready(input, output)?;
+        match move_some(input, output, room, left) {
             Ok(Some(n)) => {
                 if n == 0 {
                     return Ok(false);
@@ -101,18 +121,22 @@ fn kind_of(byte: u8) -> Option<Kind>
 }
 
 /// Reads the next packet. Its bytes replace what `room` had. None if the reader has ended.
-pub(crate) fn read_packet<R: BufRead>(
+///
+/// If it has to wait for bytes, the writer hands on what it has before.
+pub(crate) fn read_packet<R: PacketInput, W: PacketOutput>(
     input: &mut R,
+    output: &mut W,
     header: &mut Vec<u8>,
     room: &mut Vec<u8>,
 ) -> Result<Option<Head>, PacketFault>
     ensures read { IfOk result (λ r. MatchOption r (Keeps (R.remaining input.old) (R.remaining input.new)) (λ h. Consumes (R.remaining input.old) (R.remaining input.new) (packet_bytes (record { head = h; bytes = room.new.items })))) }
     ensures end { result ≡ Ok None → IfSome (R.remaining input.old) (λ bytes. bytes ≡ []) }
     ensures part { OnErr result ((part : List ℕ) × Consumes (R.remaining input.old) (R.remaining input.new) part) }
+    ensures same { Keeps (W.contents output.old) (W.contents output.new) }
 {
     header.clear();
     room.clear();
-    if !move_all(input, header, 13)? {
+    if !move_all(input, output, header, 13)? {
         return if header.is_empty() {
             Ok(None)
         } else {
@@ -129,7 +153,7 @@ pub(crate) fn read_packet<R: BufRead>(
     if len > most_of(kind) {
         return Err(PacketFault::TooLong);
     }
-    if move_all(input, room, len as usize)? {
+    if move_all(input, output, room, len as usize)? {
         Ok(Some(Head { kind, connection }))
     } else {
         Err(PacketFault::Cut)

@@ -61,7 +61,7 @@ fn byte_of(kind: Kind) -> u8
     }
 }
 
-/// Writes a packet, and flushes. A packet with more bytes than its kind may have is refused, and
+/// Writes a packet. A packet with more bytes than its kind may have is refused, and
 /// nothing of it is written.
 pub(crate) fn write_packet<W: Write>(
     output: &mut W,
@@ -78,9 +78,5 @@ pub(crate) fn write_packet<W: Write>(
     put_all(output, &[byte_of(head.kind)])?;
     put_all(output, &head.connection.to_be_bytes())?;
     put_all(output, &len.to_be_bytes())?;
-    put_all(output, bytes)?;
-    match output.flush() {
-        Ok(()) => Ok(()),
-        Err(_) => Err(PacketFault::Io),
-    }
+    put_all(output, bytes)
 }

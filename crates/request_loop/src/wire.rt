@@ -3,18 +3,20 @@ ghost use Rattle.std.specs.Prelude.{◌≡◌, [], false};
 ghost use Rattle.request_loop.specs.Packets.{WireEnded, WireTells};
 
 use crate::duplex::Duplex;
+use crate::ends::{PacketInput, PacketOutput};
 use crate::packet::Head;
 use crate::packet_fault::PacketFault;
 use crate::packet_reader::read_packet;
 use crate::packet_writer::write_packet;
 use resp::Limits;
 use std::alloc::Global;
-use std::io::{BufRead, Write};
 
 /// Packets over a reader and a writer.
 ///
-/// Each packet is flushed after it was written. After a call that failed each further call returns
-/// `Failed`, and nothing is read or written any more.
+/// Packets that are written wait for one another as long as others can be read without waiting. So many
+/// short replies take one write. Before the reader waits, the writer hands on all that it has.
+///
+/// After a call that failed each further call returns `Failed`, and nothing is read or written any more.
 #[derive(Drop)]
 pub struct Wire<R, W> {
     input: R,
@@ -24,7 +26,7 @@ pub struct Wire<R, W> {
     broken: bool,
 }
 
-impl<R: BufRead, W: Write> Wire<R, W> {
+impl<R: PacketInput, W: PacketOutput> Wire<R, W> {
     /// Packets of this reader and this writer, whose requests have these limits. It takes no memory
     /// yet.
     pub fn new(alloc: Global, input: R, output: W, limits: Limits) -> Self
@@ -42,12 +44,14 @@ impl<R: BufRead, W: Write> Wire<R, W> {
     }
 }
 
-impl<R: BufRead, W: Write> Duplex for Wire<R, W> {
+impl<R: PacketInput, W: PacketOutput> Duplex for Wire<R, W> {
     ghost tells = { λ v w came sent. WireTells R.remaining W.contents v w came sent };
 
     ghost whole = { λ w. w.broken ≡ false };
 
     ghost ended = { λ v w. WireEnded R.remaining v w };
+
+    ghost handed_on = { λ w. W.handed_on w.output };
 
     ghost limits = { λ w. w.limits };
 
@@ -59,9 +63,11 @@ impl<R: BufRead, W: Write> Duplex for Wire<R, W> {
         if self.broken {
             return Err(PacketFault::Failed);
         }
-        match read_packet(&mut self.input, &mut self.header, room) {
+        match read_packet(&mut self.input, &mut self.output, &mut self.header, room) {
             Ok(head) => Ok(head),
             Err(fault) => {
+                // Earlier requests were carried out, so their replies still go out.
+                let _ = self.output.hand_on();
                 self.broken = true;
                 Err(fault)
             }
@@ -77,6 +83,19 @@ impl<R: BufRead, W: Write> Duplex for Wire<R, W> {
             Err(fault) => {
                 self.broken = true;
                 Err(fault)
+            }
+        }
+    }
+
+    fn send(&mut self) -> Result<(), PacketFault> {
+        if self.broken {
+            return Err(PacketFault::Failed);
+        }
+        match self.output.hand_on() {
+            Ok(()) => Ok(()),
+            Err(_) => {
+                self.broken = true;
+                Err(PacketFault::Io)
             }
         }
     }

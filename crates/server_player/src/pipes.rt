@@ -1,7 +1,7 @@
 //! The pipes of a server in memory.
 
 use crate::wires::Wires;
-use far_server::{Pipes, PipesFault};
+use far_server::{PacketOutput, Pipes, PipesFault};
 use std::alloc::Global;
 use std::io;
 use std::io::{BufReader, Read, Write};
@@ -35,6 +35,14 @@ impl<R: Wait> Write for WorkerOutput<'_, R> {
     }
 
     fn flush(&mut self) -> io::Result<()> {
+        Ok(())
+    }
+}
+
+impl<R: Wait> PacketOutput for WorkerOutput<'_, R> {
+    ghost handed_on = { λ _. Unit {0} };
+
+    fn hand_on(&mut self) -> io::Result<()> {
         Ok(())
     }
 }

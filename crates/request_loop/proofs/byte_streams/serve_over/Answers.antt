@@ -16,10 +16,12 @@ returns-in-Ok g c =
     let B = λ (r : g.row.R.Denot). Consumes (g.R.Read.remaining c.args.input) (g.R.Read.remaining r) (packets_bytes s.0) in
     let C = λ (w : g.row.W.Denot). Appends (g.W.Write.contents w) (g.W.Write.contents now.output) (packets_bytes s.1) in
     let D = λ (w : g.row.W.Denot). Appends (g.W.Write.contents c.args.output) (g.W.Write.contents w) (packets_bytes s.1) in
+    let E = λ (w : g.row.W.Denot). g.W.PacketOutput.handed_on w in
     let L : Limits → Type 0 = λ l. Served g.S.Service.does l c.args.service.now c.serve.new.service s.0 s.1 in (
       s.0,
       s.1,
       subst B (sym c.into_parts.ensures.0) (subst A c.new-wire.ensures.parts.0 t.0),
       subst D (sym c.into_parts.ensures.1) (subst C c.new-wire.ensures.parts.1 t.1),
       subst L c.new-wire.ensures.limits s.3,
+      subst E (sym c.into_parts.ensures.1) s.5,
     )

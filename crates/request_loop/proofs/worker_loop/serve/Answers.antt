@@ -18,7 +18,7 @@ returns-clause-served g c =
     let d = c.args.duplex.now in
     let P : Views → Type 0 = λ v. GoesOnBy g.D.Duplex.tells g.S.Service.does (g.D.Duplex.limits d) d c.serve_on.new.duplex c.args.service.now c.serve_on.new.service v c.in_ok-_left._left.1 in
     let s = served g.D.Duplex.tells g.S.Service.does (g.D.Duplex.limits d) d c.serve_on.new.duplex c.args.service.now c.serve_on.new.service c.in_ok-_left._left.1 c.requires (subst P c.none.ensures c.in_ok-_left.ensures.stood) in
-    (s.0, s.1, s.2, s.3, c.in_ok-_left.ensures.whole)
+    (s.0, s.1, s.2, s.3, c.in_ok-_left.ensures.whole, c.in_ok-_left.ensures.sent)
 
 pub returns-in_err-_left-clause-fault : goal.returns-in_err-_left-clause-fault
 returns-in_err-_left-clause-fault g c =

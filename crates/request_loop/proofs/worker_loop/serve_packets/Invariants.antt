@@ -3,7 +3,7 @@ use Rattle.request_loop.specs.Marks.{Mark}
 use Rattle.request_loop.specs.Calls.{Exchange}
 use Rattle.request_loop.specs.Standing.{Standing}
 use Rattle.request_loop.specs.Turns.{Stands}
-use Rattle.request_loop.proofs.worker_loop.serve_on.Given as goal
+use Rattle.request_loop.proofs.worker_loop.serve_packets.Given as goal
 
 abbrev pub invariant-loop-round : goal.invariant-loop-round
 invariant-loop-round g l = record {
