@@ -1,6 +1,6 @@
 """The file that bin/fardump makes, and its check. docs/FORMATS.md has the format.
 
-It is a list of commands: SELECT 0, a SET for each key, and at last ECHO with the number of SETs and the SHA-256 of all bytes before.
+It is a list of commands: SELECT of each database that has keys, a SET for each key of it, and at last ECHO with the number of SETs and the SHA-256 of all bytes before.
 """
 import contextlib
 import fcntl
@@ -57,6 +57,12 @@ class Writer:
         self.sum.update(data)
         self.put(data)
         self.bytes += len(data)
+
+    def select(self, database):
+        """The keys that come now are of this database. The first one is 0."""
+        data = resp.command(b"SELECT", b"%d" % database)
+        self.pieces.append(data)
+        self.waiting += len(data)
 
     def set(self, key, value, deadline):
         """Writes a key. A deadline is in milliseconds since 1970, or None."""

@@ -149,12 +149,19 @@ class Connection:
             why = "the server refuses the password" if told.startswith((b"WRONGPASS", b"ERR invalid password")) else shown(told)
             raise Failed(f"{self.name}: {why}")
 
-    def select(self):
-        told = self.ask(b"SELECT", b"0")
+    def select(self, database=0):
+        told = self.ask(b"SELECT", b"%d" % database)
         if isinstance(told, Refusal) and told.startswith(b"NOAUTH"):
             raise Failed(f"{self.name}: the server asks for a password; --password-file names a file that has it")
         if self.checked(told, "SELECT") != b"OK":
             raise Failed(f"{self.name}: SELECT: the reply is not OK")
+
+    def databases(self):
+        """The numbers of the databases that have keys, and 0 in any case."""
+        told = self.checked(self.ask(b"INFO", b"keyspace"), "INFO")
+        if type(told) not in STRINGS or not told.lstrip().startswith(b"# Keyspace"):
+            raise Failed(f"{self.name}: INFO: the reply does not say which databases there are")
+        return sorted({0} | {int(it) for it in re.findall(rb"^db([0-9]{1,9}):keys=", told, re.MULTILINE)})
 
 
 class Batch:

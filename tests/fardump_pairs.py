@@ -6,7 +6,7 @@ import threading
 import time
 from pathlib import Path
 
-from fardump_parts import LATER, PATIENCE, contents, dump_file, dump_source, dumped, fails, fill, is_whole, loaded, pairs_in, ran, started, words_for
+from fardump_parts import LATER, PATIENCE, client_of, commands_in, contents, dump_file, dump_source, dumped, fails, fill, is_whole, loaded, pairs_in, ran, started, words_for
 
 # Values that are texts of replies, too.
 TEXTS = [b"", b"ERR reply is too large", b"OK", b"QUEUED", b"\r\n", b"*2\r\n$4\r\nECHO\r\n", b"-1", b"$-1\r\n", b"WRONGTYPE"]
@@ -46,6 +46,30 @@ def round_trips(tried):
             loaded(again, target)
             assert contents(target, pairs) == pairs
     return f"{len(pairs)} keys"
+
+
+def several_databases(tried):
+    """Each key is in the database that it was in. A file of one database is as before."""
+    databases = {0: any_pairs(200), 3: any_pairs(300), 15: {b"last": (b"v", LATER), b"same": (b"15", None)}}
+    databases[0][b"same"], databases[3][b"same"] = (b"0", None), (b"3", None)
+    file = tried.file()
+    with tried.farserve() as server, tried.farserve(far=None) as other, tried.redis() as redis:
+        for source, targets in ((server, (other, redis)), (redis, (server,))):
+            for server_of in targets:
+                server_of.client().ask("FLUSHALL")
+            if source is server:
+                for number, pairs in databases.items():
+                    fill(source, pairs, number)
+            assert ran(*words_for(source), file) == (0, b"", "")
+            selects = [words[1] for words in commands_in(file.read_bytes()) if words[0] == b"SELECT"]
+            assert selects == [b"0", b"3", b"15"], selects
+            is_whole(file, sum(len(pairs) for pairs in databases.values()))
+            for target in targets:
+                loaded(file, target)
+                for number, pairs in databases.items():
+                    assert contents(target, pairs, number) == pairs
+                    assert client_of(target, number).number("DBSIZE") == len(pairs)
+    return f"{sum(len(pairs) for pairs in databases.values())} keys in {len(databases)} databases"
 
 
 def an_empty_map(tried):
@@ -245,5 +269,5 @@ def a_dump_over_standard_output(tried):
     assert Path(file).stat().st_size == len(out)
 
 
-TRIALS = [round_trips, an_empty_map, many_keys_take_little_memory, large_values, deadlines_are_kept_and_over_ones_left_out,
+TRIALS = [round_trips, several_databases, an_empty_map, many_keys_take_little_memory, large_values, deadlines_are_kept_and_over_ones_left_out,
           keys_that_change_meanwhile, values_and_deadlines_belong_together, keys_stay_through_renewals, keys_that_are_no_strings, a_dump_over_standard_output]

@@ -126,17 +126,23 @@ def loaded(file, server):
     return int(re.search(r"replies: (\d+)", told.stdout)[1])
 
 
-def fill(server, pairs):
-    client, items = server.client(), list(pairs.items())
+def client_of(server, database):
+    client = server.client()
+    assert not database or client.ask("SELECT", database) == OK
+    return client
+
+
+def fill(server, pairs, database=0):
+    client, items = client_of(server, database), list(pairs.items())
     for at in range(0, len(items), 200):
         asked = [("SET", key, value, *(("PXAT", deadline) if deadline else ())) for key, (value, deadline) in items[at:at + 200]]
         assert client.ask_all(asked) == [OK] * len(asked)
     return client
 
 
-def contents(server, keys):
+def contents(server, keys, database=0):
     """What a server has of these keys."""
-    client, found, keys = server.client(), {}, list(keys)
+    client, found, keys = client_of(server, database), {}, list(keys)
     for at in range(0, len(keys), 200):
         part = keys[at:at + 200]
         client.send(b"".join(request("GET", it) + request("PEXPIRETIME", it) for it in part))
@@ -195,7 +201,8 @@ def usual(**others):
         if text in others:
             told = others[text]
             return told(*words) if callable(told) else told
-        queued = {"MULTI": b"+OK\r\n", "PEXPIRETIME": b"+QUEUED\r\n", "GET": b"+QUEUED\r\n", "SELECT": b"+OK\r\n"}
+        queued = {"MULTI": b"+OK\r\n", "PEXPIRETIME": b"+QUEUED\r\n", "GET": b"+QUEUED\r\n", "SELECT": b"+OK\r\n",
+                  "INFO": b"$12\r\n# Keyspace\r\n\r\n"}
         if text == "SCAN":
             return b"*2\r\n$1\r\n0\r\n*1\r\n$6\r\nsecret\r\n"
         if text == "EXEC":

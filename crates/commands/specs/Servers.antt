@@ -61,7 +61,7 @@ AreEntries behind None = behind ≡ codes "-1" ∷ []
 abbrev pub IsAsked : OfServer → List (List ℕ) → ServerCommand → Type 0
 IsAsked of args (server.Auth login) = (of ≡ of_server.Auth) × (args ≡ credentials login)
 IsAsked of args (server.Hello greeting) = (of ≡ of_server.Hello) × ((args ≡ []) ⊎ ((words : List (List ℕ)) × (args ≡ decimal 2 ∷ words) × IsGreeting words greeting))
-IsAsked of args server.Select = (of ≡ of_server.Select) × (args ≡ decimal 0 ∷ [])
+IsAsked of args (server.Select index) = (of ≡ of_server.Select) × (args ≡ index.now ∷ [])
 IsAsked of args server.ClientId = (of ≡ of_server.Client) × IsPart (codes "id") [] args
 IsAsked of args server.ClientGetName = (of ≡ of_server.Client) × IsPart (codes "getname") [] args
 IsAsked of args (server.ClientSetName name) = (of ≡ of_server.Client) × IsPlainName name.now × IsPart (codes "setname") (name.now ∷ []) args
@@ -76,12 +76,14 @@ IsAsked of args (server.SlowLogGet most) = (of ≡ of_server.SlowLog) × ((behin
 IsAsked of args server.SlowLogReset = (of ≡ of_server.SlowLog) × IsPart (codes "reset") [] args
 IsAsked of args (server.Info sections) = (of ≡ of_server.Info) × (listed sections ≡ args)
 IsAsked of args (server.Scan scan) = (of ≡ of_server.Scan) × ((words : List (List ℕ)) × (args ≡ decimal scan.cursor ∷ words) × IsScan words scan)
-IsAsked of args server.Flush = ((of ≡ of_server.FlushAll) ⊎ (of ≡ of_server.FlushDb)) × (length args < 2)
+IsAsked of args server.FlushAll = (of ≡ of_server.FlushAll) × (length args < 2)
+IsAsked of args server.FlushDb = (of ≡ of_server.FlushDb) × (length args < 2)
 
 -- there are as many arguments as a command takes of which any will do
 abbrev pub IsCountedServer : OfServer → List (List ℕ) → Type 0
 IsCountedServer of_server.Auth args = (0 < length args) × (length args < 3)
 IsCountedServer of_server.Hello args = length args ≡ 0
+IsCountedServer of_server.Select args = length args ≡ 1
 IsCountedServer of_server.Command args = length args ≡ 0
 IsCountedServer of_server.Info args = Unit {0}
 IsCountedServer of_server.FlushAll args = length args ≡ 0

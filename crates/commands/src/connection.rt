@@ -1,5 +1,5 @@
 //! Commands on a connection: AUTH, HELLO, SELECT and CLIENT.
-ghost use Rattle.std.specs.Prelude.{◌≡◌, ℕ, List, [], ◌∷◌, ◌++◌, ◌<◌, ◌↔◌, length, map, IsTrue, IsSome, IfOk, IsOk, IfSome, MatchOption, codes};
+ghost use Rattle.std.specs.Prelude.{◌≡◌, ◌≢◌, ℕ, List, [], ◌∷◌, ◌++◌, ◌<◌, ◌≤◌, ◌↔◌, length, map, decimal, IsTrue, IsSome, IfOk, IsOk, OnErr, IfSome, MatchOption, codes};
 ghost use Rattle.std.specs.Char.{to_ascii_lowercase};
 ghost use Rattle.commands.specs.declared.server_name.OfServer.TheVariants as of_server;
 ghost use Rattle.commands.specs.Arguments.{listed};
@@ -135,20 +135,34 @@ pub(crate) fn hello<'a>(rest: Arguments<'a>) -> Result<ServerCommand<'a>, Comman
 
 pub(crate) fn select<'a>(rest: Arguments<'a>) -> Result<ServerCommand<'a>, CommandFault<'a>>
     ensures spelt { IfOk result (λ c. IsAsked of_server.Select (listed rest.entry) c) }
+    ensures counted { IsCountedServer of_server.Select (listed rest.entry) → IsOk result }
 {
-    let Some(index) = rest.one() else {
-        return Err(CommandFault::Count(Name::Server(OfServer::Select)));
-    };
+    match rest.one() {
+        Some(index) => Ok(ServerCommand::Select(index)),
+        None => Err(CommandFault::Count(Name::Server(OfServer::Select))),
+    }
+}
+
+/// The number of the database that SELECT asks for by this word, where databases have numbers from 0 to `last`.
+pub fn database_in(index: &[u8], last: u8) -> Result<u8, CommandFault<'static>>
+    ensures named { IfOk result (λ d. (d ≤ last) × (index.now ≡ decimal d)) }
+    ensures refused { OnErr result ((d : ℕ) → d ≤ last → index.now ≢ decimal d) }
+{
     let Some(number) = whole_number(index) else {
         return Err(CommandFault::Number);
     };
-    if number == 0 {
-        return Ok(ServerCommand::Select);
+    match u8::try_from(number) {
+        Ok(database) if database <= last => Ok(database),
+        _ => Err(out_of_range(number)),
     }
+}
+
+/// Why a number is none of a database: Redis has databases' numbers of 32 bits.
+fn out_of_range(number: i64) -> CommandFault<'static> {
     if i32::try_from(number).is_ok() {
-        Err(CommandFault::Database)
+        CommandFault::Database
     } else {
-        Err(CommandFault::WideNumber)
+        CommandFault::WideNumber
     }
 }
 

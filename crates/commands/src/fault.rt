@@ -70,7 +70,7 @@ pub enum CommandFault<'a> {
     /// A number of a database that has more than 32 bits.
     #[error("ERR value is out of range, value must between -2147483648 and 2147483647")]
     WideNumber,
-    /// SELECT of another database than 0.
+    /// SELECT of a database that there is not.
     #[error("ERR DB index is out of range")]
     Database,
     /// A client's name with a byte that is not from `!` to `~`.

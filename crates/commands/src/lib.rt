@@ -24,6 +24,7 @@ mod time;
 
 pub use arguments::Arguments;
 pub use command::{Change, Command, Lifetime, Only, Where};
+pub use connection::database_in;
 pub use fault::CommandFault;
 pub use name::{Name, OfKey, OfKeys, OfNothing, OfNumber, OfPair, Special};
 pub use number::{add_to, whole_number};

@@ -37,8 +37,8 @@ fn read_server<'a>(of: OfServer, rest: Arguments<'a>) -> Result<ServerCommand<'a
         OfServer::SlowLog => slow_log(rest),
         OfServer::Info => Ok(ServerCommand::Info(rest)),
         OfServer::Scan => scan(rest),
-        OfServer::FlushAll => flush(rest),
-        OfServer::FlushDb => flush(rest),
+        OfServer::FlushAll => flush(rest, ServerCommand::FlushAll),
+        OfServer::FlushDb => flush(rest, ServerCommand::FlushDb),
     }
 }
 

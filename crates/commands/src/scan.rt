@@ -1,7 +1,6 @@
 //! Commands on all keys: SCAN, FLUSHALL and FLUSHDB.
-ghost use Rattle.std.specs.Prelude.{◌≡◌, ◌⊎◌, ℕ, ◌<◌, List, [], ◌∷◌, ◌++◌, length, map, decimal, IfOk, IsOk, IfSome};
+ghost use Rattle.std.specs.Prelude.{◌≡◌, ℕ, ◌<◌, List, [], ◌∷◌, ◌++◌, length, map, decimal, IfOk, IsOk, IfSome};
 ghost use Rattle.std.specs.Char.{to_ascii_lowercase};
-ghost use Rattle.commands.specs.declared.server_name.OfServer.{OfServer as server_name};
 ghost use Rattle.commands.specs.declared.server_name.OfServer.TheVariants as of_server;
 ghost use Rattle.commands.specs.Arguments.{listed};
 ghost use Rattle.commands.specs.Servers.{IsScan, IsAsked, IsCountedServer};
@@ -111,17 +110,20 @@ pub(crate) fn scan<'a>(rest: Arguments<'a>) -> Result<ServerCommand<'a>, Command
     }
 }
 
-/// FLUSHALL and FLUSHDB. SYNC and ASYNC are one here.
-pub(crate) fn flush<'a>(rest: Arguments<'a>) -> Result<ServerCommand<'a>, CommandFault<'a>>
-    ensures spelt { IfOk result (λ c. (of : server_name) → (of ≡ of_server.FlushAll) ⊎ (of ≡ of_server.FlushDb) → IsAsked of (listed rest.entry) c) }
+/// FLUSHALL or FLUSHDB, as this command. SYNC and ASYNC are one here.
+pub(crate) fn flush<'a>(
+    rest: Arguments<'a>,
+    command: ServerCommand<'a>,
+) -> Result<ServerCommand<'a>, CommandFault<'a>>
+    ensures spelt { IfOk result (λ c. (c ≡ command.entry) × (length (listed rest.entry) < 2)) }
     ensures counted { length (listed rest.entry) ≡ 0 → IsOk result }
 {
     if rest.is_empty() {
-        return Ok(ServerCommand::Flush);
+        return Ok(command);
     }
     match rest.one() {
-        Some(word) if word.eq_ignore_ascii_case(b"sync") => Ok(ServerCommand::Flush),
-        Some(word) if word.eq_ignore_ascii_case(b"async") => Ok(ServerCommand::Flush),
+        Some(word) if word.eq_ignore_ascii_case(b"sync") => Ok(command),
+        Some(word) if word.eq_ignore_ascii_case(b"async") => Ok(command),
         _ => Err(CommandFault::Syntax),
     }
 }

@@ -9,8 +9,8 @@ pub enum ServerCommand<'a> {
     Auth(Login<'a>),
     /// HELLO, with protocol 2 or with none named.
     Hello(Greeting<'a>),
-    /// SELECT of database 0, the only one.
-    Select,
+    /// SELECT of a database by this word, which may be no number of one: `database_in` reads it.
+    Select(&'a [u8]),
     /// CLIENT ID.
     ClientId,
     /// CLIENT GETNAME.
@@ -39,8 +39,10 @@ pub enum ServerCommand<'a> {
     Info(Arguments<'a>),
     /// SCAN.
     Scan(Scan<'a>),
-    /// FLUSHALL and FLUSHDB, which are one where there is one database.
-    Flush,
+    /// FLUSHALL: of all databases.
+    FlushAll,
+    /// FLUSHDB: of the selected database.
+    FlushDb,
 }
 
 /// Who a client says that it is.

@@ -23,13 +23,16 @@ use Rattle.key_commands.specs.Doing.{bit_at, IsOutcome}
 use Rattle.far_map.specs.declared.refusal.MapRefusal.TheVariants as refusal
 use Rattle.far_server.specs.Sessions.{Session}
 use Rattle.far_server.specs.Bounds.{too_large}
+use Rattle.far_server.specs.declared.selection.Selection.{Selection}
+use Rattle.far_server.specs.declared.selection.Selection.TheVariants as selection
+use Rattle.far_server.specs.Selections.{no_database, IsSelected, IsUnselected}
 use Rattle.far_server.specs.Refusing.{text_of, text_with, overtaken, no_room, key_too_long}
 use Rattle.far_server.specs.Keyed.{IsKeyed}
 use Rattle.far_server.specs.Many.{plain, AreListed, IsListedIfShort, IsCountedEach, IsSetEach}
 use Rattle.far_server.specs.Lists.{told_key, told_keys}
 use Rattle.far_server.specs.declared.settings.Bounds.{Bounds}
 use Rattle.far_server.specs.Transactions.{Waiting, nested, no_multi_before_discard, full_queue, IsBegun, IsDropped, IsHeld}
-use Rattle.far_server.specs.Answers.{Known, exec_abort, no_multi_before_exec, AreExecuted, IsRunEach, IsExecuted, IsRunOrHeld, IsServedAs, IsServed, IsGatedAs, IsGated}
+use Rattle.far_server.specs.Answers.{Known, exec_abort, no_multi_before_exec, AreExecuted, IsRunEach, IsExecuted, IsRunOrHeldBy, IsRunOrHeld, IsServedAs, IsServed, IsGatedAs, IsGated}
 use Rattle.commands.specs.declared.command.Command.{Command}
 use Rattle.commands.specs.declared.command.Command.TheVariants as command
 use Rattle.commands.specs.declared.name.OfNothing.TheVariants as nothing
@@ -40,6 +43,7 @@ use Rattle.server_commands.specs.Greeting.{greeting}
 use Rattle.far_server.specs.Logins.{no_login, wrong_login, no_password, IsAuthReply, IsHelloReply}
 use Rattle.server_commands.proofs.Growing.{both}
 use Rattle.stored_keys.specs.declared.DigestKeys.{DigestKeys}
+use Rattle.stored_keys.specs.declared.Keyspace.{Keyspace}
 
 -- one token that has nothing behind it
 pub one : (t : Token) → members t ≡ 0 → AreReplies 1 (t ∷ [])
@@ -169,31 +173,31 @@ outcome (ask.Expire deadline only) now most v o is = is_one o (expired deadline 
 as_said : (r t : Token) → r ≡ t → members t ≡ 0 → members r ≡ 0
 as_said r t is none = subst (λ (x : Token). members x ≡ 0) (sym is) none
 
-pub keyed : (l : Limits) (digest : DigestKeys) (k : List ℕ) (c : KeyCommand) (now most : ℕ) (old new : Session) (r : Token) → IsKeyed l digest k c now most old new r → members r ≡ 0
-keyed l digest k c now most old new r (inr long) = as_said r (Failure key_too_long) long.2 refl
-keyed l digest k c now most old new r (inl (short, (mid, idles, inl carries))) = as_said r carries.does.outcome.reply carries.does.replied (outcome c now most (live now carries.found) carries.does.outcome carries.does.is)
-keyed l digest k c now most old new r (inl (short, (mid, idles, inr (inl (why, told, known, stopped, is_told, is))))) = as_said r (Failure (text_with told known)) is refl
-keyed l digest k c now most old new r (inl (short, (mid, idles, inr (inr (same, inl is))))) = as_said r (Failure overtaken) is refl
-keyed l digest k c now most old new r (inl (short, (mid, idles, inr (inr (same, inr (known, is)))))) = as_said r (Failure (no_room known)) is refl
+pub keyed : (l : Limits) (keyspace : Keyspace) (k : List ℕ) (c : KeyCommand) (now most : ℕ) (old new : Session) (r : Token) → IsKeyed l keyspace k c now most old new r → members r ≡ 0
+keyed l keyspace k c now most old new r (inr long) = as_said r (Failure key_too_long) long.2 refl
+keyed l keyspace k c now most old new r (inl (short, (mid, idles, inl carries))) = as_said r carries.does.outcome.reply carries.does.replied (outcome c now most (live now carries.found) carries.does.outcome carries.does.is)
+keyed l keyspace k c now most old new r (inl (short, (mid, idles, inr (inl (why, told, known, stopped, is_told, is))))) = as_said r (Failure (text_with told known)) is refl
+keyed l keyspace k c now most old new r (inl (short, (mid, idles, inr (inr (same, inl is))))) = as_said r (Failure overtaken) is refl
+keyed l keyspace k c now most old new r (inl (short, (mid, idles, inr (inr (same, inr (known, is)))))) = as_said r (Failure (no_room known)) is refl
 
-pub counted_each : (l : Limits) (digest : DigestKeys) (now most : ℕ) (c : KeyCommand) (ks : List (List ℕ)) (old new : Session) (r : Token) → IsCountedEach l digest now most c ks old new r → members r ≡ 0
-counted_each l digest now most c ks old new r (inl (count, counted, is)) = as_said r (Number (pos count)) is refl
-counted_each l digest now most c ks old new r (inr (before, k, behind, count, mid, are, counted, keyed_r, no_one, no_none)) = keyed l digest k c now most mid new r keyed_r
+pub counted_each : (l : Limits) (keyspace : Keyspace) (now most : ℕ) (c : KeyCommand) (ks : List (List ℕ)) (old new : Session) (r : Token) → IsCountedEach l keyspace now most c ks old new r → members r ≡ 0
+counted_each l keyspace now most c ks old new r (inl (count, counted, is)) = as_said r (Number (pos count)) is refl
+counted_each l keyspace now most c ks old new r (inr (before, k, behind, count, mid, are, counted, keyed_r, no_one, no_none)) = keyed l keyspace k c now most mid new r keyed_r
 
-pub set_each : (l : Limits) (digest : DigestKeys) (now most : ℕ) (pairs : List (List ℕ)) (old new : Session) (r : Token) → IsSetEach l digest now most pairs old new r → members r ≡ 0
-set_each l digest now most pairs old new r (inl (before, rest, are, few, set, is)) = as_said r (Simple (codes "OK")) is refl
-set_each l digest now most pairs old new r (inr (before, k, v, rest, mid, are, set, (value, is, keyed_r), no_ok)) = keyed l digest k (ask.Set value plain) now most mid new r keyed_r
+pub set_each : (l : Limits) (keyspace : Keyspace) (now most : ℕ) (pairs : List (List ℕ)) (old new : Session) (r : Token) → IsSetEach l keyspace now most pairs old new r → members r ≡ 0
+set_each l keyspace now most pairs old new r (inl (before, rest, are, few, set, is)) = as_said r (Simple (codes "OK")) is refl
+set_each l keyspace now most pairs old new r (inr (before, k, v, rest, mid, are, set, (value, is, keyed_r), no_ok)) = keyed l keyspace k (ask.Set value plain) now most mid new r keyed_r
 
-listed_each : (l : Limits) (digest : DigestKeys) (now most : ℕ) (c : KeyCommand) (limit : ℕ) (ks : List (List ℕ)) (rs : List Token) (old new : Session) → AreListed l digest now most c limit ks rs old new → AreReplies (length ks) rs
-listed_each l digest now most c limit [] rs old new (same, is) = subst (λ (ts : List Token). AreReplies 0 ts) (sym is) refl
-listed_each l digest now most c limit (k ∷ ks) rs old new (room, (mid, r, rest, keyed_r, listed, is)) =
-    subst (λ (ts : List Token). AreReplies (length (k ∷ ks)) ts) (sym is) (one_more (length ks) r rest (keyed l digest k c now most old mid r keyed_r) (listed_each l digest now most c (limit - length (token r)) ks rest mid new listed))
+listed_each : (l : Limits) (keyspace : Keyspace) (now most : ℕ) (c : KeyCommand) (limit : ℕ) (ks : List (List ℕ)) (rs : List Token) (old new : Session) → AreListed l keyspace now most c limit ks rs old new → AreReplies (length ks) rs
+listed_each l keyspace now most c limit [] rs old new (same, is) = subst (λ (ts : List Token). AreReplies 0 ts) (sym is) refl
+listed_each l keyspace now most c limit (k ∷ ks) rs old new (room, (mid, r, rest, keyed_r, listed, is)) =
+    subst (λ (ts : List Token). AreReplies (length (k ∷ ks)) ts) (sym is) (one_more (length ks) r rest (keyed l keyspace k c now most old mid r keyed_r) (listed_each l keyspace now most c (limit - length (token r)) ks rest mid new listed))
 
-pub listed_if_short : (l : Limits) (digest : DigestKeys) (now most : ℕ) (c : KeyCommand) (limit : ℕ) (ks : List (List ℕ)) (old new : Session) (rs : List Token) → IsListedIfShort l digest now most c limit ks old new rs → AreReplies 1 rs
-listed_if_short l digest now most c limit ks old new rs (inl (each, listed, is)) =
-    subst (λ (ts : List Token). AreReplies 1 ts) (sym is) (array (length ks) each (listed_each l digest now most c (limit - length (token (Count (length ks)))) ks each old new listed))
-listed_if_short l digest now most c limit ks old new rs (inr (inl long)) = subst (λ (ts : List Token). AreReplies 1 ts) (sym long.reply) (one (Failure too_large) refl)
-listed_if_short l digest now most c limit ks old new rs (inr (inr none)) = subst (λ (ts : List Token). AreReplies 1 ts) (sym none.reply) (one (Failure (text_of refusal.Memory)) refl)
+pub listed_if_short : (l : Limits) (keyspace : Keyspace) (now most : ℕ) (c : KeyCommand) (limit : ℕ) (ks : List (List ℕ)) (old new : Session) (rs : List Token) → IsListedIfShort l keyspace now most c limit ks old new rs → AreReplies 1 rs
+listed_if_short l keyspace now most c limit ks old new rs (inl (each, listed, is)) =
+    subst (λ (ts : List Token). AreReplies 1 ts) (sym is) (array (length ks) each (listed_each l keyspace now most c (limit - length (token (Count (length ks)))) ks each old new listed))
+listed_if_short l keyspace now most c limit ks old new rs (inr (inl long)) = subst (λ (ts : List Token). AreReplies 1 ts) (sym long.reply) (one (Failure too_large) refl)
+listed_if_short l keyspace now most c limit ks old new rs (inr (inr none)) = subst (λ (ts : List Token). AreReplies 1 ts) (sym none.reply) (one (Failure (text_of refusal.Memory)) refl)
 
 -- ---- what EXEC, and any request, replies
 
@@ -201,33 +205,43 @@ copies : (n : ℕ) (t : Token) → members t ≡ 0 → AreReplies n (replicate n
 copies zero t none = refl
 copies (suc n) t none = one_more n t (replicate n t) none (copies n t none)
 
-executed : (l : Limits) (digest : DigestKeys) (b : Bounds) (limit : ℕ) (requests : List (List (List ℕ))) (rs : List Token) (old new : Session) → AreExecuted l digest b limit requests rs old new → AreReplies (length requests) rs
-executed l digest b limit [] rs old new (same, is) = subst (λ (ts : List Token). AreReplies 0 ts) (sym is) refl
-executed l digest b limit (request ∷ requests) rs old new (inl (mid, first, rest, ran, others, is)) =
+executed : (l : Limits) (digest : DigestKeys) (b : Bounds) (limit : ℕ) (requests : List (List (List ℕ))) (rs : List Token) (s t : Selection) (old new : Session) → AreExecuted l digest b limit requests rs s t old new → AreReplies (length requests) rs
+executed l digest b limit [] rs s t old new (kept, same, is) = subst (λ (ts : List Token). AreReplies 0 ts) (sym is) refl
+executed l digest b limit (request ∷ requests) rs s t old new (inl (mid, u, first, rest, ran, others, is)) =
     let more : 1 + length requests ≡ length (request ∷ requests) = omega arith in
-    let all = both 1 (length requests) first rest ran.ran.0 (executed l digest b (limit - length (flat_map token first)) requests rest mid new others) in
+    let all = both 1 (length requests) first rest ran.ran.0 (executed l digest b (limit - length (flat_map token first)) requests rest u t mid new others) in
     subst (λ (ts : List Token). AreReplies (length (request ∷ requests)) ts) (sym is) (subst (λ (n : ℕ). AreReplies n (first ++ rest)) more all)
-executed l digest b limit (request ∷ requests) rs old new (inr (inl refused)) =
+executed l digest b limit (request ∷ requests) rs s t old new (inr (kept, inl refused)) =
     subst (λ (ts : List Token). AreReplies (length (request ∷ requests)) ts) (sym refused.reply) (copies (length (request ∷ requests)) (Failure too_large) refl)
-executed l digest b limit (request ∷ requests) rs old new (inr (inr none)) =
+executed l digest b limit (request ∷ requests) rs s t old new (inr (kept, inr none)) =
     subst (λ (ts : List Token). AreReplies (length (request ∷ requests)) ts) (sym none.reply) (copies (length (request ∷ requests)) (Failure (text_of refusal.Memory)) refl)
 
 as_one : (t : Token) (rs : List Token) → rs ≡ t ∷ [] → members t ≡ 0 → AreReplies 1 rs
 as_one t rs is none = subst (λ (ts : List Token). AreReplies 1 ts) (sym is) (one t none)
 
-run_each : (l : Limits) (digest : DigestKeys) (b : Bounds) (requests : List (List (List ℕ))) (old new : Session) (rs : List Token) → IsRunEach l digest b requests old new rs → AreReplies 1 rs
-run_each l digest b requests old new rs (inl (each, ran, is)) =
-    subst (λ (ts : List Token). AreReplies 1 ts) (sym is) (array (length requests) each (executed l digest b (b.longest_reply - length (token (Count (length requests)))) requests each old new ran))
-run_each l digest b requests old new rs (inr (same, is)) = as_one (Failure (text_of refusal.Memory)) rs is refl
+-- what SELECT replies, and a command on keys after one that was refused
+pub selected : (last : ℕ) (index : List ℕ) (after : Selection) (rs : List Token) → IsSelected last index after rs → AreReplies 1 rs
+selected last index (selection.Database d) rs so = as_one (Simple (codes "OK")) rs so.2 refl
+selected last index (selection.Refused n) rs (inl (none, (text, is))) = as_one (Failure text) rs is refl
+selected last index (selection.Refused n) rs (inr is) = as_one (Failure (text_of refusal.Memory)) rs is refl
 
-exec_of : (l : Limits) (digest : DigestKeys) (b : Bounds) (is_spoilt : Bool) (requests : List (List (List ℕ))) (old new : Session) (rs : List Token)
-    → MatchBool is_spoilt ((old ≡ new) × (rs ≡ Failure exec_abort ∷ [])) (IsRunEach l digest b requests old new rs) → AreReplies 1 rs
-exec_of l digest b true requests old new rs (same, is) = as_one (Failure exec_abort) rs is refl
-exec_of l digest b false requests old new rs ran = run_each l digest b requests old new rs ran
+pub unselected : (n : Option ℤ) (rs : List Token) → IsUnselected n rs → AreReplies 1 rs
+unselected n rs (inl is) = as_one (Failure (no_database n)) rs is refl
+unselected n rs (inr is) = as_one (Failure (text_of refusal.Memory)) rs is refl
 
-exec : (l : Limits) (digest : DigestKeys) (b : Bounds) (before after : Option Waiting) (old new : Session) (rs : List Token) → IsExecuted l digest b before after old new rs → AreReplies 1 rs
-exec l digest b None after old new rs (none, same, is) = as_one (Failure no_multi_before_exec) rs is refl
-exec l digest b (Some waits) after old new rs (none, ran) = exec_of l digest b waits.is_spoilt waits.requests old new rs ran
+run_each : (l : Limits) (digest : DigestKeys) (b : Bounds) (requests : List (List (List ℕ))) (s t : Selection) (old new : Session) (rs : List Token) → IsRunEach l digest b requests s t old new rs → AreReplies 1 rs
+run_each l digest b requests s t old new rs (inl (each, ran, is)) =
+    subst (λ (ts : List Token). AreReplies 1 ts) (sym is) (array (length requests) each (executed l digest b (b.longest_reply - length (token (Count (length requests)))) requests each s t old new ran))
+run_each l digest b requests s t old new rs (inr (kept, same, is)) = as_one (Failure (text_of refusal.Memory)) rs is refl
+
+exec_of : (l : Limits) (digest : DigestKeys) (b : Bounds) (is_spoilt : Bool) (requests : List (List (List ℕ))) (s t : Selection) (old new : Session) (rs : List Token)
+    → MatchBool is_spoilt ((t ≡ s) × (old ≡ new) × (rs ≡ Failure exec_abort ∷ [])) (IsRunEach l digest b requests s t old new rs) → AreReplies 1 rs
+exec_of l digest b true requests s t old new rs (kept, same, is) = as_one (Failure exec_abort) rs is refl
+exec_of l digest b false requests s t old new rs ran = run_each l digest b requests s t old new rs ran
+
+exec : (l : Limits) (digest : DigestKeys) (b : Bounds) (before after : Option Waiting) (s t : Selection) (old new : Session) (rs : List Token) → IsExecuted l digest b before after s t old new rs → AreReplies 1 rs
+exec l digest b None after s t old new rs (none, kept, same, is) = as_one (Failure no_multi_before_exec) rs is refl
+exec l digest b (Some waits) after s t old new rs (none, ran) = exec_of l digest b waits.is_spoilt waits.requests s t old new rs ran
 
 begun : (before after : Option Waiting) (rs : List Token) → IsBegun before after rs → AreReplies 1 rs
 begun None after rs (waits, is) = as_one (Simple (codes "OK")) rs is refl
@@ -243,24 +257,27 @@ held before after request rs (inr (spoilt, inl (unread, (text, is)))) = as_one (
 held before after request rs (inr (spoilt, inr (inl is))) = as_one (Failure full_queue) rs is refl
 held before after request rs (inr (spoilt, inr (inr is))) = as_one (Failure (text_of refusal.Memory)) rs is refl
 
-run_or_held : (l : Limits) (digest : DigestKeys) (b : Bounds) (before after : Option Waiting) (arguments : List (List ℕ)) (old new : Session) (rs : List Token) → IsRunOrHeld l digest b before after arguments old new rs → AreReplies 1 rs
-run_or_held l digest b None after arguments old new rs (none, ran) = ran.0
-run_or_held l digest b (Some waits) after arguments old new rs (same, (now, is, held_so)) = held waits now arguments rs held_so
+run_or_held_by : (l : Limits) (digest : DigestKeys) (b : Bounds) (before after : Option Waiting) (s t : Selection) (arguments : List (List ℕ)) (old new : Session) (rs : List Token) → IsRunOrHeldBy l digest b before after s t arguments old new rs → AreReplies 1 rs
+run_or_held_by l digest b None after s t arguments old new rs (none, ran) = ran.0
+run_or_held_by l digest b (Some waits) after s t arguments old new rs (kept, same, (now, is, held_so)) = held waits now arguments rs held_so
+
+run_or_held : (l : Limits) (digest : DigestKeys) (b : Bounds) (before after : Known) (arguments : List (List ℕ)) (old new : Session) (rs : List Token) → IsRunOrHeld l digest b before after arguments old new rs → AreReplies 1 rs
+run_or_held l digest b before after arguments old new rs so = run_or_held_by l digest b before.waits after.waits before.selected after.selected arguments old new rs so
 
 served_as : (l : Limits) (digest : DigestKeys) (b : Bounds) (password : Option (List ℕ)) (c : Command) (before after : Known) (arguments : List (List ℕ)) (old new : Session) (rs : List Token)
     → IsServedAs l digest b password c before after arguments old new rs → AreReplies 1 rs
 served_as l digest b password command.Quit before after arguments old new rs so = as_one (Simple (codes "OK")) rs so.2 refl
 served_as l digest b password (command.Nothing nothing.Reset) before after arguments old new rs so = as_one (Simple (codes "RESET")) rs so.2 refl
-served_as l digest b password (command.Nothing nothing.Multi) before after arguments old new rs so = begun before.waits after.waits rs so.2
-served_as l digest b password (command.Nothing nothing.Discard) before after arguments old new rs so = dropped before.waits after.waits rs so.2
-served_as l digest b password (command.Nothing nothing.Exec) before after arguments old new rs so = exec l digest b before.waits after.waits old new rs so.1
-served_as l digest b password c before after arguments old new rs so = run_or_held l digest b before.waits after.waits arguments old new rs so.1
+served_as l digest b password (command.Nothing nothing.Multi) before after arguments old new rs so = begun before.waits after.waits rs so.3
+served_as l digest b password (command.Nothing nothing.Discard) before after arguments old new rs so = dropped before.waits after.waits rs so.3
+served_as l digest b password (command.Nothing nothing.Exec) before after arguments old new rs so = exec l digest b before.waits after.waits before.selected after.selected old new rs so.1
+served_as l digest b password c before after arguments old new rs so = run_or_held l digest b before after arguments old new rs so.1
 
 -- what is said to a client that may ask
 pub served : (l : Limits) (digest : DigestKeys) (b : Bounds) (password : Option (List ℕ)) (before after : Known) (arguments : List (List ℕ)) (old new : Session) (rs : List Token)
     → IsServed l digest b password before after arguments old new rs → AreReplies 1 rs
 served l digest b password before after arguments old new rs (inl (c, spells, so)) = served_as l digest b password c before after arguments old new rs so
-served l digest b password before after arguments old new rs (inr (unread, may, so)) = run_or_held l digest b before.waits after.waits arguments old new rs so
+served l digest b password before after arguments old new rs (inr (unread, may, so)) = run_or_held l digest b before after arguments old new rs so
 
 auth : (password : Option (List ℕ)) (login : Login) (might may : Bool) (rs : List Token) → IsAuthReply password login might may rs → AreReplies 1 rs
 auth password login might may rs (inl (may_now, right, is)) = as_one (Simple (codes "OK")) rs is refl
@@ -277,8 +294,8 @@ hello password h might may rs (login, inr (text, why, is)) = as_one (Failure tex
 gated_as : (password : Option (List ℕ)) (c : Command) (before after : Known) (rs : List Token) → IsGatedAs password c before after rs → AreReplies 1 rs
 gated_as password command.Quit before after rs so = as_one (Simple (codes "OK")) rs so.1 refl
 gated_as password (command.Nothing nothing.Reset) before after rs so = as_one (Simple (codes "RESET")) rs so.1 refl
-gated_as password (command.Server (server.Auth login)) before after rs so = auth password login before.is_authenticated after.is_authenticated rs so.1
-gated_as password (command.Server (server.Hello h)) before after rs so = hello password h before.is_authenticated after.is_authenticated rs so.1
+gated_as password (command.Server (server.Auth login)) before after rs so = auth password login before.is_authenticated after.is_authenticated rs so.2
+gated_as password (command.Server (server.Hello h)) before after rs so = hello password h before.is_authenticated after.is_authenticated rs so.2
 gated_as password c before after rs so = as_one (Failure no_login) rs so.1 refl
 
 -- what is said to a client that may not ask

@@ -6,25 +6,25 @@ use Rattle.resp.specs.Replies.{Token, token}
 use Rattle.key_commands.specs.declared.key_command.KeyCommand.{KeyCommand}
 use Rattle.far_server.specs.Sessions.{Session}
 use Rattle.far_server.specs.Bounds.{longest}
-use Rattle.stored_keys.specs.declared.DigestKeys.{DigestKeys}
+use Rattle.stored_keys.specs.declared.Keyspace.{Keyspace}
 use Rattle.far_server.specs.Keyed.{IsKeyed}
 use Rattle.far_server.specs.Many.{one, none, ok, counted, AreCounted, AreListed, IsSet, AreSet}
 
-module _ (l : Limits) (digest : DigestKeys) (now most : ℕ) where
+module _ (l : Limits) (keyspace : Keyspace) (now most : ℕ) where
   pub counted_more : (command : KeyCommand) (ks : List (List ℕ)) (k : List ℕ) (from count : ℕ) (a b c : Session) (r : Token) (is_one : Bool)
-      → AreCounted l digest now most command ks from count a b → IsKeyed l digest k command now most b c r → MatchBool is_one (token r ≡ one) (token r ≡ none)
-      → AreCounted l digest now most command (ks ++ k ∷ []) from (counted is_one count) a c
+      → AreCounted l keyspace now most command ks from count a b → IsKeyed l keyspace k command now most b c r → MatchBool is_one (token r ≡ one) (token r ≡ none)
+      → AreCounted l keyspace now most command (ks ++ k ∷ []) from (counted is_one count) a c
   counted_more command [] k from count a b c r is_one before keyed said =
-      let at : IsKeyed l digest k command now most a c r = subst (λ (s : Session). IsKeyed l digest k command now most s c r) (sym before.0) keyed in
+      let at : IsKeyed l keyspace k command now most a c r = subst (λ (s : Session). IsKeyed l keyspace k command now most s c r) (sym before.0) keyed in
       (c, r, is_one, at, said, (refl, ap (λ (n : ℕ). counted is_one n) before.1))
   counted_more command (j ∷ ks) k from count a b c r is_one before keyed said =
       (before.0, before.1, before.2, before.3, before.4, counted_more command ks k (counted before.2 from) count before.0 b c r is_one before.5 keyed said)
 
   pub listed_more : (command : KeyCommand) (limit : ℕ) (ks : List (List ℕ)) (k : List ℕ) (rs : List Token) (a b c : Session) (r : Token)
-      → AreListed l digest now most command limit ks rs a b → length (flat_map token rs) + longest most ≤ limit → IsKeyed l digest k command now most b c r
-      → AreListed l digest now most command limit (ks ++ k ∷ []) (rs ++ r ∷ []) a c
+      → AreListed l keyspace now most command limit ks rs a b → length (flat_map token rs) + longest most ≤ limit → IsKeyed l keyspace k command now most b c r
+      → AreListed l keyspace now most command limit (ks ++ k ∷ []) (rs ++ r ∷ []) a c
   listed_more command limit [] k rs a b c r before fits keyed =
-      let at : IsKeyed l digest k command now most a c r = subst (λ (s : Session). IsKeyed l digest k command now most s c r) (sym before.0) keyed in
+      let at : IsKeyed l keyspace k command now most a c r = subst (λ (s : Session). IsKeyed l keyspace k command now most s c r) (sym before.0) keyed in
       (omega (arith, fits), (c, r, [], at, (refl, refl), ap (λ (ts : List Token). ts ++ r ∷ []) before.1))
   listed_more command limit (j ∷ ks) k rs a b c r before fits keyed =
       let p = before.1 in
@@ -41,9 +41,9 @@ module _ (l : Limits) (digest : DigestKeys) (now most : ℕ) where
       )
 
   pub set_more : (ks : List (List ℕ)) (k v : List ℕ) (a b c : Session) (r : Token)
-      → AreSet l digest now most ks a b → IsSet l digest now most k v b c r → token r ≡ ok → AreSet l digest now most (ks ++ k ∷ v ∷ []) a c
+      → AreSet l keyspace now most ks a b → IsSet l keyspace now most k v b c r → token r ≡ ok → AreSet l keyspace now most (ks ++ k ∷ v ∷ []) a c
   set_more [] k v a b c r before set is_ok =
-      let at : IsSet l digest now most k v a c r = subst (λ (s : Session). IsSet l digest now most k v s c r) (sym before) set in
+      let at : IsSet l keyspace now most k v a c r = subst (λ (s : Session). IsSet l keyspace now most k v s c r) (sym before) set in
       (c, r, at, is_ok, refl)
   set_more (j ∷ []) k v a b c r before set is_ok = absurd before
   set_more (j ∷ w ∷ ks) k v a b c r before set is_ok = (before.0, before.1, before.2, before.3, set_more ks k v before.0 b c r before.4 set is_ok)

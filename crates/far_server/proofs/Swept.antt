@@ -1,5 +1,5 @@
 -- What the sweep does, step by step.
-use Rattle.std.proofs.Common.{ℕ, zero, suc, Bool, true, refl, inl, inr}
+use Rattle.std.proofs.Common.{ℕ, zero, suc, Bool, true, None, refl, inl, inr}
 use Rattle.table_core.specs.declared.limits.Limits.{Limits}
 use Rattle.version_words.specs.Views.{Goes}
 use Rattle.far_server.specs.Sessions.{Session}
@@ -25,14 +25,14 @@ module _ (l : Limits) (evicts : Bool) where
   then a b c first second = both (IsSweeping l evicts) a b c first second
 
 module _ (l : Limits) where
-  is_sweeping : (a b : Session) → IsRemoval l a b → IsSweeping l true a b
+  is_sweeping : (a b : Session) → IsRemoval l None a b → IsSweeping l true a b
   is_sweeping a b (inl goes) = inl goes
   is_sweeping a b (inr removes) = inr (inr (refl, removes))
 
-  are_sweeping : (n : ℕ) (a b : Session) → AreSteps (IsRemoval l) n a b → AreSteps (IsSweeping l true) n a b
+  are_sweeping : (n : ℕ) (a b : Session) → AreSteps (IsRemoval l None) n a b → AreSteps (IsSweeping l true) n a b
   are_sweeping zero a b same = same
   are_sweeping (suc n) a b steps = (steps.0, are_sweeping n a steps.0 steps.1, is_sweeping steps.0 b steps.2)
 
   -- keys were taken out to make room
-  pub evicted : (a b : Session) → Flushes l a b → Sweeps l true a b
+  pub evicted : (a b : Session) → Flushes l None a b → Sweeps l true a b
   evicted a b flushes = (flushes.0, are_sweeping flushes.0 a b flushes.1)

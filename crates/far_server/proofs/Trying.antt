@@ -12,7 +12,7 @@ use Rattle.far_server.specs.Sessions.{Session, Called}
 use Rattle.far_server.specs.Keyed.{IsIdle, Idles, IsSettled, IsTried, IsOnStored, IsKeyed}
 use Rattle.far_server.proofs.Going.{one_more, one_step, both}
 use Rattle.hash_table.proofs.Fronts.{goes_trans}
-use Rattle.stored_keys.specs.declared.DigestKeys.{DigestKeys}
+use Rattle.stored_keys.specs.declared.Keyspace.{Keyspace}
 use Rattle.stored_keys.specs.StoredKeys.{stored_key}
 
 module _ (l : Limits) (k : List ℕ) where
@@ -37,7 +37,7 @@ module _ (l : Limits) (k : List ℕ) where
   tried command now most a b c found effect bytes r (Ok false) called does settled = one_more (IsIdle l k) a b c (one_get a b found called) settled
   tried command now most a b c found effect bytes r (Err why) called does settled = (b, one_get a b found called, settled)
 
-pub keyed_after : (l : Limits) (digest : DigestKeys) (k : List ℕ) (command : KeyCommand) (now most : ℕ) (a b c : Session) (r : Token)
-    → Goes a.pass b.pass → IsKeyed l digest k command now most b c r → IsKeyed l digest k command now most a c r
-keyed_after l digest k command now most a b c r goes (inl p) = inl (p.0, stored_after l (stored_key digest k) command now most a b c r goes p.1)
-keyed_after l digest k command now most a b c r goes (inr p) = inr (p.0, goes_trans goes p.1, p.2)
+pub keyed_after : (l : Limits) (keyspace : Keyspace) (k : List ℕ) (command : KeyCommand) (now most : ℕ) (a b c : Session) (r : Token)
+    → Goes a.pass b.pass → IsKeyed l keyspace k command now most b c r → IsKeyed l keyspace k command now most a c r
+keyed_after l keyspace k command now most a b c r goes (inl p) = inl (p.0, stored_after l (stored_key keyspace k) command now most a b c r goes p.1)
+keyed_after l keyspace k command now most a b c r goes (inr p) = inr (p.0, goes_trans goes p.1, p.2)

@@ -16,6 +16,8 @@ use Rattle.request_loop.specs.declared.service.Next.TheVariants as behind
 use Rattle.far_server.specs.declared.connection.Connection.{Connection}
 use Rattle.far_server.specs.declared.settings.Bounds.{Bounds}
 use Rattle.far_server.specs.Sessions.{Session}
+use Rattle.far_server.specs.declared.selection.Selection.{Selection}
+use Rattle.far_server.specs.Selections.{first_selected}
 use Rattle.far_server.specs.Transactions.{Waiting, waits_in, IsBegun, IsDropped, IsHeld}
 use Rattle.far_server.specs.Logins.{HasLogin, IsModest, Exceeds, no_login, IsAuthReply, IsHelloReply}
 use Rattle.far_map.specs.declared.refusal.MapRefusal.TheVariants as refusal
@@ -25,26 +27,27 @@ use Rattle.far_server.specs.Reads.{IsUnread, IsSpelled}
 use Rattle.far_server.specs.Runs.{IsRequest}
 use Rattle.stored_keys.specs.declared.DigestKeys.{DigestKeys}
 
--- what is known of a connection: whether it may ask, and what waits for EXEC after a MULTI
+-- what is known of a connection: whether it may ask, which database it has selected, and what waits for EXEC after a MULTI
 pub record Known : Type 0 where
   pub is_authenticated : Bool
+  pub selected : Selection
   pub waits : Option Waiting
 
 abbrev pub known : Connection → Known
-known c = record { is_authenticated = c.is_authenticated; waits = waits_in c.queue }
+known c = record { is_authenticated = c.is_authenticated; selected = c.selected; waits = waits_in c.queue }
 
 -- What is done with a connection that might ask, or not, and may now, or not. One that is let in may ask. One that may ask no more is let
 -- out, or it ends.
 abbrev pub IsAdmission : Bool → Bool → Next → Type 0
 IsAdmission might may next = (next ≡ behind.LetIn → may ≡ true) × (might ≡ true → may ≡ false → (next ≡ behind.LetOut) ⊎ (next ≡ behind.End))
 
--- what is known of a new connection, which may ask just where no password is set
+-- what is known of a new connection, which may ask just where no password is set, and has selected database 0
 abbrev pub is_free : Option (List ℕ) → Bool
 is_free None = true
 is_free (Some digest) = false
 
 abbrev pub new_known : Bool → Known
-new_known is_authenticated = record { is_authenticated = is_authenticated; waits = None }
+new_known is_authenticated = record { is_authenticated = is_authenticated; selected = first_selected; waits = None }
 
 -- what is known of the connection of this number, where these have a place, and otherwise e
 abbrev pub known_at : List (ℕ × Connection) → ℕ → Known → Known
@@ -60,10 +63,10 @@ abbrev pub exec_abort : List ℕ
 exec_abort = codes "EXECABORT Transaction discarded because of previous errors."
 
 module _ (l : Limits) (digest : DigestKeys) (b : Bounds) where
-  -- A request was run where the limit had room for the longest value.
-  pub record IsRunWithin (limit : ℕ) (request : List (List ℕ)) (old new : Session) (rs : List Token) : Type 0 where
+  -- A request was run where the limit had room for the longest value. The selections are those before and after it.
+  pub record IsRunWithin (limit : ℕ) (request : List (List ℕ)) (before after : Selection) (old new : Session) (rs : List Token) : Type 0 where
     pub fits : longest b.longest_value ≤ limit
-    pub ran : IsRequest l digest b.longest_value limit request old new rs
+    pub ran : IsRequest l digest b limit before after request old new rs
 
   -- None of so many requests was run, since the limit had no room for the longest value: each is answered by the error.
   pub record AreRefused (limit count : ℕ) (old new : Session) (rs : List Token) : Type 0 where
@@ -77,54 +80,58 @@ module _ (l : Limits) (digest : DigestKeys) (b : Bounds) where
     pub reply : rs ≡ replicate count (Failure (text_of refusal.Memory))
 
   -- Requests were run one after another within a limit for all replies, which are these; from the first on for which it had no room, or
-  -- there was no memory, none was.
-  abbrev pub AreExecuted : ℕ → List (List (List ℕ)) → List Token → Session → Session → Type 0
-  AreExecuted limit [] rs old new = (old ≡ new) × (rs ≡ [])
-  AreExecuted limit (request ∷ requests) rs old new =
-      ((mid : Session) × (first rest : List Token) × IsRunWithin limit request old mid first × AreExecuted (limit - length (flat_map token first)) requests rest mid new × (rs ≡ first ++ rest))
-      ⊎ (AreRefused limit (length (request ∷ requests)) old new rs ⊎ AreWithoutMemory (length (request ∷ requests)) old new rs)
+  -- there was no memory, none was. A SELECT among them holds from its place on.
+  abbrev pub AreExecuted : ℕ → List (List (List ℕ)) → List Token → Selection → Selection → Session → Session → Type 0
+  AreExecuted limit [] rs before after old new = (after ≡ before) × (old ≡ new) × (rs ≡ [])
+  AreExecuted limit (request ∷ requests) rs before after old new =
+      ((mid : Session) × (selected : Selection) × (first rest : List Token) × IsRunWithin limit request before selected old mid first
+          × AreExecuted (limit - length (flat_map token first)) requests rest selected after mid new × (rs ≡ first ++ rest))
+      ⊎ ((after ≡ before) × (AreRefused limit (length (request ∷ requests)) old new rs ⊎ AreWithoutMemory (length (request ∷ requests)) old new rs))
 
   -- an array of the replies to requests
-  abbrev pub AreExecutedEach : List (List (List ℕ)) → List Token → Session → Session → Type 0
-  AreExecutedEach requests each old new = AreExecuted (b.longest_reply - length (token (Count (length requests)))) requests each old new
+  abbrev pub AreExecutedEach : List (List (List ℕ)) → List Token → Selection → Selection → Session → Session → Type 0
+  AreExecutedEach requests each before after old new = AreExecuted (b.longest_reply - length (token (Count (length requests)))) requests each before after old new
 
   -- EXEC of requests that wait: they were run, in order, as far as the reply had room for their replies, or memory was refused.
-  abbrev pub IsRunEach : List (List (List ℕ)) → Session → Session → List Token → Type 0
-  IsRunEach requests old new rs = ((each : List Token) × AreExecutedEach requests each old new × (rs ≡ Count (length requests) ∷ each))
-      ⊎ ((old ≡ new) × (rs ≡ Failure (text_of refusal.Memory) ∷ []))
+  abbrev pub IsRunEach : List (List (List ℕ)) → Selection → Selection → Session → Session → List Token → Type 0
+  IsRunEach requests before after old new rs = ((each : List Token) × AreExecutedEach requests each before after old new × (rs ≡ Count (length requests) ∷ each))
+      ⊎ ((after ≡ before) × (old ≡ new) × (rs ≡ Failure (text_of refusal.Memory) ∷ []))
 
-  -- EXEC, after which nothing waits. It is an error without a MULTI, and if a request was refused. Then no call is made.
-  abbrev pub IsExecuted : Option Waiting → Option Waiting → Session → Session → List Token → Type 0
-  IsExecuted None after old new rs = (after ≡ None) × (old ≡ new) × (rs ≡ Failure no_multi_before_exec ∷ [])
-  IsExecuted (Some waits) after old new rs = (after ≡ None)
-      × MatchBool waits.is_spoilt ((old ≡ new) × (rs ≡ Failure exec_abort ∷ [])) (IsRunEach waits.requests old new rs)
+  -- EXEC, after which nothing waits. It is an error without a MULTI, and if a request was refused. Then no call is made, and what is selected stays.
+  abbrev pub IsExecuted : Option Waiting → Option Waiting → Selection → Selection → Session → Session → List Token → Type 0
+  IsExecuted None waits_after before after old new rs = (waits_after ≡ None) × (after ≡ before) × (old ≡ new) × (rs ≡ Failure no_multi_before_exec ∷ [])
+  IsExecuted (Some waits) waits_after before after old new rs = (waits_after ≡ None)
+      × MatchBool waits.is_spoilt ((after ≡ before) × (old ≡ new) × (rs ≡ Failure exec_abort ∷ [])) (IsRunEach waits.requests before after old new rs)
 
-  -- a request is run at once, or waits for EXEC after a MULTI
-  abbrev pub IsRunOrHeld : Option Waiting → Option Waiting → List (List ℕ) → Session → Session → List Token → Type 0
-  IsRunOrHeld None after arguments old new rs = (after ≡ None) × IsRequest l digest b.longest_value b.longest_reply arguments old new rs
-  IsRunOrHeld (Some waits) after arguments old new rs = (old ≡ new) × ((held : Waiting) × (after ≡ Some held) × IsHeld waits held arguments rs)
+  -- a request is run at once in the database that is selected, or waits for EXEC after a MULTI
+  abbrev pub IsRunOrHeldBy : Option Waiting → Option Waiting → Selection → Selection → List (List ℕ) → Session → Session → List Token → Type 0
+  IsRunOrHeldBy None waits_after before after arguments old new rs = (waits_after ≡ None) × IsRequest l digest b b.longest_reply before after arguments old new rs
+  IsRunOrHeldBy (Some waits) waits_after before after arguments old new rs = (after ≡ before) × (old ≡ new) × ((held : Waiting) × (waits_after ≡ Some held) × IsHeld waits held arguments rs)
+
+  abbrev pub IsRunOrHeld : Known → Known → List (List ℕ) → Session → Session → List Token → Type 0
+  IsRunOrHeld before after arguments old new rs = IsRunOrHeldBy before.waits after.waits before.selected after.selected arguments old new rs
 
   module _ (password : Option (List ℕ)) where
     -- what became of a request that spells this command, of a connection that may ask, and that may go on asking, except after RESET
     abbrev pub IsServedAs : Command → Known → Known → List (List ℕ) → Session → Session → List Token → Type 0
     IsServedAs command.Quit before after arguments old new rs = (after ≡ before) × (old ≡ new) × (rs ≡ Simple (codes "OK") ∷ [])
     IsServedAs (command.Nothing nothing.Reset) before after arguments old new rs = (after ≡ unknown password) × (old ≡ new) × (rs ≡ Simple (codes "RESET") ∷ [])
-    IsServedAs (command.Nothing nothing.Multi) before after arguments old new rs = (after.is_authenticated ≡ true) × (old ≡ new) × IsBegun before.waits after.waits rs
-    IsServedAs (command.Nothing nothing.Discard) before after arguments old new rs = (after.is_authenticated ≡ true) × (old ≡ new) × IsDropped before.waits after.waits rs
-    IsServedAs (command.Nothing nothing.Exec) before after arguments old new rs = (after.is_authenticated ≡ true) × IsExecuted before.waits after.waits old new rs
-    IsServedAs c before after arguments old new rs = (after.is_authenticated ≡ true) × IsRunOrHeld before.waits after.waits arguments old new rs
+    IsServedAs (command.Nothing nothing.Multi) before after arguments old new rs = (after.is_authenticated ≡ true) × (after.selected ≡ before.selected) × (old ≡ new) × IsBegun before.waits after.waits rs
+    IsServedAs (command.Nothing nothing.Discard) before after arguments old new rs = (after.is_authenticated ≡ true) × (after.selected ≡ before.selected) × (old ≡ new) × IsDropped before.waits after.waits rs
+    IsServedAs (command.Nothing nothing.Exec) before after arguments old new rs = (after.is_authenticated ≡ true) × IsExecuted before.waits after.waits before.selected after.selected old new rs
+    IsServedAs c before after arguments old new rs = (after.is_authenticated ≡ true) × IsRunOrHeld before after arguments old new rs
 
     -- the same of any request
     abbrev pub IsServed : Known → Known → List (List ℕ) → Session → Session → List Token → Type 0
     IsServed before after arguments old new rs = ((c : Command) × IsSpelled arguments c × IsServedAs c before after arguments old new rs)
-        ⊎ (IsUnread arguments × (after.is_authenticated ≡ true) × IsRunOrHeld before.waits after.waits arguments old new rs)
+        ⊎ (IsUnread arguments × (after.is_authenticated ≡ true) × IsRunOrHeld before after arguments old new rs)
 
 -- What became of a request of this command, of a connection that may not ask: AUTH and HELLO may let it ask, and the others are refused.
 abbrev pub IsGatedAs : Option (List ℕ) → Command → Known → Known → List Token → Type 0
 IsGatedAs password command.Quit before after rs = (after ≡ before) × (rs ≡ Simple (codes "OK") ∷ [])
 IsGatedAs password (command.Nothing nothing.Reset) before after rs = (after ≡ unknown password) × (rs ≡ Simple (codes "RESET") ∷ [])
-IsGatedAs password (command.Server (server.Auth login)) before after rs = (after.waits ≡ before.waits) × IsAuthReply password login before.is_authenticated after.is_authenticated rs
-IsGatedAs password (command.Server (server.Hello greeting)) before after rs = (after.waits ≡ before.waits) × IsHelloReply password greeting before.is_authenticated after.is_authenticated rs
+IsGatedAs password (command.Server (server.Auth login)) before after rs = (after.waits ≡ before.waits) × (after.selected ≡ before.selected) × IsAuthReply password login before.is_authenticated after.is_authenticated rs
+IsGatedAs password (command.Server (server.Hello greeting)) before after rs = (after.waits ≡ before.waits) × (after.selected ≡ before.selected) × IsHelloReply password greeting before.is_authenticated after.is_authenticated rs
 IsGatedAs password c before after rs = (after ≡ before) × (rs ≡ Failure no_login ∷ [])
 
 -- the same of any request that is not too large

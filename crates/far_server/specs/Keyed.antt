@@ -14,7 +14,7 @@ use Rattle.far_server.specs.Sessions.{Session, Call, Called}
 use Rattle.far_server.specs.Steps.{Steps}
 use Rattle.server_commands.specs.declared.device_reason.DeviceReason.{DeviceReason}
 use Rattle.far_server.specs.Refusing.{IsTold, text_with, overtaken, no_room, key_too_long}
-use Rattle.stored_keys.specs.declared.DigestKeys.{DigestKeys}
+use Rattle.stored_keys.specs.declared.Keyspace.{Keyspace}
 use Rattle.stored_keys.specs.StoredKeys.{stored_key, longest_key}
 
 -- a call on this key that was answered so leaves the map as it was
@@ -91,8 +91,8 @@ module _ (l : Limits) (k : List ℕ) where
         ⊎ (((why : MapRefusal) × (told : MapRefusal) × (known : Option DeviceReason) × IsStopped why mid new × IsTold why told × (reply ≡ Failure (text_with told known)))
         ⊎ ((mid ≡ new) × ((reply ≡ Failure overtaken) ⊎ ((known : Option DeviceReason) × (reply ≡ Failure (no_room known)))))))
 
--- A command on a client's key is one on its stored key, under these digest keys. Of a key that is too long for one this is told, and no call was made.
-abbrev pub IsKeyed : Limits → DigestKeys → List ℕ → KeyCommand → ℕ → ℕ → Session → Session → Token → Type 0
-IsKeyed l digest k command now most old new reply =
-    ((length k ≤ longest_key) × IsOnStored l (stored_key digest k) command now most old new reply)
+-- A command on a client's key is one on its stored key, in this keyspace. Of a key that is too long for one this is told, and no call was made.
+abbrev pub IsKeyed : Limits → Keyspace → List ℕ → KeyCommand → ℕ → ℕ → Session → Session → Token → Type 0
+IsKeyed l keyspace k command now most old new reply =
+    ((length k ≤ longest_key) × IsOnStored l (stored_key keyspace k) command now most old new reply)
     ⊎ ((longest_key < length k) × Goes old.pass new.pass × (reply ≡ Failure key_too_long))

@@ -3,6 +3,7 @@ pub mod Steps
 pub mod Looks
 pub mod Reads
 pub mod Refusing
+pub mod Selections
 pub mod Keyed
 pub mod Bounds
 pub mod Lists

@@ -14,7 +14,7 @@ use Rattle.far_server.specs.Keyed.{IsKeyed}
 use Rattle.far_map.specs.declared.refusal.MapRefusal.TheVariants as refusal
 use Rattle.far_server.specs.Bounds.{longest, too_large}
 use Rattle.far_server.specs.Refusing.{text_of}
-use Rattle.stored_keys.specs.declared.DigestKeys.{DigestKeys}
+use Rattle.stored_keys.specs.declared.Keyspace.{Keyspace}
 
 -- one more, as far as 63 bits tell
 abbrev pub more : ℕ → ℕ
@@ -38,24 +38,24 @@ counted false n = n
 abbrev pub plain : Change
 plain = record { to = places.Always; get = false; lifetime = lifetime.Forever }
 
-module _ (l : Limits) (digest : DigestKeys) (now most : ℕ) where
+module _ (l : Limits) (keyspace : Keyspace) (now most : ℕ) where
   module _ (command : KeyCommand) where
     -- The command was carried out on these keys, one after another, and each replied 1 or 0: so many 1 more than before.
     abbrev pub AreCounted : List (List ℕ) → ℕ → ℕ → Session → Session → Type 0
     AreCounted [] from to old new = (old ≡ new) × (from ≡ to)
-    AreCounted (k ∷ ks) from to old new = (mid : Session) × (r : Token) × (is_one : Bool) × IsKeyed l digest k command now most old mid r
+    AreCounted (k ∷ ks) from to old new = (mid : Session) × (r : Token) × (is_one : Bool) × IsKeyed l keyspace k command now most old mid r
         × MatchBool is_one (token r ≡ one) (token r ≡ none) × AreCounted ks (counted is_one from) to mid new
 
     -- the reply is how many replied 1; or the first that is neither 1 nor 0, which is an error, and the keys after it are left
     abbrev pub IsCountedEach : List (List ℕ) → Session → Session → Token → Type 0
     IsCountedEach ks old new r = ((count : ℕ) × AreCounted ks 0 count old new × (r ≡ Number (pos count)))
-        ⊎ ((before : List (List ℕ)) × (k : List ℕ) × (behind : List (List ℕ)) × (count : ℕ) × (mid : Session) × (ks ≡ before ++ k ∷ behind) × AreCounted before 0 count old mid × IsKeyed l digest k command now most mid new r × (token r ≢ one) × (token r ≢ none))
+        ⊎ ((before : List (List ℕ)) × (k : List ℕ) × (behind : List (List ℕ)) × (count : ℕ) × (mid : Session) × (ks ≡ before ++ k ∷ behind) × AreCounted before 0 count old mid × IsKeyed l keyspace k command now most mid new r × (token r ≢ one) × (token r ≢ none))
 
     -- The command was carried out on these keys, one after another, and these are the replies. Before each there was room for the longest
     -- value within a limit for all.
     abbrev pub AreListed : ℕ → List (List ℕ) → List Token → Session → Session → Type 0
     AreListed limit [] rs old new = (old ≡ new) × (rs ≡ [])
-    AreListed limit (k ∷ ks) rs old new = (longest most ≤ limit) × ((mid : Session) × (r : Token) × (rest : List Token) × IsKeyed l digest k command now most old mid r
+    AreListed limit (k ∷ ks) rs old new = (longest most ≤ limit) × ((mid : Session) × (r : Token) × (rest : List Token) × IsKeyed l keyspace k command now most old mid r
         × AreListed (limit - length (token r)) ks rest mid new × (rs ≡ r ∷ rest))
 
     -- an array of the replies
@@ -86,7 +86,7 @@ module _ (l : Limits) (digest : DigestKeys) (now most : ℕ) where
 
   -- a key was set to a value, without options and without a deadline
   abbrev pub IsSet : List ℕ → List ℕ → Session → Session → Token → Type 0
-  IsSet k v old new r = (value : Bor (List ℕ)) × (value.now ≡ v) × IsKeyed l digest k (ask.Set value plain) now most old new r
+  IsSet k v old new r = (value : Bor (List ℕ)) × (value.now ≡ v) × IsKeyed l keyspace k (ask.Set value plain) now most old new r
 
   -- keys and values in turn, of which each key was set
   abbrev pub AreSet : List (List ℕ) → Session → Session → Type 0

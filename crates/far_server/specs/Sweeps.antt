@@ -1,5 +1,5 @@
 -- What the sweep of a server does with its session.
-use Rattle.std.specs.Prelude.{◌≡◌, ◌≢◌, ◌⊎◌, ℕ, ◌≤◌, Bool, true, List, Result, IfOk}
+use Rattle.std.specs.Prelude.{◌≡◌, ◌≢◌, ◌⊎◌, ℕ, ◌≤◌, Bool, true, List, None, Result, IfOk}
 use Rattle.table_core.specs.declared.limits.Limits.{Limits}
 use Rattle.version_words.specs.Views.{Goes}
 use Rattle.commands.specs.Stored.{stored}
@@ -34,7 +34,7 @@ module _ (l : Limits) where
   module _ (evicts : Bool) where
     -- no call, the removal of an expired value, or where the policy evicts that of any key
     abbrev pub IsSweeping : Session → Session → Type 0
-    IsSweeping old new = Goes old.pass new.pass ⊎ (Expires old new ⊎ ((evicts ≡ true) × Removes l old new))
+    IsSweeping old new = Goes old.pass new.pass ⊎ (Expires old new ⊎ ((evicts ≡ true) × Removes l None old new))
 
     -- no other call was made
     abbrev pub Sweeps : Session → Session → Type 0

@@ -1,10 +1,11 @@
-//! Commands on all keys, which visit one bucket after another: SCAN and FLUSHALL.
+//! Commands on all keys of a database, or of all databases, which visit one bucket after another: SCAN, FLUSHDB and
+//! FLUSHALL.
 ghost use Rattle.std.specs.Prelude.{◌≡◌, ◌<◌, ◌++◌, ◌∷◌, [], ℕ, List, length, IfOk, OnErr, OnOk};
 ghost use Rattle.std.specs.List.{flat_map};
 ghost use Rattle.resp.specs.Replies.{Token, Count, String, token};
 ghost use Rattle.server_commands.specs.Replying.{Replies};
 ghost use Rattle.version_words.specs.Views.{Goes};
-ghost use Rattle.far_server.specs.Flushes.{Flushes};
+ghost use Rattle.far_server.specs.Flushes.{is_of, Flushes};
 ghost use Rattle.far_server.specs.Lists.{told_key, told_keys};
 
 use crate::bound::{FRAMING, MOST_PAGE};
@@ -20,25 +21,38 @@ use far_map::{Calls, MapRefusal};
 use far_object::Text;
 use itoa::Buffer;
 use resp::{push_count, push_string};
-use server_commands::Statistic;
 use std::alloc::{AllocError, Global};
 use std::sync::Wait;
-use stored_keys::client_key;
+use stored_keys::{client_key, database_of};
 
-/// How many keys SCAN looks at before it ends, at most, whatever its COUNT. Other clients of its worker wait
-/// meanwhile.
+/// How many keys SCAN looks at before it ends, at most, whatever its COUNT, and how many of other databases it
+/// passes. Other clients of its worker wait meanwhile.
 const MOST_KEYS: u64 = 1_000;
 
 /// How many buckets SCAN visits at most. They are many because empty ones take little time.
 const MOST_BUCKETS: u32 = 65_536;
 
-/// The keys of a bucket, without those whose value is expired at the time `now`. At 0 none is, so all keys
-/// are returned. An empty bucket is not read: its word shows that it is empty.
+/// Whether a stored key is of this database. None stands for any database.
+pub(crate) fn is_of(database: Option<u8>, stored: &[u8]) -> bool
+    ensures { result ≡ is_of database stored.now }
+{
+    match database {
+        Some(database) => match database_of(stored) {
+            Some(other) => other == database,
+            None => false,
+        },
+        None => true,
+    }
+}
+
+/// The keys of a bucket that are of this database, or of any, without those whose value is expired at the time
+/// `now`. At 0 none is expired. An empty bucket is not read: its word shows that it is empty.
 pub(crate) fn keys_in<S: Calls<Blob>, R: Wait>(
     rt: &R,
     alloc: Global,
     me: &mut S,
     bucket: u32,
+    database: Option<u8>,
     now: u64,
 ) -> Result<Vec<Text>, MapRefusal>
     requires { bucket < S.limits.buckets }
@@ -50,7 +64,7 @@ pub(crate) fn keys_in<S: Calls<Blob>, R: Wait>(
     }
     let mut is_short = false;
     let mut visit = |key: Text, value: Blob| {
-        if !is_over(&value, now) && keys.push(key).is_err() {
+        if is_of(database, key.as_bytes()) && !is_over(&value, now) && keys.push(key).is_err() {
             is_short = true;
         }
     };
@@ -64,13 +78,14 @@ pub(crate) fn keys_in<S: Calls<Blob>, R: Wait>(
     Ok(keys)
 }
 
-/// What a SCAN has found so far: the keys, how many bytes they have in the reply, and how many keys it looked
-/// at.
+/// What a SCAN has found so far: the keys, how many bytes they have in the reply, how many keys of the database it
+/// looked at, and how many keys of other databases it passed.
 #[derive(Drop)]
 struct Found {
     keys: Vec<Text>,
     bytes: usize,
     looked: u64,
+    passed: u64,
 }
 
 impl Found {
@@ -79,6 +94,7 @@ impl Found {
             keys: Vec::new(alloc),
             bytes: 0,
             looked: 0,
+            passed: 0,
         }
     }
 
@@ -94,20 +110,31 @@ impl Found {
             keys,
             bytes,
             looked,
+            passed,
         } = other;
         for key in keys {
             self.keys.push(key)?;
         }
         self.bytes = self.bytes.saturating_add(bytes);
         self.looked = self.looked.saturating_add(looked);
+        self.passed = self.passed.saturating_add(passed);
         Ok(())
     }
 }
 
-/// Those of a bucket's keys that the SCAN asks for.
-fn asked_of(alloc: Global, keys: Vec<Text>, scan: Scan<'_>) -> Result<Found, AllocError> {
+/// Those of a bucket's keys that the SCAN of a database asks for.
+fn asked_of(
+    alloc: Global,
+    keys: Vec<Text>,
+    database: u8,
+    scan: Scan<'_>,
+) -> Result<Found, AllocError> {
     let mut found = Found::new(alloc);
     for key in keys {
+        if !is_of(Some(database), key.as_bytes()) {
+            found.passed = found.passed.saturating_add(1);
+            continue;
+        }
         found.looked = found.looked.saturating_add(1);
         let bytes = client_key(key.as_bytes());
         let is_wanted = match scan.pattern {
@@ -124,20 +151,21 @@ fn asked_of(alloc: Global, keys: Vec<Text>, scan: Scan<'_>) -> Result<Found, All
     Ok(found)
 }
 
-/// What the SCAN asks for in a bucket.
+/// What the SCAN asks for in a bucket, of the keys of a database.
 fn find_in<S: Calls<Blob>, R: Wait>(
     rt: &R,
     alloc: Global,
     me: &mut S,
     bucket: u32,
+    database: u8,
     scan: Scan<'_>,
     now: u64,
 ) -> Result<Found, MapRefusal>
     requires { bucket < S.limits.buckets }
     ensures { Goes (S.shown me.old).pass (S.shown me.new).pass }
 {
-    match keys_in(rt, alloc, me, bucket, now) {
-        Ok(keys) => match asked_of(alloc, keys, scan) {
+    match keys_in(rt, alloc, me, bucket, None, now) {
+        Ok(keys) => match asked_of(alloc, keys, database, scan) {
             Ok(found) => Ok(found),
             Err(_) => Err(MapRefusal::Memory),
         },
@@ -145,12 +173,13 @@ fn find_in<S: Calls<Blob>, R: Wait>(
     }
 }
 
-/// The keys from the cursor's bucket on, as many as a page has, and the bucket at which the next SCAN goes
+/// The keys of a database from the cursor's bucket on, as many as a page has, and the bucket at which the next SCAN goes
 /// on. That is 0 at the end.
 fn find<S: Calls<Blob>, R: Wait>(
     rt: &R,
     alloc: Global,
     me: &mut S,
+    database: u8,
     scan: Scan<'_>,
     now: u64,
 ) -> Result<(u32, Found), MapRefusal>
@@ -161,10 +190,11 @@ fn find<S: Calls<Blob>, R: Wait>(
     let first = scan.cursor.min(u64::from(buckets)) as u32;
     let count = scan.count.min(MOST_KEYS);
     for bucket in first..buckets {
-        if found.looked >= count || bucket - first >= MOST_BUCKETS {
+        let is_full = found.looked >= count || found.passed >= MOST_KEYS;
+        if is_full || bucket - first >= MOST_BUCKETS {
             return Ok((bucket, found));
         }
-        let more = match find_in(rt, alloc, me, bucket, scan, now) {
+        let more = match find_in(rt, alloc, me, bucket, database, scan, now) {
             Ok(more) => more,
             Err(why) => return Err(why),
         };
@@ -223,13 +253,14 @@ fn push_found(reply: &mut Vec<u8>, next: u32, found: &Found) -> Result<(), Alloc
     }
 }
 
-/// Answers SCAN. The cursor is the number of a bucket, so a key that stays is found. Before any of the page
+/// Answers SCAN of a database. The cursor is the number of a bucket, so a key that stays is found. Before any of the page
 /// is written there is room for all of it, and for `beside` bytes after it. Otherwise the reply is the error
 /// of refused memory.
 pub(crate) fn answer_scan<S: Calls<Blob>, R: Wait>(
     rt: &R,
     alloc: Global,
     me: &mut S,
+    database: u8,
     scan: Scan<'_>,
     now: u64,
     beside: usize,
@@ -239,7 +270,7 @@ pub(crate) fn answer_scan<S: Calls<Blob>, R: Wait>(
     ensures goes { Goes (S.shown me.old).pass (S.shown me.new).pass }
     ensures said { OnOk result (Replies 1 reply.old.items reply.new.items) }
 {
-    match find(rt, alloc, me, scan, now) {
+    match find(rt, alloc, me, database, scan, now) {
         Ok((next, found)) => {
             if !has_room_for_short(found.bytes.saturating_add(beside), reply) {
                 return push_one_failure(reply, text_of(MapRefusal::Memory));
@@ -250,26 +281,28 @@ pub(crate) fn answer_scan<S: Calls<Blob>, R: Wait>(
     }
 }
 
-/// Removes all keys that the bucket had when it was visited.
+/// Removes all keys of this database, or of any, that the bucket had when it was visited.
 pub(crate) fn empty_bucket<S: Calls<Blob>, R: Wait>(
     rt: &R,
     alloc: Global,
     me: &mut S,
     bucket: u32,
+    database: Option<u8>,
     workspace: &mut Workspace,
 ) -> Result<(), MapRefusal>
     requires { bucket < S.limits.buckets }
-    ensures { Flushes S.limits (S.shown me.old) (S.shown me.new) }
+    ensures { Flushes S.limits database (S.shown me.old) (S.shown me.new) }
 {
-    let keys = match keys_in(rt, alloc, me, bucket, 0) {
+    let keys = match keys_in(rt, alloc, me, bucket, None, 0) {
         Ok(keys) => keys,
         Err(why) => return Err(why),
     };
     for key in &keys {
+        if !is_of(database, key.as_bytes()) {
+            continue;
+        }
         match me.remove(rt, key) {
-            Ok(value) => workspace
-                .statistics
-                .count_if(Statistic::KeysRemoved, value.is_some()),
+            Ok(value) => workspace.count_removed(key, value.is_some()),
             Err(why) => return Err(why),
         }
     }
@@ -282,27 +315,29 @@ fn empty_filled<S: Calls<Blob>, R: Wait>(
     alloc: Global,
     me: &mut S,
     bucket: u32,
+    database: Option<u8>,
     workspace: &mut Workspace,
 ) -> Result<(), MapRefusal>
     requires { bucket < S.limits.buckets }
-    ensures { Flushes S.limits (S.shown me.old) (S.shown me.new) }
+    ensures { Flushes S.limits database (S.shown me.old) (S.shown me.new) }
 {
     if me.is_empty_at(bucket) {
         return Ok(());
     }
-    empty_bucket(rt, alloc, me, bucket, workspace)
+    empty_bucket(rt, alloc, me, bucket, database, workspace)
 }
 
 fn empty_all<S: Calls<Blob>, R: Wait>(
     rt: &R,
     alloc: Global,
     me: &mut S,
+    database: Option<u8>,
     workspace: &mut Workspace,
 ) -> Result<(), MapRefusal>
-    ensures { Flushes S.limits (S.shown me.old) (S.shown me.new) }
+    ensures { Flushes S.limits database (S.shown me.old) (S.shown me.new) }
 {
     for bucket in 0..me.buckets() {
-        match empty_filled(rt, alloc, me, bucket, workspace) {
+        match empty_filled(rt, alloc, me, bucket, database, workspace) {
             Ok(()) => {}
             Err(why) => return Err(why),
         }
@@ -310,21 +345,22 @@ fn empty_all<S: Calls<Blob>, R: Wait>(
     Ok(())
 }
 
-/// Answers FLUSHALL, bucket by bucket, so a key that is set meanwhile may stay. If a bucket can't be read,
+/// Answers FLUSHDB of a database, or FLUSHALL, bucket by bucket, so a key that is set meanwhile may stay. If a bucket can't be read,
 /// the reply is an error, and a renewal is asked for. The renewal leaves that bucket out, so it is gone for
-/// the next FLUSHALL.
+/// the next one.
 pub(crate) fn answer_flush<S: Calls<Blob>, R: Wait>(
     rt: &R,
     alloc: Global,
     me: &mut S,
+    database: Option<u8>,
     usage: &FarUsage,
     workspace: &mut Workspace,
     reply: &mut Vec<u8>,
 ) -> Result<(), AllocError>
-    ensures flushes { Flushes S.limits (S.shown me.old) (S.shown me.new) }
+    ensures flushes { Flushes S.limits database (S.shown me.old) (S.shown me.new) }
     ensures said { OnOk result (Replies 1 reply.old.items reply.new.items) }
 {
-    match empty_all(rt, alloc, me, workspace) {
+    match empty_all(rt, alloc, me, database, workspace) {
         Ok(()) => push_one_simple(reply, b"OK"),
         Err(why) => {
             workspace.wants_renewal |= matches!(why, MapRefusal::Device | MapRefusal::Damaged);

@@ -35,7 +35,7 @@ fn put_over<S: Calls<Blob>, R: Wait>(
         Ok(before) => {
             let is_done = are_same(before.as_ref(), found);
             if is_done {
-                workspace.count_set(found.is_none());
+                workspace.count_set(key, found.is_none());
             }
             Ok(is_done)
         }
@@ -55,9 +55,7 @@ fn take_out<S: Calls<Blob>, R: Wait>(
 {
     match me.remove_if(rt, key, found) {
         Ok(removal) => {
-            workspace
-                .statistics
-                .count_if(Statistic::KeysRemoved, removal.removed);
+            workspace.count_removed(key, removal.removed);
             Ok(removal.removed)
         }
         Err(why) => Err(why),

@@ -7,12 +7,12 @@ ghost use Rattle.server_commands.specs.Replying.{AreReplies, Replies};
 ghost use Rattle.version_words.specs.Views.{Goes};
 ghost use Rattle.far_server.specs.Looks.{WasLookedAt};
 ghost use Rattle.far_server.specs.Reads.{IsReadAt};
-ghost use Rattle.far_server.specs.Runs.{IsOfKeys, IsOther, IsRunAs, IsRequest};
+ghost use Rattle.far_server.specs.Runs.{IsOfKeys, IsOther, IsRunAs, IsRunBy, IsRunFrom, IsRequest};
 
 use crate::all_keys::{answer_flush, answer_scan};
 use crate::connection::Connection;
 use crate::context::{ServerContext, Workspace};
-use crate::info::{answer_server, keys};
+use crate::info::{answer_server, keys_in};
 use crate::one_key::{Asking, answer_key};
 use crate::one_reply::{
     push_one_failure, push_one_fault, push_one_number, push_one_simple, push_one_string,
@@ -20,6 +20,7 @@ use crate::one_reply::{
 use crate::random_key::answer_random_key;
 use crate::refusal::text_of;
 use crate::reserve::has_room_for;
+use crate::selection::{Selection, answer_select, is_on_keys, push_no_database, selects};
 use crate::several_keys::{count_keys, get_keys, set_pairs};
 use crate::slow_log::{is_secret, note_slow};
 use crate::usage::FarUsage;
@@ -30,7 +31,7 @@ use key_commands::{KeyCommand, on_one_key};
 use std::alloc::{AllocError, Global};
 use std::rt::Clock;
 use std::sync::Wait;
-use stored_keys::DigestKeys;
+use stored_keys::Keyspace;
 
 /// A command on these keys: DEL, UNLINK, EXISTS, TOUCH or MGET.
 fn run_keys<S: Calls<Blob>, R: Wait>(
@@ -39,7 +40,7 @@ fn run_keys<S: Calls<Blob>, R: Wait>(
     me: &mut S,
     of: OfKeys,
     keys: Arguments<'_>,
-    digest_keys: DigestKeys,
+    keyspace: Keyspace,
     now: u64,
     most: u32,
     limit: usize,
@@ -47,25 +48,25 @@ fn run_keys<S: Calls<Blob>, R: Wait>(
     workspace: &mut Workspace,
     reply: &mut Vec<u8>,
 ) -> Result<(), AllocError>
-    ensures { OnOk result ((rs : List Token) × (reply.new.items ≡ reply.old.items ++ flat_map token rs) × AreReplies 1 rs × IsOfKeys S.limits digest_keys now most limit of (listed keys.entry) (S.shown me.old) (S.shown me.new) rs) }
+    ensures { OnOk result ((rs : List Token) × (reply.new.items ≡ reply.old.items ++ flat_map token rs) × AreReplies 1 rs × IsOfKeys S.limits keyspace now most limit of (listed keys.entry) (S.shown me.old) (S.shown me.new) rs) }
 {
     let deletes = Asking {
         command: KeyCommand::Delete,
-        digest_keys,
+        keyspace,
         now,
         most,
         usage,
     };
     let looks = Asking {
         command: KeyCommand::Exists,
-        digest_keys,
+        keyspace,
         now,
         most,
         usage,
     };
     let gets = Asking {
         command: KeyCommand::Get,
-        digest_keys,
+        keyspace,
         now,
         most,
         usage,
@@ -86,6 +87,7 @@ fn answer_at_hand<S: Calls<Blob>, C: Clock, R: Wait>(
     connection: &mut Connection,
     workspace: &mut Workspace,
     command: Command<'_>,
+    database: u8,
     now: u64,
     reply: &mut Vec<u8>,
 ) -> Result<(), AllocError>
@@ -93,12 +95,13 @@ fn answer_at_hand<S: Calls<Blob>, C: Clock, R: Wait>(
     ensures said { OnOk result (Replies 1 reply.old.items reply.new.items) }
     ensures kept { OnErr result (reply.new.items ≡ reply.old.items) }
     ensures queue { connection.new.queue ≡ connection.old.queue }
+    ensures selected { connection.new.selected ≡ connection.old.selected }
     ensures stays { connection.old.is_authenticated ≡ true → connection.new.is_authenticated ≡ true }
 {
     match command {
-        Command::Nothing(OfNothing::DbSize) => push_one_number(reply, keys(context)),
+        Command::Nothing(OfNothing::DbSize) => push_one_number(reply, keys_in(context, database)),
         Command::Nothing(OfNothing::RandomKey) => answer_random_key(
-            context, me, workspace, now, reply,
+            context, me, workspace, database, now, reply,
         ),
         Command::Ping(None) => push_one_simple(reply, b"PONG"),
         Command::Ping(Some(text)) => push_one_string(reply, text),
@@ -116,16 +119,20 @@ fn answer_or_refuse<S: Calls<Blob>, C: Clock, R: Wait>(
     connection: &mut Connection,
     workspace: &mut Workspace,
     command: Command<'_>,
+    database: u8,
     now: u64,
     reply: &mut Vec<u8>,
 ) -> Result<(), AllocError>
     ensures goes { Goes (S.shown me.old).pass (S.shown me.new).pass }
     ensures said { OnOk result ((rs : List Token) × (reply.new.items ≡ reply.old.items ++ flat_map token rs) × AreReplies 1 rs) }
     ensures queue { connection.new.queue ≡ connection.old.queue }
+    ensures selected { connection.new.selected ≡ connection.old.selected }
     ensures stays { connection.old.is_authenticated ≡ true → connection.new.is_authenticated ≡ true }
 {
     let before = reply.len();
-    match answer_at_hand(context, me, connection, workspace, command, now, reply) {
+    match answer_at_hand(
+        context, me, connection, workspace, command, database, now, reply,
+    ) {
         Ok(()) => {
             if has_room_for(workspace.beside, reply) {
                 return Ok(());
@@ -137,24 +144,25 @@ fn answer_or_refuse<S: Calls<Blob>, C: Clock, R: Wait>(
     push_one_failure(reply, text_of(MapRefusal::Memory))
 }
 
-/// Runs a command on several keys, or on none.
+/// Runs a command on several keys, or on none, in this keyspace.
 fn run_other<S: Calls<Blob>, C: Clock, R: Wait>(
     context: &ServerContext<'_, C, R>,
     me: &mut S,
     connection: &mut Connection,
     workspace: &mut Workspace,
     command: Command<'_>,
+    keyspace: Keyspace,
     now: u64,
     limit: usize,
     reply: &mut Vec<u8>,
 ) -> Result<(), AllocError>
-    ensures ran { OnOk result ((rs : List Token) × (reply.new.items ≡ reply.old.items ++ flat_map token rs) × AreReplies 1 rs × IsOther S.limits context.now.settings.now.digest_keys now context.now.settings.now.bounds.longest_value limit command.entry (S.shown me.old) (S.shown me.new) rs) }
+    ensures ran { OnOk result ((rs : List Token) × (reply.new.items ≡ reply.old.items ++ flat_map token rs) × AreReplies 1 rs × IsOther S.limits keyspace now context.now.settings.now.bounds.longest_value limit command.entry (S.shown me.old) (S.shown me.new) rs) }
     ensures queue { connection.new.queue ≡ connection.old.queue }
+    ensures selected { connection.new.selected ≡ connection.old.selected }
     ensures stays { connection.old.is_authenticated ≡ true → connection.new.is_authenticated ≡ true }
 {
     let (rt, alloc) = (context.rt, context.alloc);
     let most = context.settings.bounds.longest_value;
-    let digest_keys = context.settings.digest_keys;
     match command {
         Command::Keys(of, keys) => run_keys(
             rt,
@@ -162,7 +170,7 @@ fn run_other<S: Calls<Blob>, C: Clock, R: Wait>(
             me,
             of,
             keys,
-            digest_keys,
+            keyspace,
             now,
             most,
             limit,
@@ -175,7 +183,7 @@ fn run_other<S: Calls<Blob>, C: Clock, R: Wait>(
             alloc,
             me,
             pairs,
-            digest_keys,
+            keyspace,
             now,
             most,
             context.usage,
@@ -187,6 +195,7 @@ fn run_other<S: Calls<Blob>, C: Clock, R: Wait>(
                 rt,
                 alloc,
                 me,
+                keyspace.database,
                 scan,
                 now,
                 workspace.beside,
@@ -194,14 +203,114 @@ fn run_other<S: Calls<Blob>, C: Clock, R: Wait>(
                 reply,
             )
         }
-        Command::Server(ServerCommand::Flush) => {
-            answer_flush(rt, alloc, me, context.usage, workspace, reply)
+        Command::Server(ServerCommand::FlushAll) => {
+            answer_flush(rt, alloc, me, None, context.usage, workspace, reply)
         }
-        _ => answer_or_refuse(context, me, connection, workspace, command, now, reply),
+        Command::Server(ServerCommand::FlushDb) => {
+            let database = Some(keyspace.database);
+            answer_flush(
+                rt,
+                alloc,
+                me,
+                database,
+                context.usage,
+                workspace,
+                reply,
+            )
+        }
+        _ => answer_or_refuse(
+            context,
+            me,
+            connection,
+            workspace,
+            command,
+            keyspace.database,
+            now,
+            reply,
+        ),
     }
 }
 
-/// Runs a command: on one key, or another one.
+/// Runs a command that is no SELECT in this keyspace: on one key, or another one.
+fn run_in<S: Calls<Blob>, C: Clock, R: Wait>(
+    context: &ServerContext<'_, C, R>,
+    me: &mut S,
+    connection: &mut Connection,
+    workspace: &mut Workspace,
+    command: Command<'_>,
+    keyspace: Keyspace,
+    now: u64,
+    limit: usize,
+    reply: &mut Vec<u8>,
+) -> Result<(), AllocError>
+    ensures ran { OnOk result ((rs : List Token) × (reply.new.items ≡ reply.old.items ++ flat_map token rs) × AreReplies 1 rs × IsRunAs S.limits keyspace now context.now.settings.now.bounds.longest_value limit command.entry (S.shown me.old) (S.shown me.new) rs) }
+    ensures queue { connection.new.queue ≡ connection.old.queue }
+    ensures selected { connection.new.selected ≡ connection.old.selected }
+    ensures stays { connection.old.is_authenticated ≡ true → connection.new.is_authenticated ≡ true }
+{
+    match on_one_key(command) {
+        Some((key, command)) => {
+            let most = context.settings.bounds.longest_value;
+            let asking = Asking {
+                command,
+                keyspace,
+                now,
+                most,
+                usage: context.usage,
+            };
+            answer_key(context.rt, context.alloc, me, key, asking, workspace, reply)
+        }
+        None => run_other(
+            context, me, connection, workspace, command, keyspace, now, limit, reply,
+        ),
+    }
+}
+
+/// Runs a command that is no SELECT, by what the connection has selected. If nothing is, a command on keys is an error.
+fn run_selected<S: Calls<Blob>, C: Clock, R: Wait>(
+    context: &ServerContext<'_, C, R>,
+    me: &mut S,
+    connection: &mut Connection,
+    workspace: &mut Workspace,
+    command: Command<'_>,
+    now: u64,
+    limit: usize,
+    reply: &mut Vec<u8>,
+) -> Result<(), AllocError>
+    ensures ran { OnOk result ((rs : List Token) × (reply.new.items ≡ reply.old.items ++ flat_map token rs) × AreReplies 1 rs × IsRunBy S.limits context.now.settings.now.digest_keys now context.now.settings.now.bounds.longest_value limit command.entry connection.old.selected (S.shown me.old) (S.shown me.new) rs) }
+    ensures queue { connection.new.queue ≡ connection.old.queue }
+    ensures selected { connection.new.selected ≡ connection.old.selected }
+    ensures stays { connection.old.is_authenticated ≡ true → connection.new.is_authenticated ≡ true }
+{
+    let digest_keys = context.settings.digest_keys;
+    match connection.selected {
+        Selection::Database(database) => {
+            let keyspace = Keyspace {
+                digest_keys,
+                database,
+            };
+            run_in(
+                context, me, connection, workspace, command, keyspace, now, limit, reply,
+            )
+        }
+        Selection::Refused(refused) => {
+            if is_on_keys(command) {
+                let beside = workspace.beside;
+                return push_no_database(refused, &mut workspace.stored, beside, reply);
+            }
+            // The command is on no key, so it does the same in any database.
+            let keyspace = Keyspace {
+                digest_keys,
+                database: 0,
+            };
+            run_in(
+                context, me, connection, workspace, command, keyspace, now, limit, reply,
+            )
+        }
+    }
+}
+
+/// Runs a command: SELECT, or another one.
 fn run_command<S: Calls<Blob>, C: Clock, R: Wait>(
     context: &ServerContext<'_, C, R>,
     me: &mut S,
@@ -212,23 +321,19 @@ fn run_command<S: Calls<Blob>, C: Clock, R: Wait>(
     limit: usize,
     reply: &mut Vec<u8>,
 ) -> Result<(), AllocError>
-    ensures ran { OnOk result ((rs : List Token) × (reply.new.items ≡ reply.old.items ++ flat_map token rs) × AreReplies 1 rs × IsRunAs S.limits context.now.settings.now.digest_keys now context.now.settings.now.bounds.longest_value limit command.entry (S.shown me.old) (S.shown me.new) rs) }
+    ensures ran { OnOk result ((rs : List Token) × (reply.new.items ≡ reply.old.items ++ flat_map token rs) × AreReplies 1 rs × IsRunFrom S.limits context.now.settings.now.digest_keys context.now.settings.now.bounds limit now command.entry connection.old.selected connection.new.selected (S.shown me.old) (S.shown me.new) rs) }
     ensures queue { connection.new.queue ≡ connection.old.queue }
     ensures stays { connection.old.is_authenticated ≡ true → connection.new.is_authenticated ≡ true }
 {
-    match on_one_key(command) {
-        Some((key, command)) => {
-            let most = context.settings.bounds.longest_value;
-            let asking = Asking {
-                command,
-                digest_keys: context.settings.digest_keys,
-                now,
-                most,
-                usage: context.usage,
-            };
-            answer_key(context.rt, context.alloc, me, key, asking, workspace, reply)
-        }
-        None => run_other(
+    match selects(command) {
+        Some(index) => answer_select(
+            context.settings.bounds.last_database,
+            connection,
+            index,
+            workspace.beside,
+            reply,
+        ),
+        None => run_selected(
             context, me, connection, workspace, command, now, limit, reply,
         ),
     }
@@ -259,7 +364,7 @@ pub(crate) fn run<S: Calls<Blob>, C: Clock, R: Wait>(
 ) -> Result<(), AllocError>
     requires read { IsReadAt now (listed request) asked }
     requires looked { WasLookedAt now }
-    ensures ran { OnOk result ((rs : List Token) × (reply.new.items ≡ reply.old.items ++ flat_map token rs) × IsRequest S.limits context.now.settings.now.digest_keys context.now.settings.now.bounds.longest_value limit (listed request.entry) (S.shown me.old) (S.shown me.new) rs) }
+    ensures ran { OnOk result ((rs : List Token) × (reply.new.items ≡ reply.old.items ++ flat_map token rs) × IsRequest S.limits context.now.settings.now.digest_keys context.now.settings.now.bounds limit connection.old.selected connection.new.selected (listed request.entry) (S.shown me.old) (S.shown me.new) rs) }
     ensures queue { connection.new.queue ≡ connection.old.queue }
     ensures stays { connection.old.is_authenticated ≡ true → connection.new.is_authenticated ≡ true }
 {

@@ -1,19 +1,24 @@
 //! What a worker knows of a connection.
 ghost use Rattle.std.specs.Prelude.{◌≡◌, ◌<◌, ◌≤◌, [], None, length, MatchBool, IfOk, OnErr};
+ghost use Rattle.far_server.specs.Selections.{first_selected};
 
 use crate::queue::Queue;
+use crate::selection::Selection;
 use std::alloc::{AllocError, Global};
 
 /// The most bytes of a connection's name.
 const LONGEST_NAME: usize = 1_024;
 
-/// What a worker knows of a connection: who it is, whether it may ask, and what waits for EXEC.
+/// What a worker knows of a connection: who it is, whether it may ask, which database it has selected, and what
+/// waits for EXEC.
 #[derive(Drop)]
 pub(crate) struct Connection {
     /// CLIENT ID: its number among all connections of the server.
     pub(crate) id: u64,
     /// Whether it is authenticated: it has logged in, or no password is set.
     pub(crate) is_authenticated: bool,
+    /// The database that its commands are on.
+    pub(crate) selected: Selection,
     /// The client's address, as the gateway wrote it; empty if memory was refused for it.
     pub(crate) address: Vec<u8>,
     /// CLIENT GETNAME; empty if it has no name.
@@ -32,10 +37,12 @@ impl Connection {
     ) -> Connection
         ensures is_authenticated { result.is_authenticated ≡ is_authenticated }
         ensures queue { result.queue ≡ None }
+        ensures selected { result.selected ≡ first_selected }
     {
         Connection {
             id,
             is_authenticated,
+            selected: Selection::Database(0),
             address,
             name: Vec::new(alloc),
             queue: None,
@@ -58,6 +65,7 @@ impl Connection {
         ensures kept { OnErr result (self.new.name ≡ self.old.name) }
         ensures is_authenticated { self.new.is_authenticated ≡ self.old.is_authenticated }
         ensures queue { self.new.queue ≡ self.old.queue }
+        ensures selected { self.new.selected ≡ self.old.selected }
     {
         if name.len() > LONGEST_NAME {
             return Ok(false);

@@ -3,6 +3,7 @@
 ghost use Rattle.far_server.specs.Looks.{WasLookedAt};
 
 use crate::deadlines::has_deadline;
+use crate::key_counts::KeyCounts;
 use crate::renewal::Renewal;
 use crate::settings::ServerSettings;
 use crate::slow_log::SlowLog;
@@ -10,6 +11,7 @@ use crate::statistics::{SharedStatistics, see_traffic};
 use crate::turns::{LARGE, Turns};
 use crate::usage::FarUsage;
 use far_map::Traffic;
+use far_object::Text;
 use rand::rngs::SmallRng;
 use server_commands::{Statistic, Statistics};
 use std::alloc::Global;
@@ -46,9 +48,11 @@ impl<C, R> ServerContext<'_, C, R> {
 /// What a worker, or the sweep, uses again and again: buffers, statistics and flags.
 #[derive(Drop)]
 pub(crate) struct Workspace {
-    /// Where a new value is made, and before it the stored key.
+    /// Where a new value is made, before it the stored key, and an error of many words.
     pub(crate) stored: Vec<u8>,
     pub(crate) statistics: Statistics,
+    /// How many keys it has added to each database, without those that it has removed.
+    pub(crate) key_counts: KeyCounts,
     /// The statistics that were last published.
     pub(crate) told: Statistics,
     /// The statistics when the session began.
@@ -77,6 +81,7 @@ impl Workspace {
         Workspace {
             stored: Vec::new(alloc),
             statistics,
+            key_counts: KeyCounts::new(),
             told: statistics,
             begun: statistics,
             wants_renewal: false,
@@ -97,10 +102,22 @@ impl Workspace {
     }
 
     /// Counts a key that was set to the value in `stored`. `was_none` is whether it had no value before.
-    pub(crate) fn count_set(&mut self, was_none: bool) {
+    pub(crate) fn count_set(&mut self, key: &Text, was_none: bool) {
         self.statistics.count_if(Statistic::KeysAdded, was_none);
+        if was_none {
+            self.key_counts.count_added(key);
+        }
         let is_dated = has_deadline(self.stored.as_slice());
         self.statistics.count_if(Statistic::DeadlinesSet, is_dated);
+    }
+
+    /// Counts a key that was removed, if it was.
+    pub(crate) fn count_removed(&mut self, key: &Text, was_removed: bool) {
+        self.statistics
+            .count_if(Statistic::KeysRemoved, was_removed);
+        if was_removed {
+            self.key_counts.count_removed(key);
+        }
     }
 
     /// Gives back the memory of a large value.
@@ -116,6 +133,9 @@ impl Workspace {
         context
             .shared_statistics
             .tell(context.worker, &self.told, &self.statistics);
+        context
+            .shared_statistics
+            .tell_keys(context.worker, &mut self.key_counts);
         self.told = self.statistics;
     }
 }

@@ -175,7 +175,7 @@ fn is_on_device<S: Calls<Blob>, R: Wait>(
     if me.is_empty_at(bucket) {
         return Ok(false);
     }
-    match keys_in(rt, alloc, me, bucket, 0) {
+    match keys_in(rt, alloc, me, bucket, None, 0) {
         Ok(keys) => match keys.first() {
             Some(key) => Ok(matches!(me.where_is(key), BucketState::Far(_))),
             None => Ok(false),
@@ -221,7 +221,7 @@ fn evict_keys<S: Calls<Blob>, R: Wait>(
     ensures { Sweeps S.limits true (S.shown me.old) (S.shown me.new) }
 {
     let before = workspace.statistics.get(Statistic::KeysRemoved);
-    let is_empty = empty_bucket(rt, alloc, me, bucket, workspace).is_ok();
+    let is_empty = empty_bucket(rt, alloc, me, bucket, None, workspace).is_ok();
     count_evictions(&mut workspace.statistics, before);
     is_empty
 }

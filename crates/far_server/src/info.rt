@@ -18,12 +18,14 @@ use server_commands::{
     slow_log_len,
 };
 use std::alloc::AllocError;
+use std::array;
 use std::sync::Wait;
 use std::sync::atomic::Ordering;
 
-/// How many keys have a value, by what the workers last published.
-pub(crate) fn keys<C, R>(context: &ServerContext<'_, C, R>) -> i64 {
-    context.shared_statistics.keys().min(i64::MAX as u64) as i64
+/// How many keys of a database have a value, by what the workers last published.
+pub(crate) fn keys_in<C, R>(context: &ServerContext<'_, C, R>, database: u8) -> i64 {
+    let keys = context.shared_statistics.keys_in(usize::from(database));
+    keys.min(i64::MAX as u64) as i64
 }
 
 /// Sets what the gateway has reported.
@@ -92,6 +94,7 @@ fn facts<S: Calls<Blob>, C, R>(context: &ServerContext<'_, C, R>, me: &S, now: u
         most_in_frames: settings.map.bytes,
         far_limit: settings.far_limit,
         statistics: statistics(context, me),
+        keys: array::from_fn(|database| context.shared_statistics.keys_in(database)),
         last_device_error,
         last_device_error_time,
         device_errors,
@@ -111,6 +114,7 @@ pub(crate) fn answer_server<S: Calls<Blob>, C, R: Wait>(
     ensures kept { OnErr result (reply.new.items ≡ reply.old.items) }
     ensures login { connection.new.is_authenticated ≡ true → (connection.old.is_authenticated ≡ true) ⊎ AsksToPass context.now.settings.now.password command.entry }
     ensures queue { connection.new.queue ≡ connection.old.queue }
+    ensures selected { connection.new.selected ≡ connection.old.selected }
     ensures stays { connection.old.is_authenticated ≡ true → connection.new.is_authenticated ≡ true }
 {
     match command {

@@ -104,6 +104,7 @@ pub(crate) fn answer_auth(
     ensures kept { OnErr result (reply.new.items ≡ reply.old.items) }
     ensures login { connection.new.is_authenticated ≡ true → (connection.old.is_authenticated ≡ true) ⊎ IsLogin settings.now.password login.entry.password.now }
     ensures queue { connection.new.queue ≡ connection.old.queue }
+    ensures selected { connection.new.selected ≡ connection.old.selected }
     ensures stays { connection.old.is_authenticated ≡ true → connection.new.is_authenticated ≡ true }
 {
     if settings.password.is_none() && login.user.is_none() {
@@ -121,6 +122,7 @@ pub(crate) fn answer_auth(
 fn log_in(settings: &ServerSettings, connection: &mut Connection, login: Option<Login<'_>>) -> bool
     ensures may { (connection.new.is_authenticated ≡ connection.old.is_authenticated) ⊎ ((connection.new.is_authenticated ≡ true) × IsRight settings.now.password login.entry) }
     ensures queue { connection.new.queue ≡ connection.old.queue }
+    ensures selected { connection.new.selected ≡ connection.old.selected }
     ensures stays { connection.old.is_authenticated ≡ true → connection.new.is_authenticated ≡ true }
     ensures kept { IsFalse result → connection.new.is_authenticated ≡ connection.old.is_authenticated }
 {
@@ -148,6 +150,7 @@ fn greet(
     ensures kept { OnErr result (reply.new.items ≡ reply.old.items) }
     ensures is_authenticated { connection.new.is_authenticated ≡ connection.old.is_authenticated }
     ensures queue { connection.new.queue ≡ connection.old.queue }
+    ensures selected { connection.new.selected ≡ connection.old.selected }
 {
     if !connection.is_authenticated {
         return push_one_failure(reply, NO_LOGIN_OF_HELLO);
@@ -175,6 +178,7 @@ pub(crate) fn answer_hello(
     ensures kept { OnErr result (reply.new.items ≡ reply.old.items) }
     ensures login { connection.new.is_authenticated ≡ true → (connection.old.is_authenticated ≡ true) ⊎ IsRight settings.now.password greeting.entry.login }
     ensures queue { connection.new.queue ≡ connection.old.queue }
+    ensures selected { connection.new.selected ≡ connection.old.selected }
     ensures stays { connection.old.is_authenticated ≡ true → connection.new.is_authenticated ≡ true }
 {
     if !log_in(settings, connection, greeting.login) {
@@ -194,6 +198,7 @@ pub(crate) fn answer_set_name(
     ensures kept { OnErr result (reply.new.items ≡ reply.old.items) }
     ensures is_authenticated { connection.new.is_authenticated ≡ connection.old.is_authenticated }
     ensures queue { connection.new.queue ≡ connection.old.queue }
+    ensures selected { connection.new.selected ≡ connection.old.selected }
 {
     match connection.set_name(name) {
         Ok(true) => push_one_simple(reply, b"OK"),

@@ -31,17 +31,17 @@ use resp::push_failure;
 use server_commands::{DeviceReason, Statistic, Statistics};
 use std::alloc::{AllocError, Global};
 use std::sync::Wait;
-use stored_keys::{DigestKeys, LONGEST_KEY, put_stored_key};
+use stored_keys::{Keyspace, LONGEST_KEY, put_stored_key};
 
 /// How many times a command is tried while others change its key.
 const MOST_TRIES: u32 = 1_000;
 
-/// What is asked of a key: the command, the time, the bound of values, the digest keys under which the key is
-/// stored, and where to find out why a device failed.
+/// What is asked of a key: the command, the time, the bound of values, where the key is stored, and where to find
+/// out why a device failed.
 #[derive(Clone, Copy)]
 pub(crate) struct Asking<'a> {
     pub(crate) command: KeyCommand<'a>,
-    pub(crate) digest_keys: DigestKeys,
+    pub(crate) keyspace: Keyspace,
     /// In milliseconds since 1970.
     pub(crate) now: u64,
     /// The most bytes of a value.
@@ -186,7 +186,7 @@ fn set_blindly<S: Calls<Blob>, R: Wait>(
     };
     match me.put(rt, key, &value) {
         Ok(before) => {
-            workspace.count_set(before.is_none());
+            workspace.count_set(key, before.is_none());
             Ok(true)
         }
         Err(why) => Err(why),
@@ -222,16 +222,16 @@ fn try_often<S: Calls<Blob>, R: Wait>(
     Ok(false)
 }
 
-/// The stored key of a client's key. It is made in `workspace.stored`, in which the value is made later.
+/// The stored key of a client's key in a keyspace. It is made in `workspace.stored`, in which the value is made later.
 pub(crate) fn stored_text(
     alloc: Global,
-    digest_keys: DigestKeys,
+    keyspace: Keyspace,
     key: &[u8],
     workspace: &mut Workspace,
 ) -> Result<Text, MapRefusal>
-    ensures { IfOk result (λ text. text ≡ stored_key digest_keys key.now) }
+    ensures { IfOk result (λ text. text ≡ stored_key keyspace key.now) }
 {
-    match put_stored_key(digest_keys, key, &mut workspace.stored) {
+    match put_stored_key(keyspace, key, &mut workspace.stored) {
         Ok(()) => text(alloc, workspace.stored.as_slice()),
         Err(_) => Err(MapRefusal::Memory),
     }
@@ -247,9 +247,9 @@ fn try_key<S: Calls<Blob>, R: Wait>(
     workspace: &mut Workspace,
     reply: &mut Vec<u8>,
 ) -> Result<bool, MapRefusal>
-    ensures { (pushed : List ℕ) × (reply.new.items ≡ reply.old.items ++ pushed) × IsEnded S.limits (stored_key asking.entry.digest_keys key.now) asking.entry.command asking.entry.now asking.entry.most (S.shown me.old) (S.shown me.new) pushed result }
+    ensures { (pushed : List ℕ) × (reply.new.items ≡ reply.old.items ++ pushed) × IsEnded S.limits (stored_key asking.entry.keyspace key.now) asking.entry.command asking.entry.now asking.entry.most (S.shown me.old) (S.shown me.new) pushed result }
 {
-    match stored_text(alloc, asking.digest_keys, key, workspace) {
+    match stored_text(alloc, asking.keyspace, key, workspace) {
         Ok(key) => try_often(rt, alloc, me, &key, asking, workspace, reply),
         Err(why) => Err(why),
     }
@@ -274,7 +274,7 @@ fn answer_now<S: Calls<Blob>, R: Wait>(
     workspace: &mut Workspace,
     reply: &mut Vec<u8>,
 ) -> Result<(), AllocError>
-    ensures done { OnOk result ((r : Token) × (reply.new.items ≡ reply.old.items ++ token r) × IsOnStored S.limits (stored_key asking.entry.digest_keys key.now) asking.entry.command asking.entry.now asking.entry.most (S.shown me.old) (S.shown me.new) r) }
+    ensures done { OnOk result ((r : Token) × (reply.new.items ≡ reply.old.items ++ token r) × IsOnStored S.limits (stored_key asking.entry.keyspace key.now) asking.entry.command asking.entry.now asking.entry.most (S.shown me.old) (S.shown me.new) r) }
     ensures kept { OnErr result (reply.new.items ≡ reply.old.items) }
 {
     let before = reply.len();
@@ -308,7 +308,7 @@ fn answer_in_room<S: Calls<Blob>, R: Wait>(
     workspace: &mut Workspace,
     reply: &mut Vec<u8>,
 ) -> Result<(), AllocError>
-    ensures done { OnOk result ((r : Token) × (reply.new.items ≡ reply.old.items ++ token r) × IsOnStored S.limits (stored_key asking.entry.digest_keys key.now) asking.entry.command asking.entry.now asking.entry.most (S.shown me.old) (S.shown me.new) r) }
+    ensures done { OnOk result ((r : Token) × (reply.new.items ≡ reply.old.items ++ token r) × IsOnStored S.limits (stored_key asking.entry.keyspace key.now) asking.entry.command asking.entry.now asking.entry.most (S.shown me.old) (S.shown me.new) r) }
     ensures kept { OnErr result (reply.new.items ≡ reply.old.items) }
 {
     if has_room(rt, me, workspace) {
@@ -329,7 +329,7 @@ fn answer_short<S: Calls<Blob>, R: Wait>(
     workspace: &mut Workspace,
     reply: &mut Vec<u8>,
 ) -> Result<(), AllocError>
-    ensures done { OnOk result ((r : Token) × (reply.new.items ≡ reply.old.items ++ token r) × IsOnStored S.limits (stored_key asking.entry.digest_keys key.now) asking.entry.command asking.entry.now asking.entry.most (S.shown me.old) (S.shown me.new) r) }
+    ensures done { OnOk result ((r : Token) × (reply.new.items ≡ reply.old.items ++ token r) × IsOnStored S.limits (stored_key asking.entry.keyspace key.now) asking.entry.command asking.entry.now asking.entry.most (S.shown me.old) (S.shown me.new) r) }
     ensures kept { OnErr result (reply.new.items ≡ reply.old.items) }
 {
     if asking.command.row().flags.may_grow() {
@@ -350,7 +350,7 @@ pub(crate) fn answer_key<S: Calls<Blob>, R: Wait>(
     workspace: &mut Workspace,
     reply: &mut Vec<u8>,
 ) -> Result<(), AllocError>
-    ensures done { OnOk result ((r : Token) × (reply.new.items ≡ reply.old.items ++ token r) × IsKeyed S.limits asking.entry.digest_keys key.now asking.entry.command asking.entry.now asking.entry.most (S.shown me.old) (S.shown me.new) r) }
+    ensures done { OnOk result ((r : Token) × (reply.new.items ≡ reply.old.items ++ token r) × IsKeyed S.limits asking.entry.keyspace key.now asking.entry.command asking.entry.now asking.entry.most (S.shown me.old) (S.shown me.new) r) }
     ensures kept { OnErr result (reply.new.items ≡ reply.old.items) }
 {
     if key.len() > LONGEST_KEY {

@@ -1,6 +1,6 @@
-//! RANDOMKEY: draws a key.
+//! RANDOMKEY: draws a key of a database.
 //!
-//! Buckets are drawn until one has a key, and then one of its keys is drawn. If 1,000 draws meet no key, the
+//! Buckets are drawn until one has a key of it, and then one of its keys is drawn. If 1,000 draws meet no key, the
 //! next bucket in order that has one is taken, from a drawn bucket on.
 //!
 //! So if most buckets have one key or none, each key is drawn about as often as any other. If a bucket has
@@ -49,6 +49,7 @@ fn keys_between<S: Calls<Blob>, R: Wait>(
     me: &mut S,
     from: u32,
     to: u32,
+    database: u8,
     now: u64,
 ) -> Result<Vec<Text>, MapRefusal>
     requires { to ≤ S.limits.buckets }
@@ -58,7 +59,7 @@ fn keys_between<S: Calls<Blob>, R: Wait>(
         if me.is_empty_at(bucket) {
             continue;
         }
-        match keys_in(rt, alloc, me, bucket, now) {
+        match keys_in(rt, alloc, me, bucket, Some(database), now) {
             Ok(keys) => {
                 if !keys.is_empty() {
                     return Ok(keys);
@@ -76,15 +77,16 @@ fn keys_from<S: Calls<Blob>, R: Wait>(
     alloc: Global,
     me: &mut S,
     first: u32,
+    database: u8,
     now: u64,
 ) -> Result<Vec<Text>, MapRefusal>
     ensures { Goes (S.shown me.old).pass (S.shown me.new).pass }
 {
     let buckets = me.buckets();
-    match keys_between(rt, alloc, me, first, buckets, now) {
+    match keys_between(rt, alloc, me, first, buckets, database, now) {
         Ok(keys) => {
             if keys.is_empty() {
-                keys_between(rt, alloc, me, 0, first.min(buckets), now)
+                keys_between(rt, alloc, me, 0, first.min(buckets), database, now)
             } else {
                 Ok(keys)
             }
@@ -100,6 +102,7 @@ fn drawn_keys<S: Calls<Blob>, R: Wait>(
     alloc: Global,
     me: &mut S,
     draws: &mut SmallRng,
+    database: u8,
     now: u64,
 ) -> Result<Vec<Text>, MapRefusal>
     ensures { Goes (S.shown me.old).pass (S.shown me.new).pass }
@@ -110,7 +113,7 @@ fn drawn_keys<S: Calls<Blob>, R: Wait>(
     }
     for _ in 0..MOST_DRAWS {
         let bucket = draw_below(draws, buckets);
-        match keys_in(rt, alloc, me, bucket, now) {
+        match keys_in(rt, alloc, me, bucket, Some(database), now) {
             Ok(keys) => {
                 if !keys.is_empty() {
                     return Ok(keys);
@@ -120,7 +123,7 @@ fn drawn_keys<S: Calls<Blob>, R: Wait>(
         }
     }
     let first = draw_below(draws, buckets);
-    keys_from(rt, alloc, me, first, now)
+    keys_from(rt, alloc, me, first, database, now)
 }
 
 /// Pushes the client's key of one of the keys, which is drawn, or the null reply if there are no keys.
@@ -135,11 +138,12 @@ fn push_drawn(draws: &mut SmallRng, keys: &[Text], reply: &mut Vec<u8>) -> Resul
     }
 }
 
-/// Answers RANDOMKEY. If memory is refused for the reply, `reply` is as before.
+/// Answers RANDOMKEY of a database. If memory is refused for the reply, `reply` is as before.
 pub(crate) fn answer_random_key<S: Calls<Blob>, C, R: Wait>(
     context: &ServerContext<'_, C, R>,
     me: &mut S,
     workspace: &mut Workspace,
+    database: u8,
     now: u64,
     reply: &mut Vec<u8>,
 ) -> Result<(), AllocError>
@@ -147,11 +151,15 @@ pub(crate) fn answer_random_key<S: Calls<Blob>, C, R: Wait>(
     ensures said { OnOk result (Replies 1 reply.old.items reply.new.items) }
     ensures kept { OnErr result (reply.new.items ≡ reply.old.items) }
 {
+    // Without this each bucket of the map would be read for a database that has no key.
+    if context.shared_statistics.is_empty(database) {
+        return push_one_nothing(reply);
+    }
     let mut draws = match workspace.draws.take() {
         Some(draws) => draws,
         None => draws_of(context.settings.seed, context.worker),
     };
-    let found = drawn_keys(context.rt, context.alloc, me, &mut draws, now);
+    let found = drawn_keys(context.rt, context.alloc, me, &mut draws, database, now);
     let said = match found {
         Ok(keys) => push_drawn(&mut draws, keys.as_slice(), reply),
         Err(why) => push_one_failure(reply, text_with(why, context.usage.last_reason())),

@@ -6,7 +6,6 @@ ghost use Rattle.commands.specs.Arguments.{listed};
 ghost use Rattle.commands.specs.Commands.{Spells};
 ghost use Rattle.commands.specs.declared.command.Command.TheVariants as commands;
 ghost use Rattle.request_loop.specs.declared.service.Next.TheVariants as behind;
-ghost use Rattle.far_server.specs.Transactions.{waits_in};
 ghost use Rattle.far_server.specs.Looks.{WasLookedAt};
 ghost use Rattle.far_server.specs.Reads.{IsSpelled, IsReadAt, IsRead};
 ghost use Rattle.far_server.specs.Logins.{HasLogin, Exceeds};
@@ -17,6 +16,7 @@ use crate::connection::Connection;
 use crate::context::{ServerContext, Workspace, milliseconds};
 use crate::login::{NO_LOGIN, answer_auth, answer_hello, excess_of};
 use crate::one_reply::{push_one_failure, push_one_fault, push_one_simple};
+use crate::selection::Selection;
 use crate::settings::ServerSettings;
 use crate::transaction::{answer_discard, answer_exec, answer_multi, wait};
 use commands::{Arguments, Command, CommandFault, OfNothing, ServerCommand};
@@ -39,6 +39,7 @@ fn answer_reset(
     connection.is_authenticated = settings.password.is_none();
     connection.name.clear();
     connection.queue = None;
+    connection.selected = Selection::Database(0);
     push_one_simple(reply, b"RESET")
 }
 
@@ -55,7 +56,7 @@ fn wait_or_run<S: Calls<Blob>, C: Clock, R: Wait>(
 ) -> Result<(), AllocError>
     requires read { IsReadAt now (listed request) asked }
     requires looked { WasLookedAt now }
-    ensures served { OnOk result ((rs : List Token) × (reply.new.items ≡ reply.old.items ++ flat_map token rs) × IsRunOrHeld S.limits context.now.settings.now.digest_keys context.now.settings.now.bounds (waits_in connection.old.queue) (waits_in connection.new.queue) (listed request.entry) (S.shown me.old) (S.shown me.new) rs) }
+    ensures served { OnOk result ((rs : List Token) × (reply.new.items ≡ reply.old.items ++ flat_map token rs) × IsRunOrHeld S.limits context.now.settings.now.digest_keys context.now.settings.now.bounds (known connection.old) (known connection.new) (listed request.entry) (S.shown me.old) (S.shown me.new) rs) }
     ensures stays { connection.old.is_authenticated ≡ true → connection.new.is_authenticated ≡ true }
 {
     match connection.queue.take() {

@@ -122,7 +122,8 @@ where
     let Some(all_workers) = settings.workers.checked_add(1) else {
         return Err(MapFault::PassesSpent);
     };
-    let shared_statistics = match SharedStatistics::new(alloc, settings.workers) {
+    let databases = usize::from(settings.bounds.last_database) + 1;
+    let shared_statistics = match SharedStatistics::new(alloc, settings.workers, databases) {
         Ok(shared_statistics) => shared_statistics,
         Err(_) => return Err(MapFault::Memory),
     };

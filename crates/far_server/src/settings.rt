@@ -5,7 +5,7 @@ use resp::Limits;
 use server_commands::Options;
 use stored_keys::DigestKeys;
 
-/// The most bytes of values and replies.
+/// The most bytes of values and replies, and how many databases there are.
 #[derive(Clone, Copy)]
 pub struct Bounds {
     /// The most bytes of a value. A command that would make a longer one replies an error.
@@ -14,6 +14,8 @@ pub struct Bounds {
     /// check that one more value fits. A reply may exceed it by what is no value, for example by a page of
     /// SCAN after other replies of an EXEC.
     pub longest_reply: u32,
+    /// The number of the last database, from 0.
+    pub last_database: u8,
 }
 
 /// What a server is opened with.
@@ -27,7 +29,7 @@ pub struct ServerSettings {
     pub workers: u32,
     /// The limits of a request. One beyond them is a protocol error, and ends its connection.
     pub requests: Limits,
-    /// The limits of values and replies.
+    /// The limits of values, replies and databases.
     pub bounds: Bounds,
     /// The most bytes of memory of the requests that wait for EXEC on one connection.
     pub longest_queue: u32,

@@ -23,7 +23,7 @@ use key_commands::KeyCommand;
 use resp::{push_count, push_number, push_simple};
 use std::alloc::{AllocError, Global};
 use std::sync::Wait;
-use stored_keys::DigestKeys;
+use stored_keys::Keyspace;
 
 /// The reply for a key that counts.
 const ONE: &[u8] = b":1\r\n";
@@ -76,7 +76,7 @@ fn next_keys(
     alloc: Global,
     rest: Arguments<'_>,
     step: usize,
-    digest_keys: DigestKeys,
+    keyspace: Keyspace,
     workspace: &mut Workspace,
 ) -> Vec<Text> {
     let mut keys = Vec::new(alloc);
@@ -85,7 +85,7 @@ fn next_keys(
         let Some(key) = rest.get(at) else {
             break;
         };
-        let Ok(key) = stored_text(alloc, digest_keys, key, workspace) else {
+        let Ok(key) = stored_text(alloc, keyspace, key, workspace) else {
             break;
         };
         if keys.push(key).is_err() {
@@ -104,7 +104,7 @@ fn look_ahead<S: Calls<Blob>>(
     all: usize,
     step: usize,
     rest: Arguments<'_>,
-    digest_keys: DigestKeys,
+    keyspace: Keyspace,
     workspace: &mut Workspace,
 )
     ensures { Goes (S.shown me.old).pass (S.shown me.new).pass }
@@ -112,7 +112,7 @@ fn look_ahead<S: Calls<Blob>>(
     let left = rest.len();
     let is_due = left == all || left % MOST_PREFETCHED.saturating_mul(step).max(1) == 0;
     if is_due && left > step {
-        me.prefetch(next_keys(alloc, rest, step, digest_keys, workspace).as_slice());
+        me.prefetch(next_keys(alloc, rest, step, keyspace, workspace).as_slice());
     }
 }
 
@@ -130,10 +130,10 @@ fn answer_next<S: Calls<Blob>, R: Wait>(
     workspace: &mut Workspace,
     reply: &mut Vec<u8>,
 ) -> Result<(), AllocError>
-    ensures done { OnOk result ((r : Token) × (reply.new.items ≡ reply.old.items ++ token r) × IsKeyed S.limits asking.entry.digest_keys key.now asking.entry.command asking.entry.now asking.entry.most (S.shown me.old) (S.shown me.new) r) }
+    ensures done { OnOk result ((r : Token) × (reply.new.items ≡ reply.old.items ++ token r) × IsKeyed S.limits asking.entry.keyspace key.now asking.entry.command asking.entry.now asking.entry.most (S.shown me.old) (S.shown me.new) r) }
     ensures kept { OnErr result (reply.new.items ≡ reply.old.items) }
 {
-    look_ahead(alloc, me, all, step, rest, asking.digest_keys, workspace);
+    look_ahead(alloc, me, all, step, rest, asking.keyspace, workspace);
     answer_key(rt, alloc, me, key, asking, workspace, reply)
 }
 
@@ -148,7 +148,7 @@ pub(crate) fn count_keys<S: Calls<Blob>, R: Wait>(
     workspace: &mut Workspace,
     reply: &mut Vec<u8>,
 ) -> Result<(), AllocError>
-    ensures { OnOk result ((r : Token) × (reply.new.items ≡ reply.old.items ++ token r) × IsCountedEach S.limits asking.entry.digest_keys asking.entry.now asking.entry.most asking.entry.command (listed keys.entry) (S.shown me.old) (S.shown me.new) r) }
+    ensures { OnOk result ((r : Token) × (reply.new.items ≡ reply.old.items ++ token r) × IsCountedEach S.limits asking.entry.keyspace asking.entry.now asking.entry.most asking.entry.command (listed keys.entry) (S.shown me.old) (S.shown me.new) r) }
 {
     let before = reply.len();
     let mut count: u64 = 0;
@@ -201,7 +201,7 @@ pub(crate) fn get_keys<S: Calls<Blob>, R: Wait>(
     workspace: &mut Workspace,
     reply: &mut Vec<u8>,
 ) -> Result<(), AllocError>
-    ensures { OnOk result ((rs : List Token) × (reply.new.items ≡ reply.old.items ++ flat_map token rs) × IsListedIfShort S.limits asking.entry.digest_keys asking.entry.now asking.entry.most asking.entry.command limit (listed keys.entry) (S.shown me.old) (S.shown me.new) rs) }
+    ensures { OnOk result ((rs : List Token) × (reply.new.items ≡ reply.old.items ++ flat_map token rs) × IsListedIfShort S.limits asking.entry.keyspace asking.entry.now asking.entry.most asking.entry.command limit (listed keys.entry) (S.shown me.old) (S.shown me.new) rs) }
 {
     let before = reply.len();
     match push_count(reply, keys.len()) {
@@ -260,14 +260,14 @@ pub(crate) fn set_pairs<S: Calls<Blob>, R: Wait>(
     alloc: Global,
     me: &mut S,
     pairs: Arguments<'_>,
-    digest_keys: DigestKeys,
+    keyspace: Keyspace,
     now: u64,
     most: u32,
     usage: &FarUsage,
     workspace: &mut Workspace,
     reply: &mut Vec<u8>,
 ) -> Result<(), AllocError>
-    ensures { OnOk result ((r : Token) × (reply.new.items ≡ reply.old.items ++ token r) × IsSetEach S.limits digest_keys now most (listed pairs.entry) (S.shown me.old) (S.shown me.new) r) }
+    ensures { OnOk result ((r : Token) × (reply.new.items ≡ reply.old.items ++ token r) × IsSetEach S.limits keyspace now most (listed pairs.entry) (S.shown me.old) (S.shown me.new) r) }
 {
     let before = reply.len();
     let mut rest = pairs;
@@ -278,7 +278,7 @@ pub(crate) fn set_pairs<S: Calls<Blob>, R: Wait>(
         };
         let asking = Asking {
             command,
-            digest_keys,
+            keyspace,
             now,
             most,
             usage,

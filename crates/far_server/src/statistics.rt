@@ -1,5 +1,6 @@
 //! The server's statistics, for INFO. No contract claims anything about them.
 
+use crate::key_counts::KeyCounts;
 use far_map::{MapRefusal, Traffic};
 use server_commands::{STATISTICS, Statistic, Statistics};
 use std::alloc::{AllocError, Global};
@@ -73,14 +74,43 @@ pub(crate) struct SharedStatistics {
     serving: AtomicU32,
     /// How many keys were counted that the map does not have, because it was renewed without them.
     missing: AtomicU64,
+    /// How many databases there are.
+    databases: usize,
+    /// Of each worker, and of the sweep after them: how many keys it has added to each database, without those that
+    /// it has removed.
+    keys: Vec<AtomicU64>,
+    /// How many of the missing keys are taken to be of each database.
+    missing_in: Vec<AtomicU64>,
 }
 
 /// How far the numbers of a worker are from those of the next one: whole cache lines, each of 8 numbers.
 const STRIDE: usize = (STATISTICS + 7) / 8 * 8;
 
+/// How many numbers there are from one worker's to the next one's, if each has one for each database: whole cache
+/// lines.
+fn stride_of(databases: usize) -> usize {
+    databases.saturating_add(7) / 8 * 8
+}
+
+/// Numbers that are all 0.
+fn zeros(alloc: Global, count: usize) -> Result<Vec<AtomicU64>, AllocError> {
+    let mut zeros = Vec::new(alloc);
+    for _ in 0..count {
+        zeros.push(AtomicU64::new(0))?;
+    }
+    Ok(zeros)
+}
+
 impl SharedStatistics {
-    /// The statistics of `workers` workers and the sweep, all 0.
-    pub(crate) fn new(alloc: Global, workers: u32) -> Result<SharedStatistics, AllocError> {
+    /// The statistics of `workers` workers and the sweep, all 0, and of that many databases.
+    pub(crate) fn new(
+        alloc: Global,
+        workers: u32,
+        databases: usize,
+    ) -> Result<SharedStatistics, AllocError> {
+        let all_workers = (workers as usize).saturating_add(1);
+        let keys = zeros(alloc, all_workers.saturating_mul(stride_of(databases)))?;
+        let missing_in = zeros(alloc, databases)?;
         let mut told = Vec::new(alloc);
         for _ in 0..=workers {
             for _ in 0..STRIDE {
@@ -93,6 +123,9 @@ impl SharedStatistics {
             gateway: GatewayTold::new(),
             serving: AtomicU32::new(workers),
             missing: AtomicU64::new(0),
+            databases,
+            keys,
+            missing_in,
         })
     }
 
@@ -144,10 +177,72 @@ impl SharedStatistics {
     }
 
     /// The map begins with `keys` keys, and no worker has begun. Keys that were counted and are not among
-    /// them are missing.
+    /// them are missing. Nothing says which databases had them, so each is taken to have lost its part by how
+    /// many keys it had.
     pub(crate) fn carry(&self, keys: u64) {
-        self.missing
-            .store(self.counted_keys().saturating_sub(keys), Ordering::SeqCst);
+        let counted = self.counted_keys();
+        let missing = counted.saturating_sub(keys);
+        self.missing.store(missing, Ordering::SeqCst);
+        for (database, part) in self.missing_in.iter().enumerate() {
+            let here = u128::from(self.counted_in(database));
+            let lost = u128::from(missing)
+                .saturating_mul(here)
+                .checked_div(u128::from(counted))
+                .unwrap_or(0);
+            part.store(lost.min(u128::from(u64::MAX)) as u64, Ordering::SeqCst);
+        }
+    }
+
+    /// Publishes the counts of a worker's keys that have changed.
+    pub(crate) fn tell_keys(&self, worker: u32, counts: &mut KeyCounts) {
+        let (first, end) = counts.take_changed();
+        let place = (worker as usize).wrapping_mul(stride_of(self.databases));
+        for (database, number) in counts.numbers().iter().enumerate().take(end).skip(first) {
+            if let Some(told) = self.keys.get(place.wrapping_add(database)) {
+                told.store(*number, Ordering::SeqCst);
+            }
+        }
+    }
+
+    /// The counts that a worker, or the sweep, last published.
+    pub(crate) fn keys_told_by(&self, worker: u32) -> KeyCounts {
+        let mut counts = KeyCounts::new();
+        let place = (worker as usize).wrapping_mul(stride_of(self.databases));
+        for database in 0..self.databases {
+            if let Some(told) = self.keys.get(place.wrapping_add(database)) {
+                counts.set(database, told.load(Ordering::SeqCst));
+            }
+        }
+        counts
+    }
+
+    /// How many keys of a database the workers have counted. While one adds a key and another one removes it, the
+    /// sum may be below zero: it is 0 then.
+    fn counted_in(&self, database: usize) -> u64 {
+        let mut sum: u64 = 0;
+        for told in self
+            .keys
+            .iter()
+            .skip(database)
+            .step_by(stride_of(self.databases).max(1))
+        {
+            sum = sum.wrapping_add(told.load(Ordering::SeqCst));
+        }
+        if sum > i64::MAX as u64 { 0 } else { sum }
+    }
+
+    /// Whether a database has no key, by what the workers last published.
+    pub(crate) fn is_empty(&self, database: u8) -> bool {
+        self.counted_in(usize::from(database)) == 0
+    }
+
+    /// How many keys of a database have a value, by what the workers last published.
+    pub(crate) fn keys_in(&self, database: usize) -> u64 {
+        let missing = match self.missing_in.get(database) {
+            Some(missing) => missing.load(Ordering::SeqCst),
+            None => return 0,
+        };
+        self.counted_in(database).saturating_sub(missing)
     }
 
     /// What a worker, or the sweep, last published.

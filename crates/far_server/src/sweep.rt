@@ -109,9 +109,10 @@ pub(crate) fn expire<S: Calls<Blob>, R: Wait>(
     }
     match me.remove_if(rt, key, value) {
         Ok(removal) => {
-            let statistics = &mut workspace.statistics;
-            statistics.count_if(Statistic::KeysRemoved, removal.removed);
-            statistics.count_if(Statistic::ExpiredKeys, removal.removed);
+            workspace.count_removed(key, removal.removed);
+            workspace
+                .statistics
+                .count_if(Statistic::ExpiredKeys, removal.removed);
             Ok(removal.removed)
         }
         Err(why) => Err(why),
@@ -256,6 +257,7 @@ pub(crate) fn sweep<S: Calls<Blob>, C: Clock, R: Wait>(
 {
     let mut workspace = Workspace::new(context.alloc, context.settings);
     workspace.begin(context.shared_statistics.told_by(context.worker));
+    workspace.key_counts = context.shared_statistics.keys_told_by(context.worker);
     let mut hand = Hand::new(context.alloc, me.buckets(), context.settings.map.frames);
     for _ in context.rt.forever() {
         if !context.shared_statistics.is_serving() {

@@ -103,7 +103,7 @@ fn run_waiting<S: Calls<Blob>, C: Clock, R: Wait>(
     reply: &mut Vec<u8>,
 ) -> Result<(), AllocError>
     requires { WasLookedAt now }
-    ensures ran { OnOk result ((rs : List Token) × (reply.new.items ≡ reply.old.items ++ flat_map token rs) × IsRequest S.limits context.now.settings.now.digest_keys context.now.settings.now.bounds.longest_value limit (held request.now) (S.shown me.old) (S.shown me.new) rs) }
+    ensures ran { OnOk result ((rs : List Token) × (reply.new.items ≡ reply.old.items ++ flat_map token rs) × IsRequest S.limits context.now.settings.now.digest_keys context.now.settings.now.bounds limit connection.old.selected connection.new.selected (held request.now) (S.shown me.old) (S.shown me.new) rs) }
     ensures queue { connection.new.queue ≡ connection.old.queue }
     ensures stays { connection.old.is_authenticated ≡ true → connection.new.is_authenticated ≡ true }
 {
@@ -128,7 +128,7 @@ fn execute<S: Calls<Blob>, C: Clock, R: Wait>(
     reply: &mut Vec<u8>,
 ) -> Result<(), AllocError>
     requires { WasLookedAt now }
-    ensures ran { OnOk result ((rs : List Token) × (reply.new.items ≡ reply.old.items ++ flat_map token rs) × ((each : List Token) × AreExecutedEach S.limits context.now.settings.now.digest_keys context.now.settings.now.bounds (waiting queue.now) each (S.shown me.old) (S.shown me.new) × (rs ≡ Count (length (waiting queue.now)) ∷ each))) }
+    ensures ran { OnOk result ((rs : List Token) × (reply.new.items ≡ reply.old.items ++ flat_map token rs) × ((each : List Token) × AreExecutedEach S.limits context.now.settings.now.digest_keys context.now.settings.now.bounds (waiting queue.now) each connection.old.selected connection.new.selected (S.shown me.old) (S.shown me.new) × (rs ≡ Count (length (waiting queue.now)) ∷ each))) }
     ensures queue { connection.new.queue ≡ connection.old.queue }
     ensures stays { connection.old.is_authenticated ≡ true → connection.new.is_authenticated ≡ true }
 {
@@ -179,7 +179,7 @@ pub(crate) fn answer_exec<S: Calls<Blob>, C: Clock, R: Wait>(
     reply: &mut Vec<u8>,
 ) -> Result<(), AllocError>
     requires { WasLookedAt now }
-    ensures executed { OnOk result ((rs : List Token) × (reply.new.items ≡ reply.old.items ++ flat_map token rs) × IsExecuted S.limits context.now.settings.now.digest_keys context.now.settings.now.bounds (waits_in connection.old.queue) (waits_in connection.new.queue) (S.shown me.old) (S.shown me.new) rs) }
+    ensures executed { OnOk result ((rs : List Token) × (reply.new.items ≡ reply.old.items ++ flat_map token rs) × IsExecuted S.limits context.now.settings.now.digest_keys context.now.settings.now.bounds (waits_in connection.old.queue) (waits_in connection.new.queue) connection.old.selected connection.new.selected (S.shown me.old) (S.shown me.new) rs) }
     ensures stays { connection.old.is_authenticated ≡ true → connection.new.is_authenticated ≡ true }
 {
     match connection.queue.take() {
@@ -206,6 +206,7 @@ pub(crate) fn answer_multi(
 ) -> Result<(), AllocError>
     ensures begun { OnOk result ((rs : List Token) × (reply.new.items ≡ reply.old.items ++ flat_map token rs) × IsBegun (waits_in connection.old.queue) (waits_in connection.new.queue) rs) }
     ensures is_authenticated { connection.new.is_authenticated ≡ connection.old.is_authenticated }
+    ensures selected { connection.new.selected ≡ connection.old.selected }
 {
     match connection.queue.take() {
         Some(queue) => {
@@ -226,6 +227,7 @@ pub(crate) fn answer_discard(
 ) -> Result<(), AllocError>
     ensures dropped { OnOk result ((rs : List Token) × (reply.new.items ≡ reply.old.items ++ flat_map token rs) × IsDropped (waits_in connection.old.queue) (waits_in connection.new.queue) rs) }
     ensures is_authenticated { connection.new.is_authenticated ≡ connection.old.is_authenticated }
+    ensures selected { connection.new.selected ≡ connection.old.selected }
 {
     let Some(_) = connection.queue.take() else {
         return push_one_failure(reply, NO_MULTI_BEFORE_DISCARD);

@@ -56,6 +56,7 @@ pub record IsAskedFor (asked : CommandLine) (settings : ServerSettings) : Type 0
   pub workers : settings.workers ≡ asked.threads
   pub evicts : settings.options.evicts ≡ asked.evicts
   pub value : settings.bounds.longest_value ≡ asked.value_limit
+  pub databases : settings.bounds.last_database ≡ asked.last_database
   pub memory : settings.options.most_memory ≡ asked.memory
   pub clients : settings.options.most_clients ≡ asked.most_clients
   pub password : is_some settings.password ≡ is_some asked.password_file

@@ -34,6 +34,12 @@ const AUTH_TIMEOUT: u32 = 10;
 /// What `--log-level` takes, from few lines to many.
 const LOG_LEVELS: [&str; 3] = ["warning", "notice", "debug"];
 
+/// How many databases there are, if `--databases` is not given.
+const DATABASES: u32 = 16;
+
+/// The most databases.
+const MOST_DATABASES: u32 = 256;
+
 /// From how many microseconds on a command is a slow one, if `--slow` is not given.
 const SLOW: i64 = 10_000;
 
@@ -93,6 +99,8 @@ pub struct CommandLine<'a> {
     pub auth_timeout: u32,
     /// The most connections at once.
     pub most_clients: u32,
+    /// The number of the last database, from 0.
+    pub last_database: u8,
     /// From how many microseconds on a command is a slow one; -1 if none is.
     pub slow: i64,
     /// Which lines the gateway writes to its log: `warning`, `notice` or `debug`.
@@ -267,6 +275,13 @@ fn with_addresses<'a>(alloc: Global, command: Command<'a>) -> Result<Command<'a>
         .arg(timeout.value_name("SECONDS"))?
         .arg(auth_timeout.value_name("SECONDS"))?
         .arg(most_clients)?
+        .arg(number(
+            alloc,
+            "databases",
+            1,
+            256,
+            "How many databases SELECT may pick, 1 to 256 [16]",
+        ))?
         .arg(
             slow.allow_negative_numbers(true)
                 .value_parser(clap::value_parser!(i64).range(-1..=MOST_SLOW)),
@@ -344,6 +359,11 @@ fn far_store<'a>(matches: &ArgMatches<'a>) -> Result<Option<Store<'a>>, Farserve
     }))
 }
 
+/// The number of the last of so many databases, from 0.
+fn last_of(databases: u32) -> u8 {
+    (databases.clamp(1, MOST_DATABASES) - 1) as u8
+}
+
 impl<'a> CommandLine<'a> {
     /// Reads what the command line asks for, and fills in defaults.
     ///
@@ -389,6 +409,7 @@ impl<'a> CommandLine<'a> {
                 .get_one::<u32>("auth-timeout")
                 .unwrap_or(AUTH_TIMEOUT),
             most_clients: matches.get_one::<u32>("maxclients").unwrap_or(CLIENTS),
+            last_database: last_of(matches.get_one::<u32>("databases").unwrap_or(DATABASES)),
             slow: matches.get_one::<i64>("slow").unwrap_or(SLOW),
             log_level: matches.get_str("log-level").unwrap_or("notice"),
             names: matches.get_str("names"),

@@ -128,6 +128,7 @@ fn settings(
         bounds: Bounds {
             longest_value: value,
             longest_reply: sizes.reply,
+            last_database: asked.last_database,
         },
         longest_queue: requests.bytes,
         large: sizes.large,
@@ -143,6 +144,7 @@ fn settings(
             longest_value: u64::from(value),
             port: u32::from(asked.port),
             workers: asked.threads,
+            databases: u32::from(asked.last_database) + 1,
             slow: asked.slow,
         },
     }

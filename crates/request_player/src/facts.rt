@@ -25,6 +25,7 @@ pub(crate) fn no_facts() -> Facts {
         last_device_error: None,
         last_device_error_time: 0,
         device_errors: [0; 10],
+        keys: [0; 256],
     }
 }
 
@@ -36,6 +37,7 @@ pub(crate) const NO_OPTIONS: Options = Options {
     longest_value: 0,
     port: 0,
     workers: 0,
+    databases: 0,
     slow: 0,
 };
 
@@ -62,6 +64,25 @@ fn device_error<'f>(facts: &'f mut Facts, name: &str) -> Option<&'f mut u64> {
     facts.device_errors.get_mut(number.parse::<usize>().ok()?)
 }
 
+/// `dbN`: how many keys the database with the number N has.
+fn keys_in<'f>(facts: &'f mut Facts, name: &str) -> Option<&'f mut u64> {
+    let number = name.strip_prefix("db")?;
+    facts.keys.get_mut(number.parse::<usize>().ok()?)
+}
+
+/// Sets a number of a device's errors or of a database's keys, or a statistic.
+fn set_numbered(facts: &mut Facts, name: &str, number: u64) -> Option<()> {
+    if let Some(count) = device_error(facts, name) {
+        *count = number;
+        return Some(());
+    }
+    if let Some(count) = keys_in(facts, name) {
+        *count = number;
+        return Some(());
+    }
+    set_statistic(&mut facts.statistics, name, number)
+}
+
 fn set_fact(facts: &mut Facts, name: &str, number: u64) -> Option<()> {
     match name {
         "now" => facts.now = number,
@@ -80,10 +101,7 @@ fn set_fact(facts: &mut Facts, name: &str, number: u64) -> Option<()> {
             facts.last_device_error = Some(*DEVICE_REASONS.get(place)?);
         }
         "last_device_error_time" => facts.last_device_error_time = number,
-        _ => match device_error(facts, name) {
-            Some(count) => *count = number,
-            None => set_statistic(&mut facts.statistics, name, number)?,
-        },
+        _ => set_numbered(facts, name, number)?,
     }
     Some(())
 }
@@ -133,6 +151,7 @@ fn set_option(options: &mut Options, name: &str, number: u64) -> Option<()> {
         "longest_value" => options.longest_value = number,
         "port" => options.port = u32::try_from(number).ok()?,
         "workers" => options.workers = u32::try_from(number).ok()?,
+        "databases" => options.databases = u32::try_from(number).ok()?,
         "slow" => options.slow = i64::try_from(number).ok()?,
         _ => return None,
     }

@@ -74,7 +74,10 @@ pub(crate) fn put_server(out: &mut Reply, asked: ServerCommand<'_>) -> Result<()
             put_login(out, login)
         }
         ServerCommand::Hello(greeting) => put_greeting(out, greeting),
-        ServerCommand::Select => out.put("select"),
+        ServerCommand::Select(index) => {
+            out.put("select")?;
+            out.put_bytes(index)
+        }
         ServerCommand::CommandList => out.put("command"),
         ServerCommand::CommandCount => out.put("command count"),
         ServerCommand::CommandDocs(names) => {
@@ -93,7 +96,8 @@ pub(crate) fn put_server(out: &mut Reply, asked: ServerCommand<'_>) -> Result<()
             put_all(out, sections)
         }
         ServerCommand::Scan(scan) => put_scan(out, scan),
-        ServerCommand::Flush => out.put("flush"),
+        ServerCommand::FlushAll => out.put("flushall"),
+        ServerCommand::FlushDb => out.put("flushdb"),
         client => put_client(out, client),
     }
 }

@@ -43,7 +43,7 @@ fn settings(options: &Options) -> [Setting; SETTINGS] {
         number("proto-max-bulk-len", options.longest_value),
         number("port", u64::from(options.port)),
         number("io-threads", u64::from(options.workers)),
-        number("databases", 1),
+        number("databases", u64::from(options.databases)),
         Setting {
             name: "slowlog-log-slower-than",
             value: Value::Signed(options.slow),

@@ -25,6 +25,8 @@ pub struct Facts {
     pub far_limit: Option<u64>,
     /// The numbers of the table. Those that follow from others (`Statistics::with_derived`) may be left out.
     pub statistics: Statistics,
+    /// How many keys each database has.
+    pub keys: [u64; 256],
     /// Why a device failed last. None if none has.
     pub last_device_error: Option<DeviceReason>,
     /// When it did; 0 if none has.
@@ -50,6 +52,8 @@ pub struct Options {
     pub port: u32,
     /// `io-threads`.
     pub workers: u32,
+    /// `databases`: how many there are.
+    pub databases: u32,
     /// `slowlog-log-slower-than`: from how many microseconds on a command is a slow one; none is if it is
     /// below zero.
     pub slow: i64,

@@ -187,13 +187,16 @@ fn push_most(facts: &Facts, text: &mut Vec<u8>) -> Result<(), AllocError> {
     push_words(text, &[("maxmemory_policy", policy(facts.evicts))])
 }
 
-/// The one database, where it has a key. How many keys have a deadline is not counted.
+/// A line for each database that has a key. How many keys have a deadline is not counted.
 fn push_keys(facts: &Facts, text: &mut Vec<u8>) -> Result<(), AllocError> {
-    let keys = facts.statistics.get(Statistic::Keys);
-    if keys == 0 {
-        return Ok(());
+    for (database, keys) in facts.keys.iter().enumerate() {
+        if *keys > 0 {
+            text.extend_from_slice(b"db")?;
+            push_number(text, database as u64)?;
+            text.extend_from_slice(b":keys=")?;
+            push_number(text, *keys)?;
+            text.extend_from_slice(b",expires=0,avg_ttl=0\r\n")?;
+        }
     }
-    text.extend_from_slice(b"db0:keys=")?;
-    push_number(text, keys)?;
-    text.extend_from_slice(b",expires=0,avg_ttl=0\r\n")
+    Ok(())
 }

@@ -69,6 +69,12 @@ fn slow(line: &Line) -> Result<i64> {
     })
 }
 
+/// The number of the last database.
+fn last_database(line: &Line) -> Result<u8> {
+    let databases = number(line, "databases", 16, 256)?.clamp(1, 256);
+    Ok((databases - 1) as u8)
+}
+
 fn options(line: &Line, workers: u32, longest_value: u32) -> Result<Options> {
     Ok(Options {
         most_memory: number(line, "memory", 1 << 24, u64::MAX)?,
@@ -78,6 +84,7 @@ fn options(line: &Line, workers: u32, longest_value: u32) -> Result<Options> {
         longest_value: u64::from(longest_value),
         port: 0,
         workers,
+        databases: u32::from(last_database(line)?) + 1,
         slow: slow(line)?,
     })
 }
@@ -100,6 +107,7 @@ fn settings(line: &Line, workers: u32) -> Result<ServerSettings> {
         bounds: Bounds {
             longest_value,
             longest_reply: small(line, "longest_reply", 1 << 26)?,
+            last_database: last_database(line)?,
         },
         longest_queue: small(line, "longest_queue", 1_000)?,
         large: small(line, "large", 10)?,

@@ -7,8 +7,9 @@
 //! the key over the digest, and spreads as the digest does.
 #![tactic(auto)]
 
-ghost use Rattle.std.specs.Prelude.{◌≡◌, ℕ, List, OnOk};
-ghost use Rattle.stored_keys.specs.StoredKeys.{digest, digest_bytes, stored_key, client_key};
+ghost use Rattle.std.specs.Prelude.{◌≡◌, ℕ, List, Some, OnOk};
+ghost use Rattle.stored_keys.specs.declared.Keyspace.{Keyspace as any_keyspace};
+ghost use Rattle.stored_keys.specs.StoredKeys.{digest, digest_bytes, stored_key, client_key, database_of};
 
 use std::alloc::AllocError;
 use std::hash::{DefaultHasher, Hasher};
@@ -22,9 +23,6 @@ pub const LONGEST_KEY: usize = 65_528;
 /// What a stored key has behind the client's.
 const ADDED: usize = 7;
 
-/// The database of all keys.
-const DATABASE: u8 = 0;
-
 /// How many bytes of a digest are stored. Six are the least over which the table's hash takes each value of 32 bits.
 const DIGEST_BYTES: usize = 6;
 
@@ -33,6 +31,14 @@ const DIGEST_BYTES: usize = 6;
 pub struct DigestKeys {
     pub first: u64,
     pub second: u64,
+}
+
+/// Where a client's keys are stored: in a database, under digest keys. Keys of two databases are different keys of the map.
+#[derive(Clone, Copy)]
+pub struct Keyspace {
+    pub digest_keys: DigestKeys,
+    /// The number of the database, from 0.
+    pub database: u8,
 }
 
 /// SipHash-1-3 over the digest keys and then the bytes.
@@ -48,24 +54,32 @@ fn digest_of(digest_keys: DigestKeys, bytes: &[u8]) -> u64
 
 /// Puts the stored key of a client's key in the place of what `stored` has. After want of memory that may be anything.
 pub fn put_stored_key(
-    digest_keys: DigestKeys,
+    keyspace: Keyspace,
     key: &[u8],
     stored: &mut Vec<u8>,
 ) -> Result<(), AllocError>
-    ensures { OnOk result (stored.new.items ≡ stored_key digest_keys key.now) }
+    ensures { OnOk result (stored.new.items ≡ stored_key keyspace key.now) }
 {
     stored.clear();
     stored.reserve(key.len().saturating_add(ADDED))?;
     stored.extend_from_slice(key)?;
-    stored.push(DATABASE)?;
-    let digest = digest_of(digest_keys, stored.as_slice()).to_be_bytes();
+    stored.push(keyspace.database)?;
+    let digest = digest_of(keyspace.digest_keys, stored.as_slice()).to_be_bytes();
     stored.extend_from_slice(&digest[..DIGEST_BYTES])
 }
 
-/// The client's key of a stored one, whatever the digest keys were.
+/// The client's key of a stored one, whatever the digest keys and the database are.
 pub fn client_key(stored: &[u8]) -> &[u8]
     ensures bytes { result.now ≡ client_key stored.now }
-    ensures inverse { (digest_keys : DigestKeys) → (key : List ℕ) → stored.now ≡ stored_key digest_keys key → result.now ≡ key }
+    ensures inverse { (keyspace : any_keyspace) → (key : List ℕ) → stored.now ≡ stored_key keyspace key → result.now ≡ key }
 {
     &stored[..stored.len().saturating_sub(ADDED)]
+}
+
+/// The database of a stored key, whatever the digest keys are. None if it is the empty text, which is no stored key.
+pub fn database_of(stored: &[u8]) -> Option<u8>
+    ensures is { result ≡ database_of stored.now }
+    ensures inverse { (keyspace : any_keyspace) → (key : List ℕ) → stored.now ≡ stored_key keyspace key → result ≡ Some keyspace.database }
+{
+    stored.get(stored.len().saturating_sub(ADDED)).copied()
 }

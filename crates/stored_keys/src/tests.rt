@@ -1,12 +1,27 @@
 //! Stored keys, whose digests another program computed.
-use crate::{DigestKeys, LONGEST_KEY, client_key, put_stored_key};
+use crate::{DigestKeys, Keyspace, LONGEST_KEY, client_key, database_of, put_stored_key};
 use std::alloc::Global;
 use std::process::Abort;
 
-fn stored<R: Abort>(rt: &R, alloc: Global, first: u64, second: u64, key: &[u8]) -> Vec<u8> {
+fn stored_in<R: Abort>(
+    rt: &R,
+    alloc: Global,
+    first: u64,
+    second: u64,
+    database: u8,
+    key: &[u8],
+) -> Vec<u8> {
     let mut stored = Vec::new(alloc);
-    put_stored_key(DigestKeys { first, second }, key, &mut stored).expect(rt, "memory");
+    let keyspace = Keyspace {
+        digest_keys: DigestKeys { first, second },
+        database,
+    };
+    put_stored_key(keyspace, key, &mut stored).expect(rt, "memory");
     stored
+}
+
+fn stored<R: Abort>(rt: &R, alloc: Global, first: u64, second: u64, key: &[u8]) -> Vec<u8> {
+    stored_in(rt, alloc, first, second, 0, key)
 }
 
 #[test]
@@ -47,4 +62,23 @@ fn the_longest_key(rt: HostRuntime) {
         [0, 184, 185, 197, 47, 83, 11].as_slice()
     );
     assert_eq!(rt; client_key(longest.as_slice()), key.as_slice());
+}
+
+#[test]
+fn databases(rt: HostRuntime) {
+    let alloc = rt.alloc();
+    let third = stored_in(&rt, alloc, 1, 2, 3, b"a");
+    assert_eq!(rt;
+        third.as_slice(),
+        [97, 3, 21, 229, 18, 1, 183, 171].as_slice()
+    );
+    let last = stored_in(&rt, alloc, 1, 2, 255, b"a");
+    assert_eq!(rt;
+        last.as_slice(),
+        [97, 255, 189, 255, 149, 189, 44, 29].as_slice()
+    );
+    assert_eq!(rt; client_key(last.as_slice()), b"a".as_slice());
+    assert_eq!(rt; database_of(third.as_slice()), Some(3));
+    assert_eq!(rt; database_of(last.as_slice()), Some(255));
+    assert_eq!(rt; database_of(b"".as_slice()), None);
 }

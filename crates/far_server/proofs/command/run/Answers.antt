@@ -19,4 +19,4 @@ pub returns-in-Err-clause-ran : goal.returns-in-Err-clause-ran
 returns-in-Err-clause-ran g c =
     let Q : Result Command CommandFault → Type 0 = λ r. IsReadAt c.args.now (listed c.args.request) r in
     let unread : IsUnread (listed c.args.request) = subst Q c.in-Err.is c.requires.read in
-    on_ok c.push_one_fault.result (λ said. (Failure said.0 ∷ [], said.1, (one (Failure said.0) refl, (c.args.now, c.requires.looked, inr (refl, unread, (said.0, refl)))))) c.push_one_fault.ensures
+    on_ok c.push_one_fault.result (λ said. (Failure said.0 ∷ [], said.1, (one (Failure said.0) refl, (c.args.now, c.requires.looked, inr (refl, (refl, unread, (said.0, refl))))))) c.push_one_fault.ensures

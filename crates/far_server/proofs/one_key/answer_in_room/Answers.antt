@@ -10,12 +10,12 @@ pub returns-then-has_room-clause-done : goal.returns-then-has_room-clause-done
 returns-then-has_room-clause-done g c = on_ok c.answer_now.result (λ p. (
   p.0,
   p.1,
-  stored_after g.S.Calls.limits (stored_key c.args.asking.digest_keys c.args.key.now) c.args.asking.command c.args.asking.now c.args.asking.most (g.S.Calls.shown c.args.me.now) (g.S.Calls.shown c.has_room.new.me) (g.S.Calls.shown c.answer_now.new.me) p.0 c.has_room.ensures p.2,
+  stored_after g.S.Calls.limits (stored_key c.args.asking.keyspace c.args.key.now) c.args.asking.command c.args.asking.now c.args.asking.most (g.S.Calls.shown c.args.me.now) (g.S.Calls.shown c.has_room.new.me) (g.S.Calls.shown c.answer_now.new.me) p.0 c.has_room.ensures p.2,
 )) c.answer_now.ensures.done
 
 pub returns-clause-done : goal.returns-clause-done
 returns-clause-done g c = on_ok c.push_failure.result (λ is. (
   Failure (no_room c.full_reason.result),
   is ∙ ap (λ (text : List ℕ). c.args.reply.now.items ++ token (Failure text)) c.no_room.ensures,
-  (g.S.Calls.shown c.has_room.new.me, went g.S.Calls.limits (stored_key c.args.asking.digest_keys c.args.key.now) (g.S.Calls.shown c.args.me.now) (g.S.Calls.shown c.has_room.new.me) c.has_room.ensures, inr (inr (refl, inr (c.full_reason.result, refl)))),
+  (g.S.Calls.shown c.has_room.new.me, went g.S.Calls.limits (stored_key c.args.asking.keyspace c.args.key.now) (g.S.Calls.shown c.args.me.now) (g.S.Calls.shown c.has_room.new.me) c.has_room.ensures, inr (inr (refl, inr (c.full_reason.result, refl)))),
 )) c.push_failure.ensures.items

@@ -11,7 +11,7 @@ returns-in-Ok-false-clause-done g c =
     let e = c.in-Ok-false.ensures in
     let before = c.args.reply.now.items in
     let len : c.len-before.result ≡ length before = search in
-    let T : Bool → Type 0 = λ b. IsEnded g.S.Calls.limits (stored_key c.args.asking.digest_keys c.args.key.now) c.args.asking.command c.args.asking.now c.args.asking.most (g.S.Calls.shown c.args.me.now) (g.S.Calls.shown c.try_key.new.me) e.0 (Ok b) in
+    let T : Bool → Type 0 = λ b. IsEnded g.S.Calls.limits (stored_key c.args.asking.keyspace c.args.key.now) c.args.asking.command c.args.asking.now c.args.asking.most (g.S.Calls.shown c.args.me.now) (g.S.Calls.shown c.try_key.new.me) e.0 (Ok b) in
     let idles : T false = subst T c.in-Ok-false.field-0-test e.2 in
     on_ok c.fail.result (λ is. (
       Failure _,

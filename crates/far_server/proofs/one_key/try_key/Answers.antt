@@ -6,4 +6,4 @@ use Rattle.stored_keys.specs.StoredKeys.{stored_key}
 use Rattle.far_server.proofs.one_key.try_key.Goals as goal
 
 pub returns-in-Err : goal.returns-in-Err
-returns-in-Err g c = ([], none c.args.reply.now.items c.args.reply.now.items refl, (g.S.Calls.shown c.args.me.now, no_step (IsIdle g.S.Calls.limits (stored_key c.args.asking.digest_keys c.args.key.now)) (g.S.Calls.shown c.args.me.now), inr refl))
+returns-in-Err g c = ([], none c.args.reply.now.items c.args.reply.now.items refl, (g.S.Calls.shown c.args.me.now, no_step (IsIdle g.S.Calls.limits (stored_key c.args.asking.keyspace c.args.key.now)) (g.S.Calls.shown c.args.me.now), inr refl))

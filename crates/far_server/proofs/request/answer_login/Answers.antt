@@ -28,7 +28,7 @@ returns-in-Hello-clause-login c =
 pub returns-in-Hello-clause-gated : goal.returns-in-Hello-clause-gated
 returns-in-Hello-clause-gated c =
     let G : ServerCommand → Type 0 = λ s. (rs : List Token) × (c.answer_hello.new.reply.items ≡ c.args.reply.now.items ++ flat_map token rs) × IsGatedAs c.args.settings.now.password (command.Server s) (known c.args.connection.now) (known c.answer_hello.new.connection) rs in
-    on_ok c.answer_hello.result (λ p. subst G (sym c.in-Hello.is) (p.0, p.1, (ap waits_in c.answer_hello.ensures.queue, p.2))) c.answer_hello.ensures.told
+    on_ok c.answer_hello.result (λ p. subst G (sym c.in-Hello.is) (p.0, p.1, (ap waits_in c.answer_hello.ensures.queue, c.answer_hello.ensures.selected, p.2))) c.answer_hello.ensures.told
 
 pub returns-in_default : goal.returns-in_default
 returns-in_default c = record {

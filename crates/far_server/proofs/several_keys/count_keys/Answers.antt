@@ -16,7 +16,7 @@ loop-key-preserved g c =
     let now : c.answer_next.new.reply.items ≡ before ++ token d.0 = d.1 ∙ ap (λ (l : List ℕ). l ++ token d.0) inv.0 in
     let said : take (length c.deref.result.now - c.len-before.result) (drop c.len-before.result c.deref.result.now) ≡ token d.0 = take_rest c.deref.result.now c.len-before.result ∙ (ap (λ (l : List ℕ). drop c.len-before.result l) c.deref.ensures.value ∙ pushed c.len-before.result before (token d.0) c.answer_next.new.reply.items inv.1 now) in
     let M : List ℕ → Type 0 = λ l. MatchBool c.in-Some-is_one.is_one (l ≡ one) (l ≡ none) in
-    let A : ℕ → Type 0 = λ n. AreCounted g.S.Calls.limits c.args.asking.digest_keys c.args.asking.now c.args.asking.most c.args.asking.command (inv.3.0 ++ c.in-Some.key.now ∷ []) 0 n (g.S.Calls.shown c.args.me.now) (g.S.Calls.shown c.answer_next.new.me) in (
+    let A : ℕ → Type 0 = λ n. AreCounted g.S.Calls.limits c.args.asking.keyspace c.args.asking.now c.args.asking.most c.args.asking.command (inv.3.0 ++ c.in-Some.key.now ∷ []) 0 n (g.S.Calls.shown c.args.me.now) (g.S.Calls.shown c.answer_next.new.me) in (
       c.truncate.ensures.items ∙ cut c.len-before.result before (token d.0) c.answer_next.new.reply.items inv.1 now,
       inv.1,
       c.counted-count.ensures.fits,
@@ -24,14 +24,14 @@ loop-key-preserved g c =
         inv.3.0 ++ c.in-Some.key.now ∷ [],
         next_done (listed c.args.keys) inv.3.0 (listed c.loop-key.rest) (listed c.in-Some.behind) (c.in-Some.key.now ∷ []) inv.3.1 c.in-Some.ensures,
         subst A (sym c.counted-count.ensures.value)
-            (counted_more g.S.Calls.limits c.args.asking.digest_keys c.args.asking.now c.args.asking.most c.args.asking.command inv.3.0 c.in-Some.key.now 0 c.loop-key.count (g.S.Calls.shown c.args.me.now) (g.S.Calls.shown c.loop-key.me) (g.S.Calls.shown c.answer_next.new.me) d.0 c.in-Some-is_one.is_one inv.3.2 d.2 (subst M said c.in-Some-is_one.ensures)),
+            (counted_more g.S.Calls.limits c.args.asking.keyspace c.args.asking.now c.args.asking.most c.args.asking.command inv.3.0 c.in-Some.key.now 0 c.loop-key.count (g.S.Calls.shown c.args.me.now) (g.S.Calls.shown c.loop-key.me) (g.S.Calls.shown c.answer_next.new.me) d.0 c.in-Some-is_one.is_one inv.3.2 d.2 (subst M said c.in-Some-is_one.ensures)),
       ),
     )
 
 pub returns : goal.returns
 returns g c =
     let inv = c.loop-key.invariant in
-    let A : List (List ℕ) → Type 0 = λ ks. AreCounted g.S.Calls.limits c.args.asking.digest_keys c.args.asking.now c.args.asking.most c.args.asking.command ks 0 c.loop-key.count (g.S.Calls.shown c.args.me.now) (g.S.Calls.shown c.loop-key.me) in
+    let A : List (List ℕ) → Type 0 = λ ks. AreCounted g.S.Calls.limits c.args.asking.keyspace c.args.asking.now c.args.asking.most c.args.asking.command ks 0 c.loop-key.count (g.S.Calls.shown c.args.me.now) (g.S.Calls.shown c.loop-key.me) in
     let value = to_z_pos w64 c.loop-key.count inv.2 in
     on_ok c.push_number.result (λ is. (
       Number (pos c.loop-key.count),

@@ -44,7 +44,7 @@ loop-key-preserved g c =
         (
           inv.2.2.0 ++ c.in-Some.key.now ∷ [],
           next_done (listed c.args.keys) inv.2.2.0 (listed c.loop-key.rest) (listed c.in-Some.behind) (c.in-Some.key.now ∷ []) inv.2.2.1 c.in-Some.ensures,
-          listed_more g.S.Calls.limits c.args.asking.digest_keys c.args.asking.now most c.args.asking.command (c.args.limit - length (token head)) inv.2.2.0 c.in-Some.key.now each (g.S.Calls.shown c.args.me.now) (g.S.Calls.shown c.loop-key.me) (g.S.Calls.shown c.answer_next.new.me) d.0 inv.2.2.2 fits d.2,
+          listed_more g.S.Calls.limits c.args.asking.keyspace c.args.asking.now most c.args.asking.command (c.args.limit - length (token head)) inv.2.2.0 c.in-Some.key.now each (g.S.Calls.shown c.args.me.now) (g.S.Calls.shown c.loop-key.me) (g.S.Calls.shown c.answer_next.new.me) d.0 inv.2.2.2 fits d.2,
         ),
       ),
     )
@@ -98,7 +98,7 @@ pub returns : goal.returns
 returns g c =
     let inv = c.loop-key.invariant in
     let head = Count (length (listed c.args.keys)) in
-    let A : List (List ℕ) → Type 0 = λ ks. AreListed g.S.Calls.limits c.args.asking.digest_keys c.args.asking.now c.args.asking.most c.args.asking.command (c.args.limit - length (token head)) ks inv.2.0 (g.S.Calls.shown c.args.me.now) (g.S.Calls.shown c.loop-key.me) in (
+    let A : List (List ℕ) → Type 0 = λ ks. AreListed g.S.Calls.limits c.args.asking.keyspace c.args.asking.now c.args.asking.most c.args.asking.command (c.args.limit - length (token head)) ks inv.2.0 (g.S.Calls.shown c.args.me.now) (g.S.Calls.shown c.loop-key.me) in (
       head ∷ inv.2.0,
       inv.2.1,
       inl (inv.2.0, subst A (sym (all_done (listed c.args.keys) inv.2.2.0 (listed c.loop-key.rest) inv.2.2.1 c.in_default.ensures)) inv.2.2.2, refl),

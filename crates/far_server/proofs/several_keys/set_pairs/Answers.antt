@@ -23,7 +23,7 @@ loop-key-preserved g c =
       (
         inv.2.0 ++ c.in-Some.key.now ∷ c.in-Some.value.now ∷ [],
         next_done (listed c.args.pairs) inv.2.0 (listed c.loop-key.rest) (listed c.in-Some.behind) (c.in-Some.key.now ∷ c.in-Some.value.now ∷ []) inv.2.1 c.in-Some.ensures,
-        set_more g.S.Calls.limits c.args.digest_keys c.args.now c.args.most inv.2.0 c.in-Some.key.now c.in-Some.value.now (g.S.Calls.shown c.args.me.now) (g.S.Calls.shown c.loop-key.me) (g.S.Calls.shown c.answer_next.new.me) d.0 inv.2.2 (_, refl, d.2) said_ok,
+        set_more g.S.Calls.limits c.args.keyspace c.args.now c.args.most inv.2.0 c.in-Some.key.now c.in-Some.value.now (g.S.Calls.shown c.args.me.now) (g.S.Calls.shown c.loop-key.me) (g.S.Calls.shown c.answer_next.new.me) d.0 inv.2.2 (_, refl, d.2) said_ok,
       ),
     )
 
