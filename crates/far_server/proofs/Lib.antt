@@ -5,6 +5,7 @@ mod OneReply
 mod Listing
 mod Held
 mod Several
+mod Flushing
 mod Swept
 mod Placing
 mod Executing

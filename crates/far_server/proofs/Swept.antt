@@ -1,12 +1,14 @@
 -- What the sweep does, step by step.
-use Rattle.std.proofs.Common.{ℕ, zero, suc, Bool, true, None, refl, inl, inr}
+use Rattle.std.proofs.Common.{ℕ, zero, suc, Bool, true, None, Result, Ok, Err, refl, inl, inr}
 use Rattle.table_core.specs.declared.limits.Limits.{Limits}
 use Rattle.version_words.specs.Views.{Goes}
 use Rattle.far_server.specs.Sessions.{Session}
 use Rattle.far_server.specs.Steps.{AreSteps}
-use Rattle.far_server.specs.Flushes.{IsRemoval, Flushes}
+use Rattle.far_map.specs.declared.refusal.MapRefusal.{MapRefusal}
+use Rattle.far_server.specs.Flushes.{IsRemoval, Flushes, IsFlushing}
 use Rattle.far_server.specs.Sweeps.{Expires, IsSweeping, Sweeps}
 use Rattle.far_server.proofs.Going.{no_step, one_step, both}
+use Rattle.far_server.proofs.Flushing.{found_steps}
 
 module _ (l : Limits) (evicts : Bool) where
   pub nothing : (a : Session) → Sweeps l evicts a a
@@ -33,6 +35,10 @@ module _ (l : Limits) where
   are_sweeping zero a b same = same
   are_sweeping (suc n) a b steps = (steps.0, are_sweeping n a steps.0 steps.1, is_sweeping steps.0 b steps.2)
 
-  -- keys were taken out to make room
-  pub evicted : (a b : Session) → Flushes l None a b → Sweeps l true a b
-  evicted a b flushes = (flushes.0, are_sweeping flushes.0 a b flushes.1)
+  evicted_so : (a b : Session) → Flushes l None a b → Sweeps l true a b
+  evicted_so a b flushes = (flushes.0, are_sweeping flushes.0 a b flushes.1)
+
+  -- the keys of a bucket were taken out to make room
+  pub evicted : (bucket : ℕ) (a b : Session) (r : Result (Unit {0}) MapRefusal) → IsFlushing l None bucket a b r → Sweeps l true a b
+  evicted bucket a b (Ok x) (mid, keys, finds, taken) = evicted_so a b (found_steps l None bucket keys keys a mid b finds taken)
+  evicted bucket a b (Err why) flushes = evicted_so a b flushes

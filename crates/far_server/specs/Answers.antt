@@ -85,7 +85,7 @@ module _ (l : Limits) (digest : DigestKeys) (b : Bounds) where
   AreExecuted limit [] rs before after old new = (after ≡ before) × (old ≡ new) × (rs ≡ [])
   AreExecuted limit (request ∷ requests) rs before after old new =
       ((mid : Session) × (selected : Selection) × (first rest : List Token) × IsRunWithin limit request before selected old mid first
-          × AreExecuted (limit - length (flat_map token first)) requests rest selected after mid new × (rs ≡ first ++ rest))
+      × AreExecuted (limit - length (flat_map token first)) requests rest selected after mid new × (rs ≡ first ++ rest))
       ⊎ ((after ≡ before) × (AreRefused limit (length (request ∷ requests)) old new rs ⊎ AreWithoutMemory (length (request ∷ requests)) old new rs))
 
   -- an array of the replies to requests

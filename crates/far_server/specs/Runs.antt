@@ -18,7 +18,7 @@ use Rattle.far_server.specs.Looks.{WasLookedAt}
 use Rattle.far_server.specs.Reads.{IsUnread}
 use Rattle.far_server.specs.Keyed.{IsKeyed}
 use Rattle.far_server.specs.Many.{IsCountedEach, IsListedIfShort, IsSetEach}
-use Rattle.far_server.specs.Flushes.{Flushes}
+use Rattle.far_server.specs.Flushes.{IsFlush}
 use Rattle.far_server.specs.declared.settings.Bounds.{Bounds}
 use Rattle.far_server.specs.declared.selection.Selection.{Selection}
 use Rattle.far_server.specs.declared.selection.Selection.TheVariants as selection
@@ -39,8 +39,8 @@ module _ (l : Limits) (keyspace : Keyspace) (now most limit : ℕ) where
   abbrev pub IsOther : Command → Session → Session → List Token → Type 0
   IsOther (command.Keys of arguments) old new rs = IsOfKeys of (listed arguments) old new rs
   IsOther (command.SetMany pairs) old new rs = (r : Token) × (rs ≡ r ∷ []) × IsSetEach l keyspace now most (listed pairs) old new r
-  IsOther (command.Server server.FlushAll) old new rs = Flushes l None old new
-  IsOther (command.Server server.FlushDb) old new rs = Flushes l (Some keyspace.database) old new
+  IsOther (command.Server server.FlushAll) old new rs = IsFlush l None old new rs
+  IsOther (command.Server server.FlushDb) old new rs = IsFlush l (Some keyspace.database) old new rs
   IsOther c old new rs = Goes old.pass new.pass
 
   -- a command was run in this keyspace, and these are its replies: one, or an array with what is in it
@@ -69,4 +69,4 @@ IsFailure arguments old new rs = (old ≡ new) × IsUnread arguments × ((text :
 abbrev pub IsRequest : Limits → DigestKeys → Bounds → ℕ → Selection → Selection → List (List ℕ) → Session → Session → List Token → Type 0
 IsRequest l digest b limit before after arguments old new rs =
     AreReplies 1 rs × ((now : ℕ) × WasLookedAt now × (((c : Command) × Spells now arguments c × IsRunFrom l digest b limit now c before after old new rs)
-        ⊎ ((after ≡ before) × IsFailure arguments old new rs)))
+    ⊎ ((after ≡ before) × IsFailure arguments old new rs)))

@@ -1,11 +1,11 @@
 //! Commands on all keys of a database, or of all databases, which visit one bucket after another: SCAN, FLUSHDB and
 //! FLUSHALL.
-ghost use Rattle.std.specs.Prelude.{◌≡◌, ◌<◌, ◌++◌, ◌∷◌, [], ℕ, List, length, IfOk, OnErr, OnOk};
+ghost use Rattle.std.specs.Prelude.{◌≡◌, ◌<◌, ◌++◌, ◌∷◌, [], false, ℕ, List, length, IfOk, OnErr, OnOk};
 ghost use Rattle.std.specs.List.{flat_map};
 ghost use Rattle.resp.specs.Replies.{Token, Count, String, token};
-ghost use Rattle.server_commands.specs.Replying.{Replies};
+ghost use Rattle.server_commands.specs.Replying.{AreReplies, Replies};
 ghost use Rattle.version_words.specs.Views.{Goes};
-ghost use Rattle.far_server.specs.Flushes.{is_of, Flushes};
+ghost use Rattle.far_server.specs.Flushes.{is_of, IsFinding, IsFlushing, IsFlushOfAll, IsFlush};
 ghost use Rattle.far_server.specs.Lists.{told_key, told_keys};
 
 use crate::bound::{FRAMING, MOST_PAGE};
@@ -281,6 +281,35 @@ pub(crate) fn answer_scan<S: Calls<Blob>, R: Wait>(
     }
 }
 
+/// All keys of a bucket, of all databases, expired or not.
+pub(crate) fn all_keys_in<S: Calls<Blob>, R: Wait>(
+    rt: &R,
+    alloc: Global,
+    me: &mut S,
+    bucket: u32,
+) -> Result<Vec<Text>, MapRefusal>
+    requires { bucket < S.limits.buckets }
+    ensures { IsFinding S.limits bucket (S.shown me.old) (S.shown me.new) result }
+{
+    let mut keys = Vec::new(alloc);
+    let mut is_short = false;
+    let mut visit = |key: Text, _: Blob|
+        ensures { is_short.exit ≡ false → (is_short.entry ≡ false) × (keys.exit.items ≡ keys.entry.items ++ key ∷ []) }
+    {
+        if keys.push(key).is_err() {
+            is_short = true;
+        }
+    };
+    match me.for_each_in(rt, bucket, &mut visit) {
+        Ok(()) => {}
+        Err(why) => return Err(why),
+    }
+    if is_short {
+        return Err(MapRefusal::Memory);
+    }
+    Ok(keys)
+}
+
 /// Removes all keys of this database, or of any, that the bucket had when it was visited.
 pub(crate) fn empty_bucket<S: Calls<Blob>, R: Wait>(
     rt: &R,
@@ -291,9 +320,9 @@ pub(crate) fn empty_bucket<S: Calls<Blob>, R: Wait>(
     workspace: &mut Workspace,
 ) -> Result<(), MapRefusal>
     requires { bucket < S.limits.buckets }
-    ensures { Flushes S.limits database (S.shown me.old) (S.shown me.new) }
+    ensures { IsFlushing S.limits database bucket (S.shown me.old) (S.shown me.new) result }
 {
-    let keys = match keys_in(rt, alloc, me, bucket, None, 0) {
+    let keys = match all_keys_in(rt, alloc, me, bucket) {
         Ok(keys) => keys,
         Err(why) => return Err(why),
     };
@@ -319,7 +348,7 @@ fn empty_filled<S: Calls<Blob>, R: Wait>(
     workspace: &mut Workspace,
 ) -> Result<(), MapRefusal>
     requires { bucket < S.limits.buckets }
-    ensures { Flushes S.limits database (S.shown me.old) (S.shown me.new) }
+    ensures { IsFlushing S.limits database bucket (S.shown me.old) (S.shown me.new) result }
 {
     if me.is_empty_at(bucket) {
         return Ok(());
@@ -334,7 +363,7 @@ fn empty_all<S: Calls<Blob>, R: Wait>(
     database: Option<u8>,
     workspace: &mut Workspace,
 ) -> Result<(), MapRefusal>
-    ensures { Flushes S.limits database (S.shown me.old) (S.shown me.new) }
+    ensures { IsFlushOfAll S.limits database (S.shown me.old) (S.shown me.new) result }
 {
     for bucket in 0..me.buckets() {
         match empty_filled(rt, alloc, me, bucket, database, workspace) {
@@ -345,9 +374,9 @@ fn empty_all<S: Calls<Blob>, R: Wait>(
     Ok(())
 }
 
-/// Answers FLUSHDB of a database, or FLUSHALL, bucket by bucket, so a key that is set meanwhile may stay. If a bucket can't be read,
-/// the reply is an error, and a renewal is asked for. The renewal leaves that bucket out, so it is gone for
-/// the next one.
+/// Answers FLUSHDB of a database, or FLUSHALL, bucket by bucket, so a key that is set meanwhile may stay. If a
+/// bucket can't be read, the reply is an error, and a renewal is asked for. The renewal leaves that bucket out, so
+/// it is gone for the next one.
 pub(crate) fn answer_flush<S: Calls<Blob>, R: Wait>(
     rt: &R,
     alloc: Global,
@@ -357,8 +386,7 @@ pub(crate) fn answer_flush<S: Calls<Blob>, R: Wait>(
     workspace: &mut Workspace,
     reply: &mut Vec<u8>,
 ) -> Result<(), AllocError>
-    ensures flushes { Flushes S.limits database (S.shown me.old) (S.shown me.new) }
-    ensures said { OnOk result (Replies 1 reply.old.items reply.new.items) }
+    ensures { OnOk result ((rs : List Token) × (reply.new.items ≡ reply.old.items ++ flat_map token rs) × AreReplies 1 rs × IsFlush S.limits database (S.shown me.old) (S.shown me.new) rs) }
 {
     match empty_all(rt, alloc, me, database, workspace) {
         Ok(()) => push_one_simple(reply, b"OK"),

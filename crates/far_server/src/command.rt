@@ -208,15 +208,7 @@ fn run_other<S: Calls<Blob>, C: Clock, R: Wait>(
         }
         Command::Server(ServerCommand::FlushDb) => {
             let database = Some(keyspace.database);
-            answer_flush(
-                rt,
-                alloc,
-                me,
-                database,
-                context.usage,
-                workspace,
-                reply,
-            )
+            answer_flush(rt, alloc, me, database, context.usage, workspace, reply)
         }
         _ => answer_or_refuse(
             context,

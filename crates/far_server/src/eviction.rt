@@ -22,7 +22,7 @@ ghost use Rattle.std.specs.Prelude.{◌<◌, true, IfSome};
 ghost use Rattle.version_words.specs.Views.{Goes};
 ghost use Rattle.far_server.specs.Sweeps.{Sweeps};
 
-use crate::all_keys::{empty_bucket, keys_in};
+use crate::all_keys::{all_keys_in, empty_bucket};
 use crate::context::{ServerContext, Workspace};
 use crate::statistics::count_evictions;
 use far_blob::Blob;
@@ -175,7 +175,7 @@ fn is_on_device<S: Calls<Blob>, R: Wait>(
     if me.is_empty_at(bucket) {
         return Ok(false);
     }
-    match keys_in(rt, alloc, me, bucket, None, 0) {
+    match all_keys_in(rt, alloc, me, bucket) {
         Ok(keys) => match keys.first() {
             Some(key) => Ok(matches!(me.where_is(key), BucketState::Far(_))),
             None => Ok(false),

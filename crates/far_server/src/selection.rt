@@ -197,6 +197,18 @@ fn has_pushed(text: &[u8], beside: usize, reply: &mut Vec<u8>) -> bool
     }
 }
 
+/// Pushes the error of a command on keys, after the SELECT of this number was refused, if there is memory for it, and
+/// room for `beside` bytes after it. The error is made in `text`. Returns whether there was. If not, `reply` is as
+/// before.
+fn has_told(refused: Option<i64>, text: &mut Vec<u8>, beside: usize, reply: &mut Vec<u8>) -> bool
+    ensures { MatchBool result (reply.new.items ≡ reply.old.items ++ flat_map token (Failure (no_database refused) ∷ [])) (reply.new.items ≡ reply.old.items) }
+{
+    match put_no_database(refused, text) {
+        Ok(()) => has_pushed(text.as_slice(), beside, reply),
+        Err(_) => false,
+    }
+}
+
 /// Answers a command on keys after the SELECT of this number was refused: by an error, which is made in `text`. If
 /// memory is refused for it, the reply is that error.
 pub(crate) fn push_no_database(
@@ -207,13 +219,8 @@ pub(crate) fn push_no_database(
 ) -> Result<(), AllocError>
     ensures { OnOk result ((rs : List Token) × (reply.new.items ≡ reply.old.items ++ flat_map token rs) × IsUnselected refused rs) }
 {
-    match put_no_database(refused, text) {
-        Ok(()) => {
-            if has_pushed(text.as_slice(), beside, reply) {
-                return Ok(());
-            }
-        }
-        Err(_) => {}
+    if has_told(refused, text, beside, reply) {
+        return Ok(());
     }
     push_one_failure(reply, text_of(MapRefusal::Memory))
 }

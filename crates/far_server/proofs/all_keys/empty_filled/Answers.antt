@@ -1,11 +1,11 @@
-use Rattle.std.proofs.Common.{inl}
-use Rattle.far_server.specs.Flushes.{IsRemoval}
-use Rattle.far_server.proofs.Going.{one_step, both}
+use Rattle.std.proofs.Common.{◌≡◌, true, [], refl}
+use Rattle.far_server.proofs.Flushing.{flushing_after}
 use Rattle.far_server.proofs.all_keys.empty_filled.Goals as goal
 
 pub returns-then-is_empty_at : goal.returns-then-is_empty_at
-returns-then-is_empty_at g c = one_step (IsRemoval g.S.Calls.limits c.args.database) (g.S.Calls.shown c.args.me.now) (g.S.Calls.shown c.is_empty_at.new.self) (inl c.is_empty_at.ensures.goes)
+returns-then-is_empty_at g c =
+    let yes : c.is_empty_at.result ≡ true = search in
+    (g.S.Calls.shown c.is_empty_at.new.self, [], record { goes = c.is_empty_at.ensures.goes; pairs = []; are = c.is_empty_at.ensures.empty yes; found = refl }, refl)
 
 pub returns : goal.returns
-returns g c = both (IsRemoval g.S.Calls.limits c.args.database) (g.S.Calls.shown c.args.me.now) (g.S.Calls.shown c.is_empty_at.new.self) (g.S.Calls.shown c.empty_bucket.new.me)
-    (one_step (IsRemoval g.S.Calls.limits c.args.database) (g.S.Calls.shown c.args.me.now) (g.S.Calls.shown c.is_empty_at.new.self) (inl c.is_empty_at.ensures.goes)) c.empty_bucket.ensures
+returns g c = flushing_after g.S.Calls.limits c.args.database c.args.bucket (g.S.Calls.shown c.args.me.now) (g.S.Calls.shown c.is_empty_at.new.self) (g.S.Calls.shown c.empty_bucket.new.me) c.empty_bucket.result c.is_empty_at.ensures.goes c.empty_bucket.ensures
