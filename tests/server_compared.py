@@ -3,7 +3,7 @@ import random
 import re
 import time
 
-from server_parts import Redis, request
+from server_parts import OK, Redis, bulk, request
 
 KEYS = [b"a", b"b", b"c", b"key:1", b"key:2", b"key:3", b"", b"\x00\xff\r\n", b"counter", b"long" * 60]
 VALUES = [b"", b"0", b"1", b"-1", b"17", b"x", b"some text", b"\r\n", b"\x00\x01\xfe", b"9223372036854775807",
@@ -74,6 +74,12 @@ def keys(most):
     return [key() for _ in range(random.randrange(1, most))]
 
 
+# The databases that are used. After a SELECT of another one farserve and redis-server differ, see `refused_selects_are_those_of_redis`.
+DATABASES = [b"0", b"1", b"1", b"15"]
+# What SELECT refuses.
+NO_DATABASES = [b"16", b"-1", b"x", b"00", b"1.0", b"", b"2147483648", b"-9223372036854775808", b"9223372036854775808"]
+
+
 # What is asked, by how often.
 ASKED = [
     (12, words_of_set),
@@ -106,7 +112,7 @@ ASKED = [
     (1, lambda: (random.choice([b"FLUSHALL", b"FLUSHDB"]), *random.choice([(), (b"SYNC",), (b"ASYNC",), (b"no",)]))),
     (2, lambda: (b"PING", *random.choice([(), (b"text",), (b"a", b"b")]))),
     (2, lambda: (b"ECHO", value())),
-    (2, lambda: (b"SELECT", random.choice([b"0", b"x", b"-1", b"00"]))),
+    (4, lambda: (b"SELECT", random.choice(DATABASES))),
     (2, lambda: (b"CLIENT", b"GETNAME")),
     (2, lambda: (b"CLIENT", b"SETNAME", random.choice([b"me", b"", b"a b"]))),
     (2, lambda: (random.choice(UNKNOWN), *random.choice([(), (b"one",), (b"one", b"y" * 200, b"two")]))),
@@ -189,4 +195,39 @@ def replies_are_those_of_redis(tried, counts):
         assert own.ask("PING") == theirs.ask("PING")
 
 
-TRIALS = [replies_are_those_of_redis]
+def refused_selects_are_those_of_redis(tried, counts):
+    """SELECT itself replies as Redis does. After a refused one redis-server still has the old database, and farserve has none."""
+    if tried.is_redis:
+        return
+    with Redis(tried.work) as peer:
+        own, theirs = tried.server.client(), peer.client()
+        for client in (own, theirs):
+            assert client.ask("FLUSHALL") == OK and client.ask("SET", "k", "v") == OK
+        for word in NO_DATABASES:
+            assert own.ask("SELECT", word) == theirs.ask("SELECT", word), word
+            assert theirs.ask("GET", "k") == bulk(b"v")
+            told = own.ask("GET", "k")
+            assert re.fullmatch(rb"-ERR no database is selected, since SELECT (-?[0-9]+ )?was refused\r\n", told), (word, told)
+            for words in (("FLUSHALL",), ("FLUSHDB",), ("DEL", "k"), ("SCAN", "0"), ("DBSIZE",), ("RANDOMKEY",)):
+                assert own.ask(*words) == told, (word, words)
+            assert own.ask("PING") == theirs.ask("PING")
+            assert own.ask("SELECT", "0") == theirs.ask("SELECT", "0") == OK
+            assert own.ask("GET", "k") == bulk(b"v")
+        for words in (("SELECT",), ("SELECT", "1", "2"), ("GET", "k")):
+            assert own.ask(*words) == theirs.ask(*words), words
+
+
+def databases_are_those_of_redis(tried, counts):
+    """What is of one database, and what is of all: also within EXEC, and what INFO says of them."""
+    asked = [("FLUSHALL",), ("MSET", "a", "0", "b", "0"), ("SELECT", "3"), ("SET", "a", "3"), ("DBSIZE",), ("MULTI",), ("GET", "a"), ("SELECT", "0"),
+             ("GET", "a"), ("SELECT", "7"), ("SET", "c", "7"), ("EXEC",), ("GET", "c"), ("DBSIZE",), ("INFO", "keyspace"), ("SCAN", "0"), ("RANDOMKEY",),
+             ("SELECT", "3"), ("FLUSHDB",), ("DBSIZE",), ("RANDOMKEY",), ("SCAN", "0"), ("INFO", "keyspace"), ("SELECT", "0"), ("DBSIZE",), ("MGET", "a", "b"),
+             ("MULTI",), ("SELECT", "7"), ("DISCARD",), ("DBSIZE",), ("SELECT", "7"), ("RESET",), ("DBSIZE",), ("SELECT", "9"), ("FLUSHALL",), ("DBSIZE",),
+             ("SELECT", "0"), ("DBSIZE",), ("SELECT", "7"), ("DBSIZE",), ("INFO", "keyspace"), ("CONFIG", "GET", "databases")]
+    with Redis(tried.work) as peer:
+        own, theirs = tried.server.client(), peer.client()
+        for number, words in enumerate(asked):
+            assert own.ask(*words) == theirs.ask(*words), f"command {number}, {words}"
+
+
+TRIALS = [replies_are_those_of_redis, refused_selects_are_those_of_redis, databases_are_those_of_redis]

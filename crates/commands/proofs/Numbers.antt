@@ -1,10 +1,10 @@
 -- Numbers of 64 bits with a sign, as they are spelled.
-use Rattle.std.proofs.Common.{◌≡◌, ℕ, ℤ, ◌<◌, ◌^◌, FitsSigned, List, length, false, Result, Ok, to_z, of_z, lit<, get_or, take, zero, suc, [], ◌∷◌, sym, ap, ◌∙◌, subst, arith, rules}
+use Rattle.std.proofs.Common.{◌≡◌, ℕ, ℤ, pos, decimal, ◌<◌, ◌^◌, FitsSigned, List, length, false, Result, Ok, to_z, of_z, lit<, get_or, take, zero, suc, [], ◌∷◌, sym, ap, ◌∙◌, subst, arith, rules}
 use Rattle.std.specs.Int.{w64}
 use Rattle.std.specs.Fmt.{signed_decimal}
 use Rattle.std.specs.Str.{IsUtf8}
 use Rattle.std.specs.Str.Parse.{ParsesSigned}
-use Rattle.std.proofs.lemmas.Fmt.{length_signed_le, parse-signed_decimal, IsAscii-signed}
+use Rattle.std.proofs.lemmas.Fmt.{length_signed_le, parse-signed_decimal, IsAscii-signed, signed_decimal_injective}
 use Rattle.std.proofs.lemmas.Str.{IsUtf8-from_ascii}
 use Rattle.std.specs.Str.{bytes_eq}
 use Rattle.std.proofs.lemmas.Slice.Eq.{bytes_eq-Decides}
@@ -13,6 +13,13 @@ use lib.Signed.{mag}
 
 pub small : (z : ℤ) → FitsSigned w64 z → mag z < 2 ^ 63
 small z fits = search rules
+
+pub fits_byte : (d : ℕ) → d < 256 → FitsSigned w64 (pos d)
+fits_byte d lt = search rules
+
+-- what spells a number of a byte spells no other
+pub one_number : (z : ℤ) → FitsSigned w64 z → (d : ℕ) → d < 256 → (bytes : List ℕ) → bytes ≡ signed_decimal z → bytes ≡ decimal d → z ≡ pos d
+one_number z fits d lt bytes is same = signed_decimal_injective z (pos d) (small z fits) (small (pos d) (fits_byte d lt)) (sym is ∙ same)
 
 pub too_long : (bytes : List ℕ) → 20 < length bytes → (z : ℤ) → FitsSigned w64 z → bytes ≡ signed_decimal z → ⊥
 too_long bytes long z fits is =

@@ -152,12 +152,18 @@ pub fn database_in(index: &[u8], last: u8) -> Result<u8, CommandFault<'static>>
         return Err(CommandFault::Number);
     };
     match u8::try_from(number) {
-        Ok(database) if database <= last => Ok(database),
-        _ => Err(out_of_range(number)),
+        Ok(database) => {
+            if database <= last {
+                Ok(database)
+            } else {
+                Err(CommandFault::Database)
+            }
+        }
+        Err(_) => Err(out_of_range(number)),
     }
 }
 
-/// Why a number is none of a database: Redis has databases' numbers of 32 bits.
+/// Why a number that is none of a byte is none of a database: Redis has databases' numbers of 32 bits.
 fn out_of_range(number: i64) -> CommandFault<'static> {
     if i32::try_from(number).is_ok() {
         CommandFault::Database

@@ -7,8 +7,8 @@ use crate::request::{Request, signed_at};
 use crate::token::push_text;
 use case_files::{Line, spelled};
 use commands::{
-    Clock, Time, add_to, is_expired, matches, push_stored, range_of, read, read_stored,
-    whole_number,
+    Clock, Time, add_to, database_in, is_expired, matches, push_stored, range_of, read,
+    read_stored, whole_number,
 };
 use std::alloc::{AllocError, Global};
 
@@ -34,6 +34,18 @@ fn number_or_none(alloc: Global, number: Option<i64>) -> Result<String, AllocErr
     match number {
         Some(number) => number.to_string(alloc),
         None => one_word(alloc, "none"),
+    }
+}
+
+/// The number of the database that a word names, or the error's text.
+fn database(alloc: Global, line: &Line) -> Result<String, Mistake> {
+    let index = line.word(1).ok_or(WORDS)?;
+    let last = u8::try_from(line.number_at(2).ok_or(WORDS)?)
+        .ok()
+        .ok_or(WORDS)?;
+    match database_in(index, last) {
+        Ok(database) => Ok(database.to_string(alloc)?),
+        Err(fault) => Ok(fault.to_string(alloc)?),
     }
 }
 
@@ -99,6 +111,7 @@ pub(crate) fn call(alloc: Global, line: &Line, now: u64) -> Result<String, Mista
             let number = whole_number(line.word(1).ok_or(WORDS)?);
             Ok(number_or_none(alloc, number)?)
         }
+        "database_in" => database(alloc, line),
         "add_to" => sum(alloc, line),
         "range_of" => range(alloc, line),
         "push_stored" => stored(alloc, line),
