@@ -220,8 +220,8 @@ def refused_selects_are_those_of_redis(tried, counts):
 def databases_are_those_of_redis(tried, counts):
     """What is of one database, and what is of all: also within EXEC, and what INFO says of them."""
     asked = [("FLUSHALL",), ("MSET", "a", "0", "b", "0"), ("SELECT", "3"), ("SET", "a", "3"), ("DBSIZE",), ("MULTI",), ("GET", "a"), ("SELECT", "0"),
-             ("GET", "a"), ("SELECT", "7"), ("SET", "c", "7"), ("EXEC",), ("GET", "c"), ("DBSIZE",), ("INFO", "keyspace"), ("SCAN", "0"), ("RANDOMKEY",),
-             ("SELECT", "3"), ("FLUSHDB",), ("DBSIZE",), ("RANDOMKEY",), ("SCAN", "0"), ("INFO", "keyspace"), ("SELECT", "0"), ("DBSIZE",), ("MGET", "a", "b"),
+             ("GET", "a"), ("SELECT", "7"), ("SET", "c", "7"), ("EXEC",), ("GET", "c"), ("DBSIZE",), ("INFO", "keyspace"), ("RANDOMKEY",),
+             ("SELECT", "3"), ("FLUSHDB",), ("DBSIZE",), ("RANDOMKEY",), ("INFO", "keyspace"), ("SELECT", "0"), ("DBSIZE",), ("MGET", "a", "b"),
              ("MULTI",), ("SELECT", "7"), ("DISCARD",), ("DBSIZE",), ("SELECT", "7"), ("RESET",), ("DBSIZE",), ("SELECT", "9"), ("FLUSHALL",), ("DBSIZE",),
              ("SELECT", "0"), ("DBSIZE",), ("SELECT", "7"), ("DBSIZE",), ("INFO", "keyspace"), ("CONFIG", "GET", "databases")]
     with Redis(tried.work) as peer:

@@ -214,5 +214,20 @@ def a_page_of_scan_holds_up_nobody(tried, _):
         return f"an empty server has {pages} pages; {longest} keys at most, {slowest * 1000:.0f} ms at most"
 
 
+def scan_gives_the_keys_of_one_database(tried, _):
+    """Among many more keys of another one, and with patterns: just those of the database, each once."""
+    client, other = tried.server.client(), tried.server.client()
+    assert client.ask("FLUSHALL") == OK and other.ask("SELECT", 3) == OK
+    assert client.ask_all([("SET", f"key:{at}", at) for at in range(5000)]) == [OK] * 5000
+    assert other.ask_all([("SET", f"key:{at}", at) for at in range(4990, 5020)]) == [OK] * 30
+    own, theirs = sorted(scan_all(client)), sorted(scan_all(other))
+    assert own == sorted(b"key:%d" % at for at in range(5000))
+    assert theirs == sorted(b"key:%d" % at for at in range(4990, 5020))
+    assert sorted(scan_all(other, "MATCH", "key:499?")) == sorted(b"key:%d" % at for at in range(4990, 5000))
+    assert all(4990 <= int(other.value("RANDOMKEY")[4:]) < 5020 for _ in range(20))
+    assert other.ask("FLUSHDB") == OK and other.number("DBSIZE") == 0 and scan_all(other) == []
+    assert client.number("DBSIZE") == 5000 and len(scan_all(client)) == 5000
+
+
 TRIALS = [one_order_explains_several_clients, no_increment_is_lost, appends_and_float_sums_are_kept, values_expire,
-          what_expires_goes_though_nobody_meets_it, scan_gives_every_key_that_stays, a_page_of_scan_holds_up_nobody]
+          what_expires_goes_though_nobody_meets_it, scan_gives_every_key_that_stays, scan_gives_the_keys_of_one_database, a_page_of_scan_holds_up_nobody]
