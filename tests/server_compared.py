@@ -230,4 +230,15 @@ def databases_are_those_of_redis(tried, counts):
             assert own.ask(*words) == theirs.ask(*words), f"command {number}, {words}"
 
 
-TRIALS = [replies_are_those_of_redis, refused_selects_are_those_of_redis, databases_are_those_of_redis]
+def as_many_databases_as_are_asked_for(tried, _):
+    """By an option of farserve alone."""
+    for count in () if tried.is_redis else (1, 3, 256):
+        with tried.start("--databases", count) as server:
+            client = server.client()
+            assert client.ask("SELECT", count - 1) == OK and client.ask("SET", "k", "v") == OK
+            assert client.ask("SELECT", count).startswith(b"-ERR DB index is out of range")
+            assert client.strings("CONFIG", "GET", "databases") == [b"databases", b"%d" % count]
+            assert f"db{count - 1}:keys=1,".encode() in client.value("INFO", "keyspace")
+
+
+TRIALS = [replies_are_those_of_redis, refused_selects_are_those_of_redis, databases_are_those_of_redis, as_many_databases_as_are_asked_for]

@@ -325,6 +325,7 @@ def faults_at_the_start(tried, _):
             ("--memory", "64m", "--password-file", "/none"): "--password-file /none", ("--memory", "64m", "word"): "word",
             ("--memory", "64m", "--password-file", empty.name): f"--password-file {empty.name}",
             ("--memory", "64m", "--unix", "x" * 200): "--unix", ("--memory", "64m", "--policy", "other"): "--policy",
+            ("--memory", "64m", "--databases", "0"): "--databases", ("--memory", "64m", "--databases", "257"): "--databases",
         }
         for words, named in wrong.items():
             ran = started(*words)

@@ -231,9 +231,11 @@ impl SharedStatistics {
         if sum > i64::MAX as u64 { 0 } else { sum }
     }
 
-    /// Whether a database has no key, by what the workers last published.
+    /// Whether a database has no key, by what the workers last published. It looks twice: keys that are added and
+    /// removed during the first look may make its sum wrong.
     pub(crate) fn is_empty(&self, database: u8) -> bool {
-        self.counted_in(usize::from(database)) == 0
+        let database = usize::from(database);
+        self.counted_in(database) == 0 && self.counted_in(database) == 0
     }
 
     /// How many keys of a database have a value, by what the workers last published.
