@@ -1,6 +1,6 @@
 -- Which devices may go to another thread: those whose disk may.
 use denote.RattleType.{RattleType}
-use denote.Param.Send.{IsSend, sendable}
+use denote.Param.Send.{IsSend, IsSync, sendable}
 use denote.Param.SendFields.{declared_send, FieldsHave}
 use Rattle.std.proofs.Crossing as vecs
 use Rattle.std.proofs.MapsCrossing as maps
@@ -17,7 +17,11 @@ use Rattle.std.specs.contracts.io.ErrorKind as ErrorKind
 use Rattle.file_device.specs.contracts.device.FileDevice as FileDevice
 use Rattle.file_device.specs.contracts.file_disk.FileDisk as FileDisk
 use Rattle.file_device.specs.contracts.scratch.ScratchFolder as ScratchFolder
-use Rattle.std.specs.contracts.fs.File as File
+use Rattle.file_device.specs.contracts.scratch_file.Share as Share
+use Rattle.file_device.specs.contracts.scratch_file.ScratchFile as ScratchFile
+use Rattle.file_device.specs.contracts.space.IdleFile as IdleFile
+use Rattle.file_device.specs.contracts.space.LaneFiles as LaneFiles
+use Rattle.file_device.specs.contracts.space.ScratchSpace as ScratchSpace
 
 ledger_send : IsSend Ledger.the_row
 ledger_send = search (sendable, vecs.crosses, maps.crosses) depth 20
@@ -52,14 +56,38 @@ device_send K g disk =
     let all : FieldsHave IsSend (FileDevice.the_type K g).parts = (search (sendable, disk), (search sendable, (catalog_send, (search (sendable, vecs.crosses), (failures_send, tt))))) in
     declared_send (FileDevice.the_type K g) all
 
+idle_send : IsSend IdleFile.the_row
+idle_send = search sendable depth 40
+
+lane_files_send : IsSend LaneFiles.the_row
+lane_files_send = let idle = idle_send in search (sendable, vecs.crosses) depth 40
+
+lane_files_sync : IsSync LaneFiles.the_row
+lane_files_sync = let idle = idle_send in search (sendable, vecs.crosses) depth 40
+
+-- a space, which devices share with the thread that cuts files
+pub space_send : IsSend ScratchSpace.the_row
+space_send = let files = lane_files_send in search (sendable, vecs.crosses) depth 40
+
+pub space_sync : IsSync ScratchSpace.the_row
+space_sync = let files = lane_files_sync in search (sendable, vecs.crosses) depth 40
+
+share_send : IsSend Share.the_row
+share_send = let send = space_send in let sync = space_sync in search (sendable, vecs.crosses) depth 40
+
+file_send : IsSend ScratchFile.the_row
+file_send = let share = share_send in search sendable depth 40
+
 folder_send : (R : RattleType) → IsSend R → IsSend (ScratchFolder.the_row R)
 folder_send R handle =
-    let all : FieldsHave IsSend (ScratchFolder.the_type R).parts = (search (sendable, handle), (search sendable, (search (sendable, vecs.crosses) depth 40, tt))) in
+    let share = share_send in
+    let all : FieldsHave IsSend (ScratchFolder.the_type R).parts = (search (sendable, handle), (search sendable, (search (sendable, vecs.crosses) depth 40, (search sendable depth 40, tt)))) in
     declared_send (ScratchFolder.the_type R) all
 
 -- a disk in scratch files, whose handle may
-pub disk_send : (R : RattleType) → IsSend R → IsSend (FileDisk.the_row (ScratchFolder.the_row R) File.the_row)
+pub disk_send : (R : RattleType) → IsSend R → IsSend (FileDisk.the_row (ScratchFolder.the_row R) ScratchFile.the_row)
 disk_send R handle =
     let folder = folder_send R handle in
-    let all : FieldsHave IsSend (FileDisk.the_type (ScratchFolder.the_row R) File.the_row).parts = (search (sendable, folder), (search (sendable, vecs.crosses) depth 40, (search (sendable, vecs.crosses) depth 40, tt))) in
-    declared_send (FileDisk.the_type (ScratchFolder.the_row R) File.the_row) all
+    let file = file_send in
+    let all : FieldsHave IsSend (FileDisk.the_type (ScratchFolder.the_row R) ScratchFile.the_row).parts = (search (sendable, folder), (search (sendable, vecs.crosses) depth 40, (search (sendable, vecs.crosses) depth 40, tt))) in
+    declared_send (FileDisk.the_type (ScratchFolder.the_row R) ScratchFile.the_row) all

@@ -1,6 +1,7 @@
 pub mod Classes
 pub mod Counts
 pub mod Devices
+pub mod Disks
 pub mod Files
 pub mod Folders
 pub mod Honesty

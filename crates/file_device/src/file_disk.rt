@@ -1,5 +1,6 @@
 //! A disk in files, one for each class of slots.
 ghost use Rattle.std.specs.Prelude.{◌≡◌, ◌≤◌, ◌<◌, ◌+◌, ◌*◌, ◌++◌, ◌^◌, ℕ, List, length, take, IsTrue, OnOk, OnErr};
+ghost use Rattle.file_device.specs.Disks.{slots_in};
 ghost use Rattle.file_device.specs.Files.{byte_of, bytes_from, slot_bytes, IsOutside};
 ghost use Rattle.file_device.specs.declared.slot.Slot.{Slot};
 
@@ -39,8 +40,12 @@ impl<D: SlotFolder> FileDisk<D> {
         Ok(disk)
     }
 
-    /// How long all files are together, in bytes. That includes parts that were never written. `Io`
-    /// with `Step::Read` if the system does not say how long one is.
+    pub(crate) fn folder(&self) -> &D {
+        &self.folder
+    }
+
+    /// How long all files are together, in bytes. That includes parts that were never written. The error is
+    /// that of a file.
     pub fn len(&self) -> Result<u64, DiskFault> {
         let mut sum = 0u64;
         for place in &self.files {
@@ -51,16 +56,59 @@ impl<D: SlotFolder> FileDisk<D> {
         Ok(sum)
     }
 
-    /// Makes the file of the class if there is none.
+    /// By how many bytes the file of the slot's class becomes longer if the whole slot is written. Makes the
+    /// file if there is none. The error is the folder's, or that of a file.
+    pub fn growth(&mut self, slot: Slot) -> Result<u64, DiskFault>
+        requires known { slot.class < 21 }
+        ensures same { (other : Slot) → slots_in D.File.byte self.new other
+            ≡ slots_in D.File.byte self.old other }
+    {
+        self.make(slot.class)?;
+        let end = slot.offset() + slot.bytes();
+        match &self.files[slot.class as usize] {
+            Some(file) => Ok(end.saturating_sub(file.len()?)),
+            None => Ok(end),
+        }
+    }
+
+    /// Makes the file of the class if there is none, and makes it ready for a write.
     fn make(&mut self, class: u8) -> Result<(), DiskFault>
         requires { class < 21 }
         ensures { (slot : Slot) → slot_bytes D.File.byte self.new.files slot
             ≡ slot_bytes D.File.byte self.old.files slot }
     {
-        if self.files[class as usize].is_none() {
-            self.files[class as usize] = Some(self.folder.make(class)?);
+        make_in(&mut self.folder, &mut self.files, class)
+    }
+}
+
+/// Makes the file of the class if there is none, and makes it ready for a write.
+fn make_in<D: SlotFolder>(
+    folder: &mut D,
+    files: &mut [Option<D::File>; CLASSES],
+    class: u8,
+) -> Result<(), DiskFault>
+    requires { class < 21 }
+    ensures same { (slot : Slot) → slot_bytes D.File.byte files.new slot
+        ≡ slot_bytes D.File.byte files.old slot }
+{
+    make_at(folder, &mut files[class as usize], class)
+}
+
+/// The same at the place of the class.
+fn make_at<D: SlotFolder>(
+    folder: &mut D,
+    place: &mut Option<D::File>,
+    class: u8,
+) -> Result<(), DiskFault>
+    requires { class < 21 }
+    ensures same { (at : ℕ) → byte_of D.File.byte place.new at ≡ byte_of D.File.byte place.old at }
+{
+    match place {
+        Some(file) => folder.ready(file),
+        None => {
+            *place = Some(folder.make(class)?);
+            Ok(())
         }
-        Ok(())
     }
 }
 

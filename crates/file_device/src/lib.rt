@@ -21,8 +21,10 @@ mod opening;
 mod owners;
 mod place;
 mod scratch;
+mod scratch_file;
 mod slot;
 mod slot_file;
+mod space;
 
 pub use class::CLASSES;
 pub use device::FileDevice;
@@ -32,5 +34,7 @@ pub use file_disk::FileDisk;
 pub use folders::{FolderFault, open_lanes};
 pub use memory::MemoryDisk;
 pub use scratch::ScratchFolder;
+pub use scratch_file::ScratchFile;
 pub use slot::Slot;
 pub use slot_file::{SlotFile, SlotFolder};
+pub use space::ScratchSpace;

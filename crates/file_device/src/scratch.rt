@@ -28,26 +28,33 @@
 //! # A full disk
 //!
 //! A write that the system refuses returns `Io` with `Step::Write`. For example, the disk is full or
-//! the file is as long as the process may make it. A part of the bytes may be in the slot then. A file
-//! gets shorter only by `clear`, which cuts it to no bytes.
+//! the file is as long as the process may make it. A part of the bytes may be in the slot then.
+//!
+//! # When a file gets shorter
+//!
+//! A file is cut only after its class was cleared. A disk of `FileDisk::open` cuts it to no bytes at once. A
+//! disk of `FileDisk::open_in` shares a `ScratchSpace` with others: there the file is idle, and keeps its
+//! bytes until the next write of the class, or until it is cut. If the disk is full, idle files of the space
+//! are cut before a write fails.
 //!
 //! # A damaged file
 //!
 //! No clause can say that a file returns what was written, so `HONEST` of a file is false. A file that is
 //! too short is `Io` with `Step::Read`. A `FileDevice` finds changed bytes by their digest, and returns
 //! `Failed`.
-ghost use Rattle.std.specs.Prelude.{false};
-
 use crate::names::{BEFORE, BEHIND, is_scratch};
-use crate::slot_file::{SlotFile, SlotFolder};
+use crate::scratch_file::{ScratchFile, Share};
+use crate::slot_file::SlotFolder;
+use crate::space::ScratchSpace;
 use crate::{DiskFault, FileDisk, Step};
 use std::alloc::Global;
 use std::fs;
 use std::fs::{File, OpenOptions};
 use std::io::ErrorKind;
-use std::os::unix::fs::{FileExt, OpenOptionsExt};
+use std::os::unix::fs::OpenOptionsExt;
 use std::random::RandomSource;
 use std::rt::Files;
+use std::sync::Arc;
 
 /// A folder in which a disk has scratch files without names. The head of this module says what happens
 /// to them.
@@ -57,10 +64,13 @@ pub struct ScratchFolder<R> {
     alloc: Global,
     // The folder, and how the names of the files begin.
     stem: String,
+    // None if a file is cut at once when its class has no object.
+    share: Option<Share>,
 }
 
 impl<R: Files<File = File> + AllocGlobal + RandomSource + Clone + Drop> FileDisk<ScratchFolder<R>> {
-    /// An empty disk in the folder, for the lane of this number.
+    /// An empty disk in the folder, for the lane of this number. The file of a class without objects is cut
+    /// at once.
     ///
     /// It removes the names of scratch files that killed processes left in the folder, as far as it
     /// may. It makes the file of class 0 too, so that a folder that can't be used is found here.
@@ -68,19 +78,62 @@ impl<R: Files<File = File> + AllocGlobal + RandomSource + Clone + Drop> FileDisk
     /// `Memory` if an allocation fails. `Io` if the system gives no random bytes (`Step::Random`), if a
     /// file can't be made (`Step::Open`), or if its name can't be removed (`Step::Unlink`).
     pub fn open(rt: R, folder: &str, lane: u32) -> Result<Self, DiskFault> {
-        let alloc = rt.alloc();
-        remove_left(&rt, folder)?;
-        let mut token = [0; 8];
-        if let Err(error) = rt.fill_bytes(&mut token) {
-            return Err(DiskFault::Io(Step::Random, error.kind()));
+        open_sharing(rt, folder, lane, None)
+    }
+
+    /// The same disk, but the file of a class without objects is idle, and keeps its bytes. The space counts
+    /// the files of this lane. Each other disk of the space has another lane, below the space's number of
+    /// lanes.
+    pub fn open_in(
+        rt: R,
+        folder: &str,
+        lane: u32,
+        space: Arc<ScratchSpace>,
+    ) -> Result<Self, DiskFault> {
+        open_sharing(rt, folder, lane, Some(Share { space, lane }))
+    }
+}
+
+fn open_sharing<R>(
+    rt: R,
+    folder: &str,
+    lane: u32,
+    share: Option<Share>,
+) -> Result<FileDisk<ScratchFolder<R>>, DiskFault>
+where
+    R: Files<File = File> + AllocGlobal + RandomSource + Clone + Drop,
+{
+    let alloc = rt.alloc();
+    remove_left(&rt, folder)?;
+    let mut token = [0; 8];
+    if let Err(error) = rt.fill_bytes(&mut token) {
+        return Err(DiskFault::Io(Step::Random, error.kind()));
+    }
+    let token = u64::from_le_bytes(token);
+    let folder = ScratchFolder {
+        rt,
+        alloc,
+        stem: format!(in alloc; "{folder}/{BEFORE}{token:016x}-{lane}-")?,
+        share,
+    };
+    FileDisk::new(alloc, folder)
+}
+
+impl<R: Files<File = File> + Drop> FileDisk<ScratchFolder<R>> {
+    /// How many bytes the files of the disk's lane have in its space, also those without objects. 0 if it
+    /// has no space.
+    pub fn bytes(&self) -> u64 {
+        match &self.folder().share {
+            Some(share) => share.space.bytes_of(share.lane),
+            None => 0,
         }
-        let token = u64::from_le_bytes(token);
-        let folder = ScratchFolder {
-            rt,
-            alloc,
-            stem: format!(in alloc; "{folder}/{BEFORE}{token:016x}-{lane}-")?,
-        };
-        FileDisk::new(alloc, folder)
+    }
+
+    /// Cuts this many bytes off files of the disk that have no object, or as many as they have.
+    pub fn give_back(&self, bytes: u64) {
+        if let Some(share) = &self.folder().share {
+            share.space.give_back(share.lane, bytes);
+        }
     }
 }
 
@@ -136,45 +189,46 @@ fn open_unnamed<R: Files<File = File>>(rt: &R, name: &str) -> Result<File, DiskF
     }
 }
 
-impl<R: Files<File = File> + Drop> SlotFolder for ScratchFolder<R> {
-    type File = File;
-
-    fn make(&mut self, class: u8) -> Result<File, DiskFault> {
+impl<R: Files<File = File> + Drop> ScratchFolder<R> {
+    /// Gives the file an idle one of its class, or a new one.
+    fn fill(&self, file: &mut ScratchFile) -> Result<(), DiskFault> {
+        if let Some(share) = &self.share {
+            if let Some(idle) = share.space.take(share.lane, file.class) {
+                file.end = idle.bytes;
+                file.file = Some(idle.file);
+                return Ok(());
+            }
+        }
+        let class = file.class;
         let name = format!(in self.alloc; "{}{class}{BEHIND}", self.stem)?;
-        open_unnamed(&self.rt, name.as_str())
+        file.end = 0;
+        file.file = Some(open_unnamed(&self.rt, name.as_str())?);
+        Ok(())
     }
 }
 
-impl SlotFile for File {
-    ghost HONEST = { false };
+impl<R: Files<File = File> + Drop> SlotFolder for ScratchFolder<R> {
+    type File = ScratchFile;
 
-    ghost byte = { λ file place. 0 };
-
-    fn write(&mut self, bytes: &[u8], at: u64) -> Result<(), DiskFault> {
-        match self.write_all_at(bytes, at) {
-            Ok(()) => Ok(()),
-            Err(error) => Err(DiskFault::Io(Step::Write, error.kind())),
-        }
+    fn make(&mut self, class: u8) -> Result<ScratchFile, DiskFault> {
+        let share = match &self.share {
+            Some(share) => Some(share.again()?),
+            None => None,
+        };
+        let mut file = ScratchFile {
+            class,
+            file: None,
+            end: 0,
+            share,
+        };
+        self.fill(&mut file)?;
+        Ok(file)
     }
 
-    fn read(&self, buffer: &mut [u8], at: u64) -> Result<(), DiskFault> {
-        match self.read_exact_at(buffer, at) {
-            Ok(()) => Ok(()),
-            Err(error) => Err(DiskFault::Io(Step::Read, error.kind())),
+    fn ready(&mut self, file: &mut ScratchFile) -> Result<(), DiskFault> {
+        if file.file.is_some() {
+            return Ok(());
         }
-    }
-
-    fn clear(&mut self) -> Result<(), DiskFault> {
-        match self.set_len(0) {
-            Ok(()) => Ok(()),
-            Err(error) => Err(DiskFault::Io(Step::Cut, error.kind())),
-        }
-    }
-
-    fn len(&self) -> Result<u64, DiskFault> {
-        match self.metadata() {
-            Ok(metadata) => Ok(metadata.len()),
-            Err(error) => Err(DiskFault::Io(Step::Read, error.kind())),
-        }
+        self.fill(file)
     }
 }

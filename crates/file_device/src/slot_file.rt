@@ -27,10 +27,11 @@ pub trait SlotFile: Drop {
         ensures { IsTrue HONEST
             → OnOk result (buffer.new ≡ bytes_from (byte self.now) at (length buffer.old)) };
 
-    /// Cuts the file to no bytes, so that it takes no room.
+    /// Releases all bytes. The file may give them away, and needs its folder's `ready` before the next write
+    /// then.
     fn clear(&mut self) -> Result<(), DiskFault>;
 
-    /// How many bytes the file has, from the first one to the last one that was written.
+    /// How many bytes the file has, at least up to the last one that was written.
     fn len(&self) -> Result<u64, DiskFault>;
 }
 
@@ -43,4 +44,8 @@ pub trait SlotFolder: Drop {
     fn make(&mut self, class: u8) -> Result<Self::File, DiskFault>
         requires { class < 21 }
         ensures { IfOk result (λ file. (place : ℕ) → Self.File.byte file place ≡ 0) };
+
+    /// Makes a file of this folder ready for a write, if it gave its bytes away when it was cleared.
+    fn ready(&mut self, file: &mut Self::File) -> Result<(), DiskFault>
+        ensures { (place : ℕ) → Self.File.byte file.new place ≡ Self.File.byte file.old place };
 }

@@ -3,8 +3,8 @@
 use crate::calls::{BrokenDevice, call};
 use crate::disks::{Disks, FlawedDisk, flaw_of};
 use crate::recorded_files::{Notes, Recorded, RecordedFolder};
-use crate::stores;
 use crate::world::{World, run, shown};
+use crate::{kept_files, stores};
 use anyhow::{Result, bail};
 use case_files::{Line, Playing};
 use far_device::{CannedDevice, Device, FakeDevice, FaultyDevice, LyingDevice, WatchedDevice};
@@ -152,6 +152,9 @@ fn in_memory<R: RandomSource>(
 
 /// In scratch files, in the system's folder for such.
 fn in_files(rt: HostRuntime, alloc: Global, first: &Line, playing: &mut Playing<'_>) -> Result<()> {
+    if has(first, "kept") {
+        return kept_files::play(rt, alloc, first, playing);
+    }
     let folder = env::temp_dir(&rt)?;
     let device = FileDevice::open(rt, folder.as_str(), 3)?;
     if is_wrapped(first) {

@@ -8,6 +8,7 @@ mod devices;
 mod disks;
 mod encodings;
 mod folders;
+mod kept_files;
 mod keyed_digests;
 mod logs;
 mod many;

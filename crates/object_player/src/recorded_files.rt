@@ -123,6 +123,10 @@ impl SlotFolder for RecordedFolder {
             notes,
         })
     }
+
+    fn ready(&mut self, _file: &mut RecordedFile) -> std::result::Result<(), DiskFault> {
+        Ok(())
+    }
 }
 
 /// A device on a disk in recorded files.
