@@ -14,6 +14,7 @@ from pathlib import Path
 import server_clients
 import server_compared
 import server_ends
+import server_files
 import server_guards
 import server_keys
 import server_limits
@@ -85,8 +86,8 @@ def main():
     resource.setrlimit(resource.RLIMIT_NOFILE, (files, files))
     # Threads here wait for each other often, and a switch is 5 ms else.
     sys.setswitchinterval(1e-4)
-    parts = PARTS + [server_ends, server_room, server_slots, server_limits, server_memory, server_reasons, server_refused, server_renewal, server_spread,
-                     server_stores, server_log] * (not is_redis)
+    parts = PARTS + [server_ends, server_files, server_room, server_slots, server_limits, server_memory, server_reasons, server_refused, server_renewal,
+                     server_spread, server_stores, server_log] * (not is_redis)
     trials = taken([it for part in parts for it in part.TRIALS if it.__name__ in names or not names], words)
     tried = Tried(work, is_redis)
     counts = dict(LONG if is_long else SHORT)

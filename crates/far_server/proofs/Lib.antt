@@ -12,3 +12,4 @@ mod Executing
 mod Passing
 mod Stepping
 mod Terms
+pub mod Sent

@@ -1,5 +1,5 @@
 //! The sweep of a server: it removes expired values that no client meets. It also evicts other keys, if
-//! memory is full and the policy allows it.
+//! memory is full and the policy allows it, and it cuts scratch files that no object needs any more.
 //!
 //! # A session for the sweep
 //!
@@ -13,6 +13,12 @@
 //! that a round has met no value that may still expire and could read every bucket, and that no value with a
 //! deadline was set since it began. Then there is nothing to wait for, and no further round begins until one
 //! is set.
+//!
+//! # Files in pieces
+//!
+//! To free the blocks of a long file takes the system a while. So a turn cuts off 1 MiB at most, and a file is
+//! cut only after it was without objects for some seconds. The sweep has no device's lock then, and there is
+//! no sweep while a map is renewed.
 ghost use Rattle.std.specs.Prelude.{◌<◌, Bool, true};
 ghost use Rattle.version_words.specs.Views.{Goes};
 ghost use Rattle.far_server.specs.Looks.{WasLookedAt};
@@ -248,6 +254,28 @@ fn sparing_turn<S: Calls<Blob>, C: Clock, R: Wait>(
     turn(context, me, hand, workspace)
 }
 
+/// Seconds of a clock that never goes back; 0 if it can't be read.
+fn seconds<C: Clock>(clock: &C) -> u64 {
+    match clock.monotonic() {
+        Ok(since) => since.as_secs(),
+        Err(_) => 0,
+    }
+}
+
+/// Cuts a piece off a scratch file that no object needs. Such files get older if the second of the clock is
+/// not `last`. Returns the second.
+fn cut_files<C: Clock, R>(context: &ServerContext<'_, C, R>, last: u64) -> u64 {
+    let Some(files) = context.usage.files() else {
+        return last;
+    };
+    files.cut();
+    let now = seconds(context.clock);
+    if now != last {
+        files.age();
+    }
+    now
+}
+
 /// Sweeps until all workers have left the map.
 pub(crate) fn sweep<S: Calls<Blob>, C: Clock, R: Wait>(
     context: &ServerContext<'_, C, R>,
@@ -259,6 +287,7 @@ pub(crate) fn sweep<S: Calls<Blob>, C: Clock, R: Wait>(
     workspace.begin(context.shared_statistics.told_by(context.worker));
     workspace.key_counts = context.shared_statistics.keys_told_by(context.worker);
     let mut hand = Hand::new(context.alloc, me.buckets(), context.settings.map.frames);
+    let mut second = 0;
     for _ in context.rt.forever() {
         if !context.shared_statistics.is_serving() {
             break;
@@ -266,6 +295,7 @@ pub(crate) fn sweep<S: Calls<Blob>, C: Clock, R: Wait>(
         let goes_on = sparing_turn(context, me, &mut hand, &mut workspace);
         workspace.tell(context, &me.traffic());
         if !goes_on {
+            second = cut_files(context, second);
             workspace
                 .bed
                 .park_timeout(context.rt, Duration::from_millis(NAP));

@@ -2,9 +2,11 @@
 //! contract claims anything about it.
 
 use crate::context::milliseconds;
+use file_device::ScratchSpace;
 use server_commands::{DEVICE_REASONS, DeviceReason};
 use std::array;
 use std::rt::Clock;
+use std::sync::Arc;
 use std::sync::atomic::{AtomicU64, Ordering};
 
 /// How many milliseconds old a failure may be that is taken for the reason why no device takes an object.
@@ -20,8 +22,12 @@ const LATELY: u64 = 1_000;
 /// to the sum.
 ///
 /// A device also reports each call that has failed, whoever made it: a worker, the sweep or the evictor.
+///
+/// Devices in scratch files don't report bytes: their space counts them.
 #[derive(Drop)]
 pub struct FarUsage {
+    /// The space of the devices' scratch files. None if there are no such devices.
+    files: Option<Arc<ScratchSpace>>,
     objects: AtomicU64,
     lost: AtomicU64,
     bytes: AtomicU64,
@@ -46,7 +52,18 @@ fn tell(sum: &AtomicU64, before: u64, after: u64) {
 impl FarUsage {
     /// For devices that are empty and not at rest: all sums are 0.
     pub fn new() -> Self {
+        FarUsage::of(None)
+    }
+
+    /// The same for devices in scratch files, which share this space. The sweep cuts the files that no object
+    /// needs.
+    pub fn over(files: Arc<ScratchSpace>) -> Self {
+        FarUsage::of(Some(files))
+    }
+
+    fn of(files: Option<Arc<ScratchSpace>>) -> Self {
         FarUsage {
+            files,
             objects: AtomicU64::new(0),
             lost: AtomicU64::new(0),
             bytes: AtomicU64::new(0),
@@ -132,8 +149,21 @@ impl FarUsage {
         self.lost.load(Ordering::SeqCst)
     }
 
-    /// How many bytes the slots on devices take. Slots that have no object any more are counted too.
+    /// How many bytes the slots on devices take. Slots that have no object any more are counted too, until
+    /// their file is cut.
     pub fn bytes(&self) -> u64 {
-        self.bytes.load(Ordering::SeqCst)
+        let told = self.bytes.load(Ordering::SeqCst);
+        match self.files() {
+            Some(files) => told.saturating_add(files.bytes()),
+            None => told,
+        }
+    }
+
+    /// The space of the devices' scratch files.
+    pub(crate) fn files(&self) -> Option<&ScratchSpace> {
+        match &self.files {
+            Some(files) => Some(files),
+            None => None,
+        }
     }
 }

@@ -6,6 +6,7 @@ use denote.Param.SendFields.{declared_send, FieldsHave}
 use Rattle.std.proofs.Crossing as vecs
 use Rattle.file_device.specs.declared.disk.Disk.{Ghosts}
 use Rattle.std.proofs.MapsCrossing as maps
+use Rattle.far_server.proofs.Sent.{usage_sync}
 use Rattle.file_device.proofs.Sent.{device_send}
 use Rattle.resp_device.proofs.Sent as resp
 use Rattle.std.specs.contracts.fs.File as File
@@ -21,6 +22,7 @@ use Rattle.farserve.specs.contracts.stores.StoreDevice as StoreDevice
 pub counted_send : (κ : NamedLft) (K C : RattleType) (g : Ghosts K.Denot) → IsSend K → IsSend C → IsSend (CountedDevice.the_row κ K C g)
 counted_send κ K C g disk clock =
     let device = device_send K g disk in
+    let usage = usage_sync in
     let all : FieldsHave IsSend (CountedDevice.the_type κ K C g).parts = (search (sendable, device), (search (sendable, clock), (search (sendable, vecs.crosses) depth 40, tt))) in
     declared_send (CountedDevice.the_type κ K C g) all
 
@@ -33,6 +35,7 @@ link_send = let ends = ends_send in search (sendable, vecs.crosses) depth 40
 pub stored_send : (κ : NamedLft) → IsSend (StoreDevice.the_row κ)
 stored_send κ =
     let device = resp.device_send Link.the_row link_send in
+    let usage = usage_sync in
     let all : FieldsHave IsSend (StoreDevice.the_type κ).parts = (search (sendable, device), (search (sendable, vecs.crosses, maps.crosses) depth 40, (search (sendable, vecs.crosses) depth 40, tt))) in
     declared_send (StoreDevice.the_type κ) all
 
@@ -47,5 +50,6 @@ resting_send κ C clock =
     let inner = stored_send κ in
     let rest = rest_send in
     let reason = reason_send in
+    let usage = usage_sync in
     let all : FieldsHave IsSend (RestingStore.the_type κ C).parts = (search (sendable, inner), (search (sendable, clock), (search (sendable, rest), (search (sendable, rest), (search (sendable, reason), (search (sendable, reason), (search sendable, (search (sendable, vecs.crosses) depth 40, tt)))))))) in
     declared_send (RestingStore.the_type κ C) all

@@ -1,73 +1,92 @@
-//! A disk whose slots take a bounded number of bytes.
+//! A disk that takes a bounded number of bytes.
 ghost use Rattle.std.specs.Prelude.{◌≡◌, ◌<◌};
+ghost use Rattle.file_device.specs.declared.slot.Slot.{Slot};
 
-use file_device::{CLASSES, Disk, DiskFault, Slot, Step};
+use file_device::{Disk, DiskFault, FileDisk, MemoryDisk, ScratchFolder, Slot, Step};
+use std::fs::File;
 use std::io::ErrorKind;
+use std::rt::Files;
 
-/// Something that reports how many bytes its slots take. No contract states anything about it.
-pub trait Measured {
-    /// Bytes of the slots that count.
-    fn used(&self) -> u64;
+/// A disk that reports how many bytes it takes. No contract states anything about the numbers.
+pub trait Measured: Disk {
+    /// How many bytes the disk takes, also for slots that have no object any more.
+    fn bytes(&self) -> u64;
+
+    /// By how many bytes the disk becomes larger if the whole slot is written. All slots stay.
+    fn growth(&mut self, slot: Slot) -> Result<u64, DiskFault>
+        requires known { slot.class < 21 }
+        ensures same { (other : Slot) → Self.kept self.new other ≡ Self.kept self.old other };
+
+    /// Gives back this many bytes of classes that have no object, or as many as they have.
+    fn give_back(&self, bytes: u64);
 }
 
-/// A disk with a limit. A slot is refused if the slots of all classes would then take more than `most` bytes.
+impl<R: Files<File = File> + Drop> Measured for FileDisk<ScratchFolder<R>> {
+    fn bytes(&self) -> u64 {
+        FileDisk::bytes(self)
+    }
+
+    fn growth(&mut self, slot: Slot) -> Result<u64, DiskFault> {
+        FileDisk::growth(self, slot)
+    }
+
+    fn give_back(&self, bytes: u64) {
+        FileDisk::give_back(self, bytes);
+    }
+}
+
+/// It is measured only under a limit of 0, and has no bytes then.
+impl Measured for MemoryDisk {
+    fn bytes(&self) -> u64 {
+        0
+    }
+
+    fn growth(&mut self, slot: Slot) -> Result<u64, DiskFault> {
+        Ok(slot.bytes())
+    }
+
+    fn give_back(&self, _bytes: u64) {}
+}
+
+/// A disk with a limit. A write is refused if the disk would then take more than `most` bytes.
 ///
-/// A slot counts from its first write until its class is cleared, as in a file. A class counts up to its
-/// highest slot that was written. A write beyond the limit returns `DiskFault::Io` with
-/// `ErrorKind::StorageFull`, and is not passed on.
+/// What counts is what the disk takes: slots in use, free slots, and classes without objects that have not
+/// been cut. Before a write is refused, such classes give back what is missing. A write beyond the limit
+/// returns `DiskFault::Io` with `ErrorKind::StorageFull`, and is not passed on.
 #[derive(Drop)]
 pub struct BoundedDisk<K: Disk> {
     disk: K,
     most: u64,
-    used: u64,
-    /// For each class, the number after its highest slot that was written.
-    ends: [u32; CLASSES],
 }
 
-impl<K: Disk> BoundedDisk<K> {
+impl<K: Measured> BoundedDisk<K> {
     /// A bounded disk over one that keeps nothing. `most` is in bytes.
     pub fn new(disk: K, most: u64) -> Self {
-        BoundedDisk {
-            disk,
-            most,
-            used: 0,
-            ends: [0; CLASSES],
-        }
+        BoundedDisk { disk, most }
     }
 
-    /// Counts the bytes up to this slot if they are within the limit, and returns whether they are.
-    fn take(&mut self, slot: Slot) -> bool
+    /// Whether the slot may be written within the limit. If not, it first has classes without objects give
+    /// back what is missing.
+    fn has_room(&mut self, slot: Slot) -> Result<bool, DiskFault>
         requires { slot.class < 21 }
-        ensures { self.new.disk ≡ self.old.disk }
+        ensures { (other : Slot) → K.kept self.new.disk other ≡ K.kept self.old.disk other }
     {
-        let end = self.ends[slot.class as usize];
-        if slot.number < end {
-            return true;
+        let growth = self.disk.growth(slot)?;
+        let most = self.most.saturating_sub(growth);
+        if growth > 0 && self.disk.bytes() > most {
+            self.disk.give_back(self.disk.bytes().saturating_sub(most));
         }
-        let more = u64::from(slot.number - end).saturating_add(1);
-        let used = self.used.saturating_add(more.saturating_mul(slot.bytes()));
-        if used > self.most {
-            return false;
-        }
-        self.used = used;
-        self.ends[slot.class as usize] = slot.number.saturating_add(1);
-        true
+        Ok(growth == 0 || (growth <= self.most && self.disk.bytes() <= most))
     }
 }
 
-impl<K: Disk> Measured for BoundedDisk<K> {
-    fn used(&self) -> u64 {
-        self.used
-    }
-}
-
-impl<K: Disk> Disk for BoundedDisk<K> {
+impl<K: Measured> Disk for BoundedDisk<K> {
     ghost HONEST = { K.HONEST };
 
     ghost kept = { λ bounded slot. K.kept bounded.disk slot };
 
     fn write_slot(&mut self, slot: Slot, bytes: &[u8]) -> Result<(), DiskFault> {
-        if !self.take(slot) {
+        if !self.has_room(slot)? {
             return Err(DiskFault::Io(Step::Write, ErrorKind::StorageFull));
         }
         self.disk.write_slot(slot, bytes)
@@ -77,16 +96,10 @@ impl<K: Disk> Disk for BoundedDisk<K> {
         self.disk.read_slot(slot, len, out)
     }
 
-    // If a class can't be cut, it keeps its bytes, and its slots are written again. No fault is returned,
-    // because it would end a server that is about to renew its map.
+    // If a class can't be released, it keeps its bytes, and its slots are written again. No fault is
+    // returned, because it would end a server that is about to renew its map.
     fn clear(&mut self, class: u8) -> Result<(), DiskFault> {
-        if self.disk.clear(class).is_err() {
-            return Ok(());
-        }
-        let each = Slot { class, number: 0 }.bytes();
-        let taken = u64::from(self.ends[class as usize]).saturating_mul(each);
-        self.used = self.used.saturating_sub(taken);
-        self.ends[class as usize] = 0;
+        let _ = self.disk.clear(class);
         Ok(())
     }
 }

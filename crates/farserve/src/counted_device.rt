@@ -1,16 +1,15 @@
-//! A device that reports how many objects it keeps, how many bytes their slots take, and why its calls fail.
+//! A device that reports how many objects it keeps, and why its calls fail.
 ghost use Rattle.std.specs.Prelude.{◌≡◌};
 ghost use Rattle.file_device.specs.Honesty.{is_honest_over};
 
-use crate::bounded_disk::Measured;
 use crate::reasons::reason_of_file;
 use far_device::{Device, DeviceFault};
 use far_server::FarUsage;
 use file_device::{Disk, FileDevice};
 use std::rt::Clock;
 
-/// A device over slots that passes each call on. After it, it reports to `usage` by how much its objects and
-/// their bytes have changed, and why the call failed, if it did.
+/// A device over slots that passes each call on. After it, it reports to `usage` by how much the number of its
+/// objects has changed, and why the call failed, if it did. The bytes of its files are counted by their space.
 #[derive(Drop)]
 pub struct CountedDevice<'a, K: Disk, C> {
     inner: FileDevice<K>,
@@ -18,14 +17,7 @@ pub struct CountedDevice<'a, K: Disk, C> {
     usage: &'a FarUsage,
 }
 
-/// What a device keeps: how many objects, and how many bytes their slots take.
-#[derive(Clone, Copy)]
-struct Kept {
-    objects: u64,
-    bytes: u64,
-}
-
-impl<'a, K: Disk + Measured, C: Clock> CountedDevice<'a, K, C> {
+impl<'a, K: Disk, C: Clock> CountedDevice<'a, K, C> {
     /// A counted device over an empty one, of which nothing was reported yet.
     pub fn new(inner: FileDevice<K>, clock: C, usage: &'a FarUsage) -> Self
         ensures { result.inner ≡ inner }
@@ -37,18 +29,13 @@ impl<'a, K: Disk + Measured, C: Clock> CountedDevice<'a, K, C> {
         }
     }
 
-    fn kept(&self) -> Kept {
-        Kept {
-            objects: self.inner.len() as u64,
-            bytes: self.inner.disk().used(),
-        }
+    fn objects(&self) -> u64 {
+        self.inner.len() as u64
     }
 
-    /// Reports what has changed since the device kept this.
-    fn tell(&self, before: Kept) {
-        let now = self.kept();
-        self.usage.tell_objects(before.objects, now.objects);
-        self.usage.tell_bytes(before.bytes, now.bytes);
+    /// Reports how many objects there are now. There were `before` when it last reported.
+    fn tell(&self, before: u64) {
+        self.usage.tell_objects(before, self.objects());
     }
 
     /// Reports why a call failed, if it did. Memory that was refused is no failure of the device.
@@ -60,7 +47,7 @@ impl<'a, K: Disk + Measured, C: Clock> CountedDevice<'a, K, C> {
     }
 }
 
-impl<K: Disk + Measured, C: Clock + Drop> Device for CountedDevice<'_, K, C> {
+impl<K: Disk, C: Clock + Drop> Device for CountedDevice<'_, K, C> {
     ghost use Rattle.file_device.specs.Devices.{labels_in, state_in};
 
     ghost state = { λ device. state_in device.inner };
@@ -70,7 +57,7 @@ impl<K: Disk + Measured, C: Clock + Drop> Device for CountedDevice<'_, K, C> {
     ghost labels = { λ device. labels_in device.inner };
 
     fn construct(&mut self) -> Result<(), DeviceFault> {
-        let before = self.kept();
+        let before = self.objects();
         let result = self.inner.construct();
         self.tell(before);
         self.tell_fault(result.err());
@@ -78,7 +65,7 @@ impl<K: Disk + Measured, C: Clock + Drop> Device for CountedDevice<'_, K, C> {
     }
 
     fn write(&mut self, id: u64, bytes: &[u8]) -> Result<(), DeviceFault> {
-        let before = self.kept();
+        let before = self.objects();
         let result = self.inner.write(id, bytes);
         self.tell(before);
         self.tell_fault(result.err());
@@ -92,7 +79,7 @@ impl<K: Disk + Measured, C: Clock + Drop> Device for CountedDevice<'_, K, C> {
     }
 
     fn remove(&mut self, id: u64) -> Result<bool, DeviceFault> {
-        let before = self.kept();
+        let before = self.objects();
         let result = self.inner.remove(id);
         self.tell(before);
         self.tell_fault(result.err());
@@ -100,7 +87,7 @@ impl<K: Disk + Measured, C: Clock + Drop> Device for CountedDevice<'_, K, C> {
     }
 
     fn write_labelled(&mut self, id: u64, label: u32, bytes: &[u8]) -> Result<bool, DeviceFault> {
-        let before = self.kept();
+        let before = self.objects();
         let result = self.inner.write_labelled(id, label, bytes);
         self.tell(before);
         self.tell_fault(result.err());

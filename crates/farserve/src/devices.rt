@@ -1,13 +1,15 @@
 //! Opens the devices of a server without a far store: over scratch files in folders, or over nothing.
+ghost use Rattle.std.specs.Prelude.{◌≤◌};
 
 use crate::bounded_disk::BoundedDisk;
 use crate::counted_device::CountedDevice;
 use crate::fault::FarserveFault;
 use far_server::FarUsage;
-use file_device::{DiskFault, FileDevice, FileDisk, MemoryDisk, ScratchFolder};
+use file_device::{DiskFault, FileDevice, FileDisk, MemoryDisk, ScratchFolder, ScratchSpace};
 use std::hash::RandomState;
 use std::random::RandomSource;
 use std::rt::Clock;
+use std::sync::Arc;
 
 /// The most devices besides the one for renewals, unless there are more folders.
 pub const DEVICES: u32 = 4;
@@ -27,6 +29,41 @@ pub fn keys_of<'f, R: RandomSource>(rt: &R) -> Result<RandomState, FarserveFault
     }
 }
 
+/// How many devices there are in these folders, besides the one for renewals: `count`, or one for each folder
+/// if that is more.
+fn devices_in(folders: &[&str], count: u32) -> u32
+    requires { count ≤ 4 }
+    ensures { result ≤ 64 }
+{
+    count.max(folders.len().min(64) as u32)
+}
+
+/// The space of the scratch files of `open_far`. `FarserveFault::Memory` is returned if an allocation fails.
+pub fn space_for<'f, R: AllocGlobal>(
+    rt: &R,
+    folders: &[&str],
+    count: u32,
+) -> Result<Arc<ScratchSpace>, FarserveFault<'f>>
+    requires { count ≤ 4 }
+{
+    let alloc = rt.alloc();
+    let Ok(space) = ScratchSpace::new(alloc, devices_in(folders, count) + 1) else {
+        return Err(FarserveFault::Memory);
+    };
+    match Arc::new(alloc, space) {
+        Ok(space) => Ok(space),
+        Err(_) => Err(FarserveFault::Memory),
+    }
+}
+
+/// What the devices of this space report to. `FarserveFault::Memory` is returned if an allocation fails.
+pub fn usage_over<'f>(space: &Arc<ScratchSpace>) -> Result<FarUsage, FarserveFault<'f>> {
+    match Arc::try_clone(space) {
+        Ok(space) => Ok(FarUsage::over(space)),
+        Err(_) => Err(FarserveFault::Memory),
+    }
+}
+
 /// Opens a device over scratch files in a folder, for the lane with this number.
 fn open<'a>(
     rt: HostRuntime,
@@ -34,13 +71,15 @@ fn open<'a>(
     lane: u32,
     most: u64,
     keys: RandomState,
+    space: &Arc<ScratchSpace>,
     usage: &'a FarUsage,
 ) -> Result<FarDevice<'a>, DiskFault> {
-    let disk = BoundedDisk::new(FileDisk::open(rt, folder, lane)?, most);
-    Ok(CountedDevice::new(FileDevice::new(rt.alloc(), disk, keys), rt, usage))
+    let disk = FileDisk::open_in(rt, folder, lane, Arc::try_clone(space)?)?;
+    let device = FileDevice::new(rt.alloc(), BoundedDisk::new(disk, most), keys);
+    Ok(CountedDevice::new(device, rt, usage))
 }
 
-/// Opens the devices over scratch files, in these folders in turn.
+/// Opens the devices over scratch files, in these folders in turn, with a space of `space_for`.
 ///
 /// There are `count` devices, or one for each folder if that is more. Together they keep at most `most`
 /// bytes, each an equal part. The last device of the list is one more, for renewals: it may keep `most` bytes
@@ -53,9 +92,12 @@ pub fn open_far<'a, 'b>(
     folders: &[&'a str],
     count: u32,
     most: u64,
+    space: &Arc<ScratchSpace>,
     usage: &'b FarUsage,
-) -> Result<Vec<FarDevice<'b>>, FarserveFault<'a>> {
-    let count = count.max(folders.len().min(64) as u32);
+) -> Result<Vec<FarDevice<'b>>, FarserveFault<'a>>
+    requires { count ≤ 4 }
+{
+    let count = devices_in(folders, count);
     let mut devices = Vec::new(rt.alloc());
     for lane in 0..=count {
         let Some(folder) = folders.get(lane as usize % folders.len().max(1)).copied() else {
@@ -69,7 +111,7 @@ pub fn open_far<'a, 'b>(
         } else {
             most
         };
-        match open(rt, folder, lane, share, keys_of(&rt)?, usage) {
+        match open(rt, folder, lane, share, keys_of(&rt)?, space, usage) {
             Ok(device) => {
                 if devices.push(device).is_err() {
                     return Err(FarserveFault::Memory);

@@ -26,7 +26,7 @@ mod stores;
 
 use anyhow::{Result, bail};
 use command_line::{CommandLine, Store, command};
-use devices::{DEVICES, open_far, open_none};
+use devices::{DEVICES, open_far, open_none, space_for, usage_over};
 use far_device::Device;
 use far_map::{MapFault, Settings};
 use far_server::{Bounds, FarUsage, ServerSettings, WorkerEnd, run_server};
@@ -329,9 +329,9 @@ where
     };
     let seed = drawn(&host)?;
     let settings = settings(asked, sizes, names, password, digest_keys, seed);
-    let usage = FarUsage::new();
     match tier {
         Tier::Nowhere => {
+            let usage = FarUsage::new();
             let devices = open_none(&host, &usage)?;
             tell(rt, asked, sizes)?;
             serve_over(rt, host, asked, settings, devices, &usage)
@@ -339,13 +339,16 @@ where
         Tier::Files => {
             let folders = asked.folders.as_slice();
             let count = devices_for(sizes);
-            let devices = open_far(host, folders, count, asked.far_limit, &usage)?;
+            let space = space_for(&host, folders, count)?;
+            let usage = usage_over(&space)?;
+            let devices = open_far(host, folders, count, asked.far_limit, &space, &usage)?;
             tell(rt, asked, sizes)?;
             serve_over(rt, host, asked, settings, devices, &usage)
         }
         Tier::Store => {
             // The gateway opens the other ends after it has read its arguments.
             tell(rt, asked, sizes)?;
+            let usage = FarUsage::new();
             let devices = open_stores(host, asked.pipes, devices_for(sizes) + 1, &usage)?;
             serve_over(rt, host, asked, settings, devices, &usage)
         }
