@@ -199,7 +199,7 @@ fn with_store<'a>(alloc: Global, command: Command<'a>) -> Result<Command<'a>, Er
     Ok(command)
 }
 
-/// Adds the options about clients and addresses, and two hidden ones, `--pipes` and `--names`.
+/// Adds the options about clients and addresses.
 fn with_addresses<'a>(alloc: Global, command: Command<'a>) -> Result<Command<'a>, Error> {
     let timeout = number(
         alloc,
@@ -221,30 +221,6 @@ fn with_addresses<'a>(alloc: Global, command: Command<'a>) -> Result<Command<'a>
         1,
         MOST_CLIENTS,
         "The most connections at once, 1 to 1000000; more are refused [10000]",
-    );
-    let slow = text(
-        alloc,
-        "slow",
-        "MICROSECONDS",
-        "From how long on SLOWLOG has a command, 0 for all commands, -1 for none [10000]",
-    );
-    let log_level = text(
-        alloc,
-        "log-level",
-        "NAME",
-        "Which lines standard error gets while it serves: warning, notice or debug [notice]",
-    );
-    let pipes = text(
-        alloc,
-        "pipes",
-        "DIR",
-        "The folder of the pipes to the gateway",
-    );
-    let names = text(
-        alloc,
-        "names",
-        "N",
-        "Changes and moves of a map before it is renewed, for trials",
     );
     let command = command
         .arg(number(
@@ -281,7 +257,37 @@ fn with_addresses<'a>(alloc: Global, command: Command<'a>) -> Result<Command<'a>
             1,
             256,
             "How many databases SELECT may pick, 1 to 256 [16]",
-        ))?
+        ))?;
+    Ok(command)
+}
+
+/// Adds the options about slow commands and the log, and two hidden ones, `--pipes` and `--names`.
+fn with_log<'a>(alloc: Global, command: Command<'a>) -> Result<Command<'a>, Error> {
+    let slow = text(
+        alloc,
+        "slow",
+        "MICROSECONDS",
+        "From how long on SLOWLOG has a command, 0 for all commands, -1 for none [10000]",
+    );
+    let log_level = text(
+        alloc,
+        "log-level",
+        "NAME",
+        "Which lines standard error gets while it serves: warning, notice or debug [notice]",
+    );
+    let pipes = text(
+        alloc,
+        "pipes",
+        "DIR",
+        "The folder of the pipes to the gateway",
+    );
+    let names = text(
+        alloc,
+        "names",
+        "N",
+        "Changes and moves of a map before it is renewed, for trials",
+    );
+    let command = command
         .arg(
             slow.allow_negative_numbers(true)
                 .value_parser(clap::value_parser!(i64).range(-1..=MOST_SLOW)),
@@ -299,7 +305,8 @@ pub fn command<'a>(alloc: Global) -> Result<Command<'a>, Error> {
     );
     let command = with_sizes(alloc, command)?;
     let command = with_store(alloc, command)?;
-    with_addresses(alloc, command)
+    let command = with_addresses(alloc, command)?;
+    with_log(alloc, command)
 }
 
 /// The size in bytes that is the text of an option. `FarserveFault::Size` is returned if the text is no size, or if

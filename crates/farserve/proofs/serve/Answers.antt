@@ -16,11 +16,11 @@ serve_over-requires-in-Files-send-D g c κs within = search (sendable, vecs.cros
 pub serve_over-requires-in-Store-send-D : goal.serve_over-requires-in-Store-send-D
 serve_over-requires-in-Store-send-D g c κs within = search (sendable, resting_send) depth 40 fits 100000
 
-pub returns-in-Nowhere : goal.returns-in-Nowhere
-returns-in-Nowhere g c = record { served = has_served c.serve_over.result c.args.asked.now c.settings-settings.result _ _ c.settings-settings.ensures (λ unless. refl) c.serve_over.ensures.served }
+pub returns-in_ok-tell-in-Nowhere : goal.returns-in_ok-tell-in-Nowhere
+returns-in_ok-tell-in-Nowhere g c = record { served = has_served c.serve_over.result c.args.asked.now c.settings-settings.result _ _ c.settings-settings.ensures (λ unless. refl) c.serve_over.ensures.served }
 
-pub returns-in-Files : goal.returns-in-Files
-returns-in-Files g c = record { served = has_served c.serve_over-in-Files.result c.args.asked.now c.settings-settings.result _ _ c.settings-settings.ensures (λ unless. unless) c.serve_over-in-Files.ensures.served }
+pub returns-in_ok-tell-in-Files : goal.returns-in_ok-tell-in-Files
+returns-in_ok-tell-in-Files g c = record { served = has_served c.serve_over-in-Files.result c.args.asked.now c.settings-settings.result _ _ c.settings-settings.ensures (λ unless. unless) c.serve_over-in-Files.ensures.served }
 
-pub returns : goal.returns
-returns g c = record { served = has_served c.serve_over-in-Store.result c.args.asked.now c.settings-settings.result _ _ c.settings-settings.ensures (λ unless. unless) c.serve_over-in-Store.ensures.served }
+pub returns-in_ok-devices-in-Store : goal.returns-in_ok-devices-in-Store
+returns-in_ok-devices-in-Store g c = record { served = has_served c.serve_over-in-Store.result c.args.asked.now c.settings-settings.result _ _ c.settings-settings.ensures (λ unless. unless) c.serve_over-in-Store.ensures.served }
