@@ -1,4 +1,4 @@
-"""Tries the first line of each edit, and that the table of docs/GUARANTEES.md has it: edits.py [--write].
+"""Tries the first line of each edit, that its old texts occur once, and that the table of docs/GUARANTEES.md has it: edits.py [--write].
 
 An edit, crates/NAME/must-fail/*.edit or crates/NAME/long-edits/*.edit, begins with a line that the prover's tools don't read:
 
@@ -42,6 +42,18 @@ def faults_of(line, names):
             yield f"a sentence of {len(sentence.split())} words"
 
 
+def misplaced(edit):
+    """What is wrong with an edit's old texts: each has to occur once in the file before it."""
+    source = ""
+    for line in edit.read_text().split("\n"):
+        word, _, rest = line.partition(": ")
+        if word == "file":
+            path = edit.parent.parent / rest
+            source = path.read_text() if path.is_file() else ""
+        elif word == "old" and source.count(rest) != 1:
+            yield f"its old text occurs {source.count(rest)} times: {rest.strip()}"
+
+
 def read():
     """The edits' first lines by crate, and what is wrong with them."""
     lines, wrong = defaultdict(dict), []
@@ -52,7 +64,7 @@ def read():
     for crate, edits in lines.items():
         names = declared(crate)
         for edit, line in edits.items():
-            wrong += [f"{edit.relative_to(ROOT)}: {it}" for it in faults_of(line, names)]
+            wrong += [f"{edit.relative_to(ROOT)}: {it}" for it in (*faults_of(line, names), *misplaced(edit))]
     return lines, wrong
 
 
