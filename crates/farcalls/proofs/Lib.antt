@@ -1,0 +1,13 @@
+mod Pushed
+mod Stepping
+mod Terms
+mod Handling
+mod Several
+mod Pairing
+mod Buckets
+mod Reading
+mod Visiting
+mod Collecting
+mod EachEnd
+mod Served
+mod Sent

@@ -1,0 +1,10 @@
+pub mod Sessions
+pub mod Requests
+pub mod Tokens
+pub mod Calls
+pub mod Replying
+pub mod Answers
+pub mod Services
+pub mod Left
+pub mod Serving
+pub mod Runs
