@@ -28,7 +28,7 @@ RUNS = {
     "docs": [], "transcripts": ["transcripts"], "arguments": ["fartable"], "threads": ["fartable"], "thread_starts": ["fartable"], "gateway": [],
     "starts": ["fartable", "farrun", "wordcount", "farserve"], "wordcount_frames": ["wordcount"], "folders": ["fartable", "farrun"],
     "allocation_failures": ["fartable", "transcripts"], "scratch": ["farrun"], "server": ["farserve"],
-    "fardump": ["farserve"], "cluster": ["farserve"], "stores": ["fartable", "farrun"],
+    "fardump": ["farserve"], "cluster": ["farserve"], "stores": ["fartable", "farrun"], "library": ["farcalls"],
 }
 # Those whose trials have bounds of time, as the 60 seconds that a run of random files has. The longest is first.
 QUIET = ["server", "gateway", "starts", "fardump", "cluster", "stores", "threads", "folders", "scratch"]
