@@ -6,6 +6,7 @@ import re
 import resource
 import signal
 import subprocess
+import threading
 import time
 from pathlib import Path
 
@@ -171,14 +172,19 @@ def a_pipe_that_nobody_reads(tried):
 
 def a_slow_reader_is_waited_for(tried):
     """What it takes is no time of the server's: the second value comes in time, though long after the first one."""
+    asked = threading.Event()
+
     def two_values(*_):
+        asked.set()
         yield b"*6\r\n:-1\r\n$66000\r\n" + b"x" * 66_000 + b"\r\n:-1\r\n"
         time.sleep(6.5)
         yield b":-1\r\n$6\r\nhidden\r\n:-1\r\n"
 
     keys = b"*2\r\n$1\r\n0\r\n*2\r\n$1\r\na\r\n$1\r\nb\r\n"
     with Fake(usual(SCAN=keys, EXEC=two_values)) as server:
-        process = started("--timeout", "1", *server, "-")
+        process = started("--timeout", "3", *server, "-")
+        # However long the start takes on a busy machine, the reader waits from the request on.
+        assert asked.wait(PATIENCE)
         time.sleep(6)
         data, said = process.communicate(timeout=PATIENCE)
         assert (process.returncode, said) == (0, b""), said
